@@ -1,0 +1,257 @@
+-- Laws of the calls. Assumes nothing.
+use mathlib.Core.Path.{_≡_, refl, sym, ap, ap₂, _∙_, subst}
+use mathlib.Core.Logic.{_≢_}
+use mathlib.Core.Bool.{Bool, true, false, not, cond, _&&_, _||_}
+use mathlib.Core.List.{List, [], _∷_, _++_}
+use mathlib.Core.Option.{Option, none, some, Option·getD}
+use Prim.Native.Nat.{ℕ, zero, suc, _+_, _-_, _≤_, _<_}
+use native.Mathlib.Omega.{arith}
+use lib.Dec.{leb}
+use lib.ListN.{length, take, drop, replicate, length-append, length-replicate}
+use lib.Seq.{sets, sets-eq}
+use borrow.Author.Tests.{le-leb, lt-leb}
+use Rattle.files.proofs.Tests.{by-test, never}
+use Rattle.files.specs.declared.FileSet.{FileSet}
+use Rattle.files.specs.Sets.{isFile}
+use Rattle.files.proofs.Bits.{least}
+use Rattle.rules.specs.declared.Standing.{Standing}
+use Rattle.rules.specs.declared.Program.{Program}
+use Rattle.rules.specs.declared.Board.{Board}
+use Rattle.rules.specs.declared.Refusal.{Refusal}
+use Rattle.rules.specs.declared.Check.{Check}
+use Rattle.rules.specs.declared.Answer.{Answer}
+use Rattle.rules.specs.declared.Word.{Word}
+use Rattle.rules.specs.declared.Line.{Line}
+use Rattle.rules.specs.declared.Reply.{Reply}
+use Rattle.rules.specs.declared.Verb.{Verb}
+use Rattle.rules.specs.declared.Asked.{Asked}
+use Rattle.rules.specs.Lists.{found, padded, names}
+use Rattle.rules.specs.Boards.{noProgram, isProgram, at, setProgram, closing, dropping}
+use Rattle.rules.specs.Orders.{carried, withGiven, inUse, safe}
+use Rattle.rules.specs.Soundness.{sound}
+use Rattle.rules.specs.Settling.{line, settle}
+use Rattle.rules.specs.Replies.{blank, reply, refuse}
+use Rattle.rules.specs.Checks.{unlessRunning, enterCheck, openCheck, closeCheck, leaveCheck}
+use Rattle.rules.specs.Calls.{openFile, done, countLeave, Call, callOf, callWith, checked, accepted, apply}
+use Rattle.theory.specs.Loose.{Loose, Good}
+use Rattle.theory.specs.Sound.{sound-iff, sound-good, good-sound}
+use Rattle.theory.specs.Calls.{apply-accepted, apply-refused}
+use Rattle.theory.specs.Ready.{Ready, entry-room, waiting-room, close-ready, drop-ready, leave-ready, leaves-room}
+use Rattle.search.specs.declared.Search.{Search}
+use Rattle.search.specs.declared.Order.{Order}
+use Rattle.search.specs.Rows.{asOrder}
+use Rattle.search.proofs.Laws.{drop-replicate}
+use Rattle.lines.proofs.Laws.{program-range}
+use Rattle.settling.specs.declared.Written.{Written}
+use Rattle.settling.specs.Writing.{after, Fits}
+use Rattle.apply.specs.Replies.{wrote, replied, DoneFits, numberIf, claimCheck, useCheck}
+
+-- ---- a call on a good board
+
+pub good-of : (b : Board) → length (b .programs) ≡ 32 → sound b ≡ true → Good b
+good-of b z e = sound-good b z (sound-iff b .0 e)
+
+module _ (b : Board) (c : Call) where
+  pub apply-passed : checked b c ≡ Check.Passed → accepted b c ≡ apply b c
+  apply-passed e = sym (apply-accepted b c e)
+
+  pub apply-failed : (r : Refusal) → checked b c ≡ Check.Failed r → refuse b r ≡ apply b c
+  apply-failed r e = sym (apply-refused b c r e)
+
+-- the call with the verb and the program that are asked for
+pub by-verb : (b : Board) (a : Asked) (v : Verb) (p : ℕ) → a .verb ≡ v → p ≡ a .program
+    → apply b (callWith v p (a .file) (a .writable) (a .readable)) ≡ apply b (callOf a)
+by-verb b a v p e k = ap₂ (λ x y. apply b (callWith x y (a .file) (a .writable) (a .readable))) (sym e) k
+
+-- ---- numbers in range
+
+pub number-above : (k n : ℕ) → k < n → 0 ≡ numberIf (leb 1 n && leb n k) n
+number-above k n h = by-test (leb 1 n) (λ e. rw (e, lt-leb n k h)) (λ e. rw e)
+
+pub number-within : (k n : ℕ) → 1 ≤ n → n ≤ k → n ≡ numberIf (leb 1 n && leb n k) n
+number-within k n l h = rw (le-leb 1 n l, le-leb n k h)
+
+number-none : (t : Bool) (m n : ℕ) → n ≡ numberIf t m → n ≡ 0 → (t ≡ true → 1 ≤ m) → t ≡ false
+number-none true m n e z h = let k = h refl in let w : n ≡ m = e in absurd (omega arith)
+number-none false m n e z h = refl
+
+pub program-none : (m n : ℕ) → n ≡ numberIf (isProgram m) m → n ≡ 0 → isProgram m ≡ false
+program-none m n e z = number-none (isProgram m) m n e z (λ t. program-range m t .0)
+
+pub file-none : (m n : ℕ) → n ≡ numberIf (isFile m) m → n ≡ 0 → isFile m ≡ false
+file-none m n e z = number-none (isFile m) m n e z (λ t. least 64 m t)
+
+pub number-same : (t : Bool) (m n : ℕ) → n ≡ numberIf t m → n ≢ 0 → n ≡ m
+number-same true m n e z = e
+number-same false m n e z = absurd (z e)
+
+no-program : (p f : ℕ) → isProgram p ≡ false → (isProgram p && isFile f) ≡ false
+no-program p f e = rw e
+
+no-file : (t : Bool) (f : ℕ) → isFile f ≡ false → (t && isFile f) ≡ false
+no-file true f e = e
+no-file false f e = refl
+
+module _ (b : Board) (p f : ℕ) where
+  pub enter-far : (v q : FileSet) → isProgram p ≡ false → enterCheck b p v q ≡ Check.Failed Refusal.OutOfRange
+  unfolding enterCheck
+  enter-far v q e = rw e
+
+  pub leave-far : isProgram p ≡ false → leaveCheck b p ≡ Check.Failed Refusal.OutOfRange
+  unfolding leaveCheck
+  leave-far e = rw e
+
+  pub open-far-program : isProgram p ≡ false → openCheck b p f ≡ Check.Failed Refusal.OutOfRange
+  unfolding openCheck
+  open-far-program e = rw (no-program p f e)
+
+  pub open-far-file : isFile f ≡ false → openCheck b p f ≡ Check.Failed Refusal.OutOfRange
+  unfolding openCheck
+  open-far-file e = rw (no-file (isProgram p) f e)
+
+  -- in range: the standing, then the other checks
+  pub open-near : isProgram p ≡ true → isFile f ≡ true → unlessRunning (at b p .standing) (claimCheck (at b p) f) ≡ openCheck b p f
+  unfolding openCheck
+  open-near e d = rw (e, d)
+
+  pub close-near : isProgram p ≡ true → isFile f ≡ true → unlessRunning (at b p .standing) (useCheck (at b p) f) ≡ closeCheck b p f
+  unfolding closeCheck
+  close-near e d = rw (e, d)
+
+  pub close-far-program : isProgram p ≡ false → closeCheck b p f ≡ Check.Failed Refusal.OutOfRange
+  unfolding closeCheck
+  close-far-program e = rw (no-program p f e)
+
+  pub close-far-file : isFile f ≡ false → closeCheck b p f ≡ Check.Failed Refusal.OutOfRange
+  unfolding closeCheck
+  close-far-file e = rw (no-file (isProgram p) f e)
+
+-- check 8 of any call: its program
+checked-far : (b : Board) (v : Verb) (p f : ℕ) (w r : FileSet) → isProgram p ≡ false → checked b (callWith v p f w r) ≡ Check.Failed Refusal.OutOfRange
+checked-far b Verb.Enter p f w r e = enter-far b p f w r e
+checked-far b Verb.Open p f w r e = open-far-program b p f e
+checked-far b Verb.Close p f w r e = close-far-program b p f e
+checked-far b Verb.Drop p f w r e = open-far-program b p f e
+checked-far b Verb.Leave p f w r e = leave-far b p f e
+
+pub apply-far : (b : Board) (a : Asked) → isProgram (a .program) ≡ false → refuse b Refusal.OutOfRange ≡ apply b (callOf a)
+apply-far b a e =
+    apply-failed b (callOf a) Refusal.OutOfRange (checked-far b (a .verb) (a .program) (a .file) (a .writable) (a .readable) e)
+
+-- ---- orders as the search gives them back
+
+abbrev countOf : Search → ℕ
+countOf (Search.Found n) = n
+countOf Search.Stuck = 0
+
+abbrev pub isFound : Search → Bool
+isFound (Search.Found n) = true
+isFound Search.Stuck = false
+
+pub order-none : (o : Option (List ℕ)) (r : Order) → r ≡ asOrder o → r .kind ≡ Search.Stuck → o ≡ none
+order-none none r e k = refl
+order-none (some l) r e k = never {t = true} refl (ap isFound (sym (ap (λ (x : Order). x .kind) e) ∙ k))
+
+pub order-count : (o : Option (List ℕ)) (r : Order) (n : ℕ) → r ≡ asOrder o → r .kind ≡ Search.Found n → length (Option·getD o []) ≡ n
+order-count none r n e k = never {t = true} refl (ap isFound (sym k ∙ ap (λ (x : Order). x .kind) e))
+order-count (some l) r n e k = ap countOf (sym (ap (λ (x : Order). x .kind) e) ∙ k)
+
+pub order-at : (o : Option (List ℕ)) (r : Order) (n : ℕ) → r ≡ asOrder o → r .kind ≡ Search.Found n → padded 0 (Option·getD o []) ≡ r .at
+order-at none r n e k = never {t = true} refl (ap isFound (sym k ∙ ap (λ (x : Order). x .kind) e))
+order-at (some l) r n e k = sym (ap (λ (x : Order). x .at) e)
+
+pub order-found : (o : Option (List ℕ)) (r : Order) (n : ℕ) → r ≡ asOrder o → r .kind ≡ Search.Found n → found o ≡ true
+order-found none r n e k = never {t = true} refl (ap isFound (sym k ∙ ap (λ (x : Order). x .kind) e))
+order-found (some l) r n e k = refl
+
+pub order-short : (o : Option (List ℕ)) (r : Order) (n : ℕ) → r ≡ asOrder o → r .kind ≡ Search.Found n → length (r .at) ≡ 32 → n ≤ 32
+unfolding padded
+order-short o r n e k h =
+    let l = Option·getD o [] in
+    let a : length (l ++ replicate (32 - length l) 0) ≡ 32 = ap length (order-at o r n e k) ∙ h in
+    let x = length-append l (replicate (32 - length l) 0) in
+    let y = length-replicate {A = ℕ} (32 - length l) 0 in
+    let z = order-count o r n e k in
+    omega (arith, a, x, y, z)
+
+-- ---- replies
+
+pub replied-stuck : (w : Written) (a : Answer) → carried (w .board) ≡ none
+    → _≡_ {A = Reply} (record { board = w .board; answer = a; lines = w .lines; count = w .count; order = replicate 32 0; placed = 0 }) (replied w a)
+unfolding padded
+replied-stuck w a e = rw e
+
+pub replied-found : (w : Written) (a : Answer) (at : List ℕ) (n : ℕ) → padded 0 (Option·getD (carried (w .board)) []) ≡ at → length (Option·getD (carried (w .board)) []) ≡ n
+    → _≡_ {A = Reply} (record { board = w .board; answer = a; lines = w .lines; count = w .count; order = at; placed = n }) (replied w a)
+replied-found w a at n e k = rw (e, k)
+
+pub wrote-reply : (b : Board) (a : Answer) (l : Line) → replied (wrote b (l ∷ [])) a ≡ reply b a (l ∷ [])
+unfolding reply
+wrote-reply b a l = refl
+
+pub wrote-none : (b : Board) (r : Refusal) → replied (wrote b []) (Answer.Refuse r) ≡ refuse b r
+unfolding refuse reply
+wrote-none b r = refl
+
+sets-one : (z l : Line) (ls : List Line) → suc (length ls) ≤ 32 → sets (padded z (l ∷ [])) 1 ls ≡ padded z (l ∷ ls)
+unfolding padded
+sets-one z l ls h =
+    let e : 1 + length ls ≡ suc (length ls) = omega arith in
+    let d : 31 - length ls ≡ 32 - suc (length ls) = omega arith in
+    sets-eq ls (l ∷ replicate 31 z) 1 (omega (arith, h, length-replicate 31 z))
+    ∙ rw (e, drop-replicate z (length ls) 31, d) refl
+
+pub done-ready : (w : Written) (b : Board) (l : Line) → w ≡ wrote b (l ∷ []) → Loose b → DoneFits b → Loose (w .board) × Fits w (settle (w .board))
+done-ready w b l e k h = subst (λ (x : Written). Loose (x .board) × Fits x (settle (x .board))) (sym e) (k, omega (arith, h))
+
+pub done-is : (w s : Written) (b : Board) (p f : ℕ) → w ≡ wrote b (line Word.Done p f ∷ []) → s ≡ after w (settle (w .board)) → DoneFits b → replied s Answer.Done ≡ done b p f
+unfolding done reply
+done-is w s b p f e k h =
+    let n : 1 + length (settle b .lines) ≡ suc (length (settle b .lines)) = omega arith in
+    ap (λ (x : Written). replied x Answer.Done) (k ∙ ap (λ (x : Written). after x (settle (x .board))) e)
+    ∙ rw (sets-one blank (line Word.Done p f) (settle b .lines) h, n) refl
+
+-- ---- what a good board has room for, from the theory
+
+sound-of : (b : Board) → Good b → sound b ≡ true
+sound-of b g = sound-iff b .1 (good-sound b g)
+
+pub entry-free : (b : Board) (p : ℕ) (v q : FileSet) → Good b → enterCheck b p v q ≡ Check.Passed → (b .entry ≡ padded 0 (names (b .entry))) × (length (names (b .entry)) < 32)
+entry-free b p v q g e = (g .loose .helds .form, entry-room b (g .loose .base .size) (sound-of b g) p v q e)
+
+pub waiting-free : (b : Board) (p f : ℕ) → Good b → openCheck b p f ≡ Check.Passed → (b .waiting ≡ padded 0 (names (b .waiting))) × (length (names (b .waiting)) < 32)
+waiting-free b p f g e = (g .loose .waits .form, waiting-room b (g .loose .base .size) (sound-of b g) p f e)
+
+settles : (b c : Board) → b ≡ c → Ready c → Loose b × DoneFits b
+settles b c k r = subst (λ (x : Board). Loose x × DoneFits x) (sym k) (r .loose, r .room)
+
+pub close-settles : (b c : Board) (p f : ℕ) → c ≡ setProgram b p (closing (at b p) f) → Good b → closeCheck b p f ≡ Check.Passed → Loose c × DoneFits c
+close-settles b c p f k g e = settles c (setProgram b p (closing (at b p) f)) k (close-ready b (g .loose .base .size) (sound-of b g) p f e)
+
+pub drop-settles : (b c : Board) (p f : ℕ) → c ≡ setProgram b p (dropping (at b p) f) → Good b → openCheck b p f ≡ Check.Passed → Loose c × DoneFits c
+drop-settles b c p f k g e = settles c (setProgram b p (dropping (at b p) f)) k (drop-ready b (g .loose .base .size) (sound-of b g) p f e)
+
+pub leave-settles : (b c : Board) (p : ℕ) → c ≡ countLeave (setProgram b p noProgram) → Good b → leaveCheck b p ≡ Check.Passed → Loose c × DoneFits c
+leave-settles b c p k g e = settles c (countLeave (setProgram b p noProgram)) k (leave-ready b (g .loose .base .size) (sound-of b g) p e)
+
+pub leaves-few : (b : Board) → Good b → b .leaves ≤ 32
+leaves-few b g = leaves-room b (g .loose .base .size) (sound-of b g)
+
+-- ---- whether an order comes back with the file given
+
+pub not-safe : (b g : Board) (p f : ℕ) (r : Order) → g ≡ withGiven b p f → r ≡ asOrder (carried g) → r .kind ≡ Search.Stuck → safe b p f ≡ false
+unfolding safe
+not-safe b g p f r e o k = ap (λ (x : Board). found (carried x)) (sym e) ∙ ap found (order-none (carried g) r o k)
+
+pub is-safe : (b g : Board) (p f : ℕ) (r : Order) (n : ℕ) → g ≡ withGiven b p f → r ≡ asOrder (carried g) → r .kind ≡ Search.Found n → safe b p f ≡ true
+unfolding safe
+is-safe b g p f r n e o k = ap (λ (x : Board). found (carried x)) (sym e) ∙ order-found (carried g) r n o k
+
+pub given-is : (b g : Board) (p f : ℕ) (r : Order) (n : ℕ) (w : Written) → inUse b p f ≡ false → g ≡ withGiven b p f → r ≡ asOrder (carried g) → r .kind ≡ Search.Found n
+    → w ≡ wrote g (line Word.Given p f ∷ [])
+    → _≡_ {A = Reply} (record { board = g; answer = Answer.Given; lines = w .lines; count = 1; order = r .at; placed = n }) (openFile b p f)
+unfolding openFile
+given-is b g p f r n w u e o k q =
+    rw (u, is-safe b g p f r n e o k, q)
+    (replied-found (wrote g (line Word.Given p f ∷ [])) Answer.Given (r .at) n (order-at (carried g) r n o k) (order-count (carried g) r n o k)
+    ∙ wrote-reply g Answer.Given (line Word.Given p f) ∙ ap (λ (x : Board). reply x Answer.Given (line Word.Given p f ∷ [])) e)

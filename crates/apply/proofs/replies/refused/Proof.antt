@@ -1,0 +1,15 @@
+-- `refused` meets its contract. Assumes nothing.
+use mathlib.Core.Path.{ap, _∙_}
+use Rattle.rules.specs.declared.Answer.{Answer}
+use Rattle.settling.specs.declared.Written.{Written}
+use Rattle.apply.specs.Replies.{replied}
+use Rattle.apply.proofs.Laws.{wrote-none}
+use borrow.Author.Needs.{needs}
+use Rattle.apply.proofs.replies.refused.Statement.{statement}
+use Rattle.apply.proofs.replies.refused.Tie as tie
+
+returns : tie.Need-returns
+returns c = let a = c .before .before .args in c .reply-with .ensures ∙ ap (λ (w : Written). replied w (Answer.Refuse (a .refusal))) (c .before .no-line .ensures) ∙ wrote-none (a .b) (a .refusal)
+
+pub refused-spec : {M : Type 1} → statement M
+refused-spec = tie.close (tie.spec (λ c κs. search needs) (λ c κs. search needs) returns)

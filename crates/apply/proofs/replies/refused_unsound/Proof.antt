@@ -1,0 +1,13 @@
+-- `refused_unsound` meets its contract. Assumes nothing.
+use mathlib.Core.Path.{refl}
+use Rattle.rules.specs.Lists.{padded}
+use Rattle.rules.specs.Replies.{refuseUnsound}
+use Rattle.apply.proofs.replies.refused_unsound.Statement.{statement}
+use Rattle.apply.proofs.replies.refused_unsound.Tie as tie
+
+returns : tie.Need-returns
+unfolding refuseUnsound padded
+returns c = refl
+
+pub refused-unsound-spec : {M : Type 1} → statement M
+refused-unsound-spec = tie.close (tie.spec returns)

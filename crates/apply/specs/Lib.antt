@@ -1,0 +1,2 @@
+-- The definitions that the contracts of apply cite.
+pub mod Replies

@@ -1,0 +1,54 @@
+-- A board with the lines written so far, and the reply made of it; parts of the checks.
+-- Assumes nothing.
+use Prim.Native.Nat.{ℕ, _≤_, suc}
+use mathlib.Core.Path.{_≡_}
+use mathlib.Core.Bool.{Bool, not, cond}
+use mathlib.Core.List.{List, [], _∷_}
+use mathlib.Core.Option.{Option, Option·getD}
+use lib.ListN.{length}
+use Rattle.rules.specs.declared.Program.{Program}
+use Rattle.rules.specs.declared.Board.{Board}
+use Rattle.rules.specs.declared.Refusal.{Refusal}
+use Rattle.rules.specs.declared.Check.{Check}
+use Rattle.rules.specs.declared.Answer.{Answer}
+use Rattle.rules.specs.declared.Line.{Line}
+use Rattle.rules.specs.declared.Reply.{Reply}
+use Rattle.rules.specs.Lists.{padded}
+use Rattle.rules.specs.Boards.{claims, hasOpen}
+use Rattle.rules.specs.Checks.{refuseIf}
+use Rattle.rules.specs.Orders.{carried}
+use Rattle.rules.specs.Settling.{settle}
+use Rattle.rules.specs.Replies.{blank}
+use Rattle.settling.specs.declared.Written.{Written}
+
+-- these lines are written
+abbrev pub wrote : Board → List Line → Written
+wrote b ls = record { board = b; lines = padded blank ls; count = length ls }
+
+-- the reply with what was written, and with the order of its board
+abbrev pub replied : Written → Answer → Reply
+replied w a =
+    record {
+      board = w .board;
+      answer = a;
+      lines = w .lines;
+      count = w .count;
+      order = padded 0 (Option·getD (carried (w .board)) []);
+      placed = length (Option·getD (carried (w .board)) []);
+    }
+
+-- DONE and the lines of settling fit
+abbrev pub DoneFits : Board → Type 0
+DoneFits b = suc (length (settle b .lines)) ≤ 32
+
+-- the number if the test passes, and 0 otherwise
+abbrev pub numberIf : Bool → ℕ → ℕ
+numberIf t n = cond t n 0
+
+-- checks 14 and 15, of open and drop
+abbrev pub claimCheck : Program → ℕ → Check
+claimCheck q f = refuseIf (not (claims q f)) Refusal.NotClaimed (refuseIf (hasOpen q f) Refusal.IsOpen Check.Passed)
+
+-- check 16, of close
+abbrev pub useCheck : Program → ℕ → Check
+useCheck q f = refuseIf (not (hasOpen q f)) Refusal.NotOpen Check.Passed

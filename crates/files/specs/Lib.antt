@@ -1,0 +1,3 @@
+-- The definitions that the contracts of files cite.
+pub mod Bits
+pub mod Sets

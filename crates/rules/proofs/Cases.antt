@@ -1,0 +1,407 @@
+-- The cases (a) to (j) of 01, and more, as one table with one theorem over it: each case is computed from the definitions.
+-- Assumes nothing.
+use Prim.Native.Nat.{ℕ}
+use mathlib.Core.Path.{_≡_, refl, sym, ap, _∙_}
+use mathlib.Core.List.{List, [], _∷_, map}
+use mathlib.Core.Option.{Option·getD}
+use lib.ListN.{getD, List·getD-map}
+use Rattle.files.specs.declared.FileSet.{FileSet}
+use Rattle.files.specs.Sets.{noFiles, adding}
+use Rattle.rules.specs.declared.Board.{Board}
+use Rattle.rules.specs.declared.Refusal.{Refusal}
+use Rattle.rules.specs.declared.Answer.{Answer}
+use Rattle.rules.specs.declared.Word.{Word}
+use Rattle.rules.specs.declared.Line.{Line}
+use Rattle.rules.specs.declared.Reply.{Reply}
+use Rattle.rules.specs.Lists.{any, all, keep, first, padded, rising, listed, distinct, without, same, names}
+use Rattle.rules.specs.Boards.{emptyBoard, everyone, admitted, opening, closing, dropping}
+use Rattle.rules.specs.Orders.{heldBack, carriedFrom, carried, withGiven, inUse, safe, canGive}
+use Rattle.rules.specs.Soundness.{setsSound, standingSound, programSound, noConflict, lineSound, waiterSound, noneFavoured, someFavoured, sound}
+use Rattle.rules.specs.Settling.{line, unfavour, resume, tryGive, pass, candidate, favour, runHeld, choose, settle}
+use Rattle.rules.specs.Replies.{reply, refuse, refuseUnsound, wordOf, linesOf, orderOf}
+use Rattle.rules.specs.Checks.{enterCheck, openCheck, closeCheck, leaveCheck}
+use Rattle.rules.specs.Calls.{enter, wait, openFile, done, closeFile, dropFile, countLeave, leave, apply, direct}
+use Rattle.rules.specs.Calls.{Call, Enter, Open, Close, Drop, Leave}
+
+-- ---- what a list of direct calls, from the empty board, comes to
+
+-- a call, its answer, and all its lines
+record Told : Type 0 where
+  call : Call
+  answer : Answer
+  lines : List Line
+
+-- the calls of a list with their answers and lines; after the last, the order, and the board's favoured program, number and leaves
+record Case : Type 0 where
+  told : List Told
+  order : List ℕ
+  favoured : List ℕ
+
+-- the replies of direct calls, each handed the board that the one before it gave back, with the calls that they answer
+toldFrom : Board → List ℕ → List Call → Case
+unfolding any all keep first padded rising listed distinct without same names
+    everyone admitted opening closing dropping
+    heldBack carriedFrom carried withGiven inUse safe canGive
+    setsSound standingSound programSound noConflict lineSound waiterSound noneFavoured someFavoured sound
+    unfavour resume tryGive pass candidate favour runHeld choose settle
+    reply refuse refuseUnsound enterCheck openCheck closeCheck leaveCheck
+    enter wait openFile done closeFile dropFile countLeave leave apply direct
+toldFrom b o [] = record { told = []; order = o; favoured = b .favoured ∷ b .initial ∷ b .leaves ∷ [] }
+toldFrom b o (c ∷ cs) =
+    let r = direct b c in
+    let k = toldFrom (r .board) (orderOf r) cs in
+    record { told = record { call = c; answer = r .answer; lines = linesOf r } ∷ k .told; order = k .order; favoured = k .favoured }
+
+outcome : List Call → Case
+unfolding toldFrom carried carriedFrom admitted keep everyone rising
+outcome cs = toldFrom emptyBoard (Option·getD (carried emptyBoard) []) cs
+
+-- ---- words for the table
+
+-- the set of these files
+set : List ℕ → FileSet
+set [] = noFiles
+set (f ∷ fs) = adding (set fs) f
+
+-- the program and the file that an answer's line names
+programOf : Call → ℕ
+programOf (Enter p v q) = p
+programOf (Open p f) = p
+programOf (Close p f) = p
+programOf (Drop p f) = p
+programOf (Leave p) = p
+
+fileOf : Call → ℕ
+fileOf (Enter p v q) = 0
+fileOf (Open p f) = f
+fileOf (Close p f) = f
+fileOf (Drop p f) = f
+fileOf (Leave p) = 0
+
+-- the call c is answered with a: the answer's line, then these lines of settling
+yes : Call → Answer → List Line → Told
+unfolding programOf fileOf
+yes c a ls = record { call = c; answer = a; lines = line (wordOf a) (programOf c) (fileOf c) ∷ ls }
+
+-- the call c is refused, and has no lines
+no : Call → Refusal → Told
+no c r = record { call = c; answer = Answer.Refuse r; lines = [] }
+
+-- p enters with these files in V, or in Q, and is admitted
+writer : ℕ → List ℕ → Told
+unfolding yes set
+writer p v = yes (Enter p (set v) noFiles) Answer.Admit []
+
+reader : ℕ → List ℕ → Told
+unfolding yes set
+reader p q = yes (Enter p noFiles (set q)) Answer.Admit []
+
+-- p is given f
+gets : ℕ → ℕ → Told
+unfolding yes
+gets p f = yes (Open p f) Answer.Given []
+
+-- nobody is favoured
+nobody : List ℕ
+nobody = 0 ∷ 0 ∷ 0 ∷ []
+
+-- ---- the table
+
+-- (a) empty board, empty order
+a : Case
+unfolding nobody
+a = record { told = []; order = []; favoured = nobody }
+
+-- (b) one program opening all it claims
+b : Case
+unfolding nobody yes set gets
+b =
+    record {
+      told = yes (Enter 1 (set (1 ∷ 2 ∷ [])) (set (3 ∷ []))) Answer.Admit [] ∷ gets 1 1 ∷ gets 1 2 ∷ gets 1 3 ∷ [];
+      order = 1 ∷ [];
+      favoured = nobody;
+    }
+
+-- (c) V {1,2,3} with W {2} against V {2,3,4}: giving 3 to the second leaves no order
+c : Case
+unfolding nobody yes writer gets
+c =
+    record {
+      told = writer 1 (1 ∷ 2 ∷ 3 ∷ []) ∷ writer 2 (2 ∷ 3 ∷ 4 ∷ []) ∷ gets 1 2 ∷ yes (Open 2 3) Answer.Unsafe [] ∷ [];
+      order = 1 ∷ 2 ∷ [];
+      favoured = nobody;
+    }
+
+-- (d) the same, giving 4: order 1 2
+d : Case
+unfolding nobody writer gets
+d =
+    record {
+      told = writer 1 (1 ∷ 2 ∷ 3 ∷ []) ∷ writer 2 (2 ∷ 3 ∷ 4 ∷ []) ∷ gets 1 2 ∷ gets 2 4 ∷ [];
+      order = 1 ∷ 2 ∷ [];
+      favoured = nobody;
+    }
+
+-- (e) two readers of one file: given
+e : Case
+unfolding nobody reader gets
+e = record { told = reader 1 (5 ∷ []) ∷ reader 2 (5 ∷ []) ∷ gets 1 5 ∷ gets 2 5 ∷ []; order = 1 ∷ 2 ∷ []; favoured = nobody }
+
+-- (f) reader, then writer: WAIT
+f : Case
+unfolding nobody yes writer reader gets
+f =
+    record {
+      told = reader 1 (64 ∷ []) ∷ writer 2 (64 ∷ []) ∷ gets 1 64 ∷ yes (Open 2 64) Answer.Wait [] ∷ [];
+      order = 1 ∷ 2 ∷ [];
+      favoured = nobody;
+    }
+
+-- (g) overlap, 10; the program stays absent, 11
+g : Case
+unfolding nobody no set
+g =
+    record {
+      told = no (Enter 1 (set (1 ∷ 2 ∷ [])) (set (2 ∷ 3 ∷ []))) Refusal.ClaimsMeet ∷ no (Open 1 2) Refusal.IsAbsent ∷ [];
+      order = [];
+      favoured = nobody;
+    }
+
+-- (h) drop of an open file, 15
+h : Case
+unfolding nobody no writer gets
+h = record { told = writer 1 (1 ∷ []) ∷ gets 1 1 ∷ no (Drop 1 1) Refusal.IsOpen ∷ []; order = 1 ∷ []; favoured = nobody }
+
+-- (i) close of an unclaimed file, 16
+i : Case
+unfolding nobody no writer
+i = record { told = writer 1 (1 ∷ []) ∷ no (Close 1 2) Refusal.NotOpen ∷ []; order = 1 ∷ []; favoured = nobody }
+
+-- (j) the session
+j : Case
+unfolding nobody yes set writer gets
+j =
+    record {
+      told =
+          writer 1 (1 ∷ 2 ∷ 3 ∷ [])
+          ∷ writer 2 (1 ∷ 2 ∷ [])
+          ∷ gets 1 1
+          ∷ gets 1 3
+          ∷ yes (Open 2 2) Answer.Unsafe []
+          ∷ yes (Close 1 3) Answer.Done (line Word.Favour 2 2 ∷ [])
+          ∷ yes (Enter 3 noFiles (set (2 ∷ []))) Answer.Held []
+          ∷ yes (Leave 1) Answer.Done (line Word.Given 2 2 ∷ line Word.Admit 3 0 ∷ [])
+          ∷ [];
+      order = 2 ∷ 3 ∷ [];
+      favoured = nobody;
+    }
+
+-- (k) settling gives to the oldest waiter first: 3 waits before 2, and both for file 1
+k : Case
+unfolding nobody yes writer gets
+k =
+    record {
+      told =
+          writer 1 (1 ∷ [])
+          ∷ writer 2 (1 ∷ [])
+          ∷ writer 3 (1 ∷ [])
+          ∷ gets 1 1
+          ∷ yes (Open 3 1) Answer.Wait []
+          ∷ yes (Open 2 1) Answer.Wait []
+          ∷ yes (Close 1 1) Answer.Done (line Word.Given 3 1 ∷ [])
+          ∷ [];
+      order = 3 ∷ 1 ∷ 2 ∷ [];
+      favoured = nobody;
+    }
+
+-- (l) the leave of 1 gives 2 its file and favours 4: the held program 3 stays held, 12
+l : Case
+unfolding yes no set writer gets
+l =
+    record {
+      told =
+          writer 1 (1 ∷ 2 ∷ 3 ∷ 5 ∷ [])
+          ∷ writer 2 (1 ∷ 2 ∷ 3 ∷ [])
+          ∷ writer 4 (1 ∷ 2 ∷ 3 ∷ [])
+          ∷ gets 1 1
+          ∷ gets 1 5
+          ∷ yes (Open 2 2) Answer.Unsafe []
+          ∷ yes (Open 4 3) Answer.Unsafe []
+          ∷ yes (Close 1 5) Answer.Done (line Word.Favour 2 2 ∷ [])
+          ∷ yes (Enter 3 noFiles (set (9 ∷ []))) Answer.Held []
+          ∷ yes (Leave 1) Answer.Done (line Word.Given 2 2 ∷ line Word.Favour 4 3 ∷ [])
+          ∷ no (Open 3 9) Refusal.IsHeld
+          ∷ [];
+      order = 2 ∷ 4 ∷ [];
+      favoured = 4 ∷ 2 ∷ 0 ∷ [];
+    }
+
+-- (m) a leave while 2 is favoured is counted: 3 were admitted, 1 has left; and the board stays sound
+m : Case
+unfolding yes set writer reader gets
+m =
+    record {
+      told =
+          writer 1 (1 ∷ 2 ∷ 3 ∷ [])
+          ∷ writer 2 (1 ∷ 2 ∷ [])
+          ∷ reader 3 (9 ∷ [])
+          ∷ gets 1 1
+          ∷ gets 1 3
+          ∷ yes (Open 2 2) Answer.Unsafe []
+          ∷ yes (Close 1 3) Answer.Done (line Word.Favour 2 2 ∷ [])
+          ∷ yes (Leave 3) Answer.Done []
+          ∷ yes (Enter 3 noFiles (set (9 ∷ []))) Answer.Held []
+          ∷ [];
+      order = 1 ∷ 2 ∷ [];
+      favoured = 2 ∷ 3 ∷ 1 ∷ [];
+    }
+
+-- (n) a leave that leads to favouring is not counted: 2 are admitted after it
+n : Case
+unfolding yes writer reader gets
+n =
+    record {
+      told =
+          writer 1 (1 ∷ 2 ∷ 3 ∷ [])
+          ∷ writer 2 (1 ∷ 2 ∷ [])
+          ∷ reader 3 (9 ∷ [])
+          ∷ gets 1 1
+          ∷ yes (Open 2 2) Answer.Unsafe []
+          ∷ yes (Leave 3) Answer.Done (line Word.Favour 2 2 ∷ [])
+          ∷ [];
+      order = 1 ∷ 2 ∷ [];
+      favoured = 2 ∷ 2 ∷ 0 ∷ [];
+    }
+
+-- (o) a file dropped from Q is claimed no longer, 14, and nobody is held back for it
+o : Case
+unfolding nobody yes no writer reader gets
+o =
+    record {
+      told =
+          reader 1 (1 ∷ [])
+          ∷ writer 2 (1 ∷ 2 ∷ [])
+          ∷ gets 2 1
+          ∷ yes (Drop 1 1) Answer.Done []
+          ∷ no (Open 1 1) Refusal.NotClaimed
+          ∷ [];
+      order = 1 ∷ 2 ∷ [];
+      favoured = nobody;
+    }
+
+-- (p) each holds back the next, and no two hold back each other: with 3 given to the third there is no order
+p : Case
+unfolding nobody yes writer gets
+p =
+    record {
+      told =
+          writer 1 (1 ∷ 2 ∷ [])
+          ∷ writer 2 (2 ∷ 3 ∷ [])
+          ∷ writer 3 (3 ∷ 1 ∷ [])
+          ∷ gets 1 1
+          ∷ gets 2 2
+          ∷ yes (Open 3 3) Answer.Unsafe []
+          ∷ [];
+      order = 2 ∷ 1 ∷ 3 ∷ [];
+      favoured = nobody;
+    }
+
+-- (q) numbers out of range come first, 8: programs 0 and 33, files 0 and 65
+q : Case
+unfolding nobody no set writer
+q =
+    record {
+      told =
+          writer 1 (1 ∷ [])
+          ∷ no (Enter 0 (set (1 ∷ [])) (set (1 ∷ []))) Refusal.OutOfRange
+          ∷ no (Enter 33 noFiles noFiles) Refusal.OutOfRange
+          ∷ no (Open 0 1) Refusal.OutOfRange
+          ∷ no (Open 1 0) Refusal.OutOfRange
+          ∷ no (Close 1 65) Refusal.OutOfRange
+          ∷ no (Drop 33 1) Refusal.OutOfRange
+          ∷ no (Leave 0) Refusal.OutOfRange
+          ∷ [];
+      order = 1 ∷ [];
+      favoured = nobody;
+    }
+
+-- (r) checks 9 and 13: entered twice; a waiter that asks again
+r : Case
+unfolding nobody yes no set writer gets
+r =
+    record {
+      told =
+          writer 1 (1 ∷ [])
+          ∷ writer 2 (1 ∷ [])
+          ∷ no (Enter 1 (set (1 ∷ [])) (set (1 ∷ []))) Refusal.NotAbsent
+          ∷ gets 1 1
+          ∷ yes (Open 2 1) Answer.Wait []
+          ∷ no (Open 2 2) Refusal.IsWaiting
+          ∷ [];
+      order = 1 ∷ 2 ∷ [];
+      favoured = nobody;
+    }
+
+-- (s) one settling gives to every waiter that an open would now give to: two readers behind a writer
+s : Case
+unfolding nobody yes writer reader gets
+s =
+    record {
+      told =
+          writer 1 (1 ∷ [])
+          ∷ reader 2 (1 ∷ [])
+          ∷ reader 3 (1 ∷ [])
+          ∷ gets 1 1
+          ∷ yes (Open 2 1) Answer.Wait []
+          ∷ yes (Open 3 1) Answer.Wait []
+          ∷ yes (Close 1 1) Answer.Done (line Word.Given 2 1 ∷ line Word.Given 3 1 ∷ [])
+          ∷ [];
+      order = 2 ∷ 3 ∷ 1 ∷ [];
+      favoured = nobody;
+    }
+
+-- (t) settling comes after every release: the drop, the close and the leave of 1 each give a waiter its file
+t : Case
+unfolding nobody yes writer gets
+t =
+    record {
+      told =
+          writer 1 (1 ∷ 2 ∷ 3 ∷ [])
+          ∷ writer 2 (1 ∷ 2 ∷ [])
+          ∷ writer 4 (3 ∷ [])
+          ∷ gets 1 1
+          ∷ gets 1 3
+          ∷ yes (Open 2 2) Answer.Unsafe []
+          ∷ yes (Drop 1 2) Answer.Done (line Word.Given 2 2 ∷ [])
+          ∷ yes (Open 2 1) Answer.Wait []
+          ∷ yes (Close 1 1) Answer.Done (line Word.Given 2 1 ∷ [])
+          ∷ yes (Open 4 3) Answer.Wait []
+          ∷ yes (Leave 1) Answer.Done (line Word.Given 4 3 ∷ [])
+          ∷ [];
+      order = 2 ∷ 4 ∷ [];
+      favoured = nobody;
+    }
+
+table : List Case
+unfolding a b c d e f g h i j k l m n o p q r s t
+table = a ∷ b ∷ c ∷ d ∷ e ∷ f ∷ g ∷ h ∷ i ∷ j ∷ k ∷ l ∷ m ∷ n ∷ o ∷ p ∷ q ∷ r ∷ s ∷ t ∷ []
+
+-- the calls of a case
+calls : Case → List Call
+calls k = map (λ (x : Told). x .call) (k .told)
+
+-- the table is what its calls come to
+computed : map (λ (k : Case). outcome (calls k)) table ≡ table
+unfolding outcome table calls
+computed = refl
+
+a-holds : outcome (calls a) ≡ a
+unfolding outcome a calls
+a-holds = refl
+
+-- each case of the table is what its calls come to (past the end of the table stands case a)
+table-holds : (i : ℕ) → outcome (calls (getD table i a)) ≡ getD table i a
+table-holds i =
+    sym (List·getD-map (λ (k : Case). outcome (calls k)) table i a)
+    ∙ ap (λ (l : List Case). getD l i (outcome (calls a))) computed
+    ∙ ap (getD table i) a-holds

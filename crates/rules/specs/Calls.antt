@@ -1,0 +1,120 @@
+-- The five calls: what each does once its checks have passed, and the direct call with its checks.
+-- Assumes nothing.
+use Prim.Native.Nat.{ℕ, _+_}
+use mathlib.Core.Bool.{cond}
+use mathlib.Core.List.{[], _∷_, _++_}
+use lib.Dec.{eqb}
+use Rattle.files.specs.declared.FileSet.{FileSet}
+use Rattle.files.specs.Sets.{noFiles}
+use Rattle.rules.specs.declared.Standing.{Standing}
+use Rattle.rules.specs.declared.Program.{Program}
+use Rattle.rules.specs.declared.Board.{Board}
+use Rattle.rules.specs.declared.Verb.{Verb}
+use Rattle.rules.specs.declared.Asked.{Asked}
+use Rattle.rules.specs.declared.Check.{Check}
+use Rattle.rules.specs.declared.Answer.{Answer}
+use Rattle.rules.specs.declared.Word.{Word}
+use Rattle.rules.specs.declared.Reply.{Reply}
+use Rattle.rules.specs.Lists.{names}
+use Rattle.rules.specs.Boards.{noProgram, at, setProgram, setWaiting, setEntry, setFavour, setStanding, closing, dropping}
+use Rattle.rules.specs.Orders.{withGiven, inUse, safe}
+use Rattle.rules.specs.Soundness.{sound}
+use Rattle.rules.specs.Settling.{line, settle}
+use Rattle.rules.specs.Replies.{reply, refuse, refuseUnsound}
+use Rattle.rules.specs.Checks.{enterCheck, openCheck, closeCheck, leaveCheck}
+
+-- ---- what an accepted call does
+
+-- a program that enters, with nothing open
+abbrev pub newcomer : FileSet → FileSet → Standing → Program
+newcomer v q s = record { writable = v; readable = q; writing = noFiles; reading = noFiles; standing = s }
+
+-- Enter: "with somebody favoured, p is held at the end of the entry line (HELD); otherwise running (ADMIT)"
+unfoldable pub enter : Board → ℕ → FileSet → FileSet → Reply
+enter b p v q =
+    cond (eqb (b .favoured) 0)
+    (reply (setProgram b p (newcomer v q Standing.Running)) Answer.Admit (line Word.Admit p 0 ∷ []))
+    (reply (setEntry (setProgram b p (newcomer v q Standing.Held)) (names (b .entry) ++ (p ∷ []))) Answer.Held
+    (line Word.Held p 0 ∷ []))
+
+-- p waits for f: "A waiter joins the end of the waiting line."
+unfoldable pub wait : Board → ℕ → ℕ → Board
+wait b p f = setWaiting (setProgram b p (setStanding (at b p) (Standing.Waiting f))) (names (b .waiting) ++ (p ∷ []))
+
+-- Open: WAIT if another program has f in conflicting use, UNSAFE if no order comes back with f given, otherwise GIVEN
+unfoldable pub openFile : Board → ℕ → ℕ → Reply
+openFile b p f =
+    cond (inUse b p f) (reply (wait b p f) Answer.Wait (line Word.Wait p f ∷ []))
+    (cond (safe b p f) (reply (withGiven b p f) Answer.Given (line Word.Given p f ∷ []))
+    (reply (wait b p f) Answer.Unsafe (line Word.Unsafe p f ∷ [])))
+
+-- DONE, then settle
+unfoldable pub done : Board → ℕ → ℕ → Reply
+done b p f = let s = settle b in reply (s .board) Answer.Done (line Word.Done p f ∷ s .lines)
+
+-- Close: f is open no longer
+unfoldable pub closeFile : Board → ℕ → ℕ → Reply
+closeFile b p f = done (setProgram b p (closing (at b p) f)) p f
+
+-- Drop: f leaves p's claim
+unfoldable pub dropFile : Board → ℕ → ℕ → Reply
+dropFile b p f = done (setProgram b p (dropping (at b p) f)) p f
+
+-- "the leave is counted if somebody was favoured before it"
+unfoldable pub countLeave : Board → Board
+countLeave b = cond (eqb (b .favoured) 0) b (setFavour b (b .favoured) (b .initial) (b .leaves + 1))
+
+-- Leave: all its files and claims go
+unfoldable pub leave : Board → ℕ → Reply
+leave b p = done (countLeave (setProgram b p noProgram)) p 0
+
+-- ---- calls
+
+-- the five kinds of direct call, with any numbers and claims
+pub data Call : Type 0 where
+  Enter : ℕ → FileSet → FileSet → Call
+  Open : ℕ → ℕ → Call
+  Close : ℕ → ℕ → Call
+  Drop : ℕ → ℕ → Call
+  Leave : ℕ → Call
+
+-- the call with a verb and these numbers and claims
+abbrev pub callWith : Verb → ℕ → ℕ → FileSet → FileSet → Call
+callWith Verb.Enter p f v q = Enter p v q
+callWith Verb.Open p f v q = Open p f
+callWith Verb.Close p f v q = Close p f
+callWith Verb.Drop p f v q = Drop p f
+callWith Verb.Leave p f v q = Leave p
+
+-- the call that is asked for
+abbrev pub callOf : Asked → Call
+callOf a = callWith (a .verb) (a .program) (a .file) (a .writable) (a .readable)
+
+-- the first of checks 8 to 16 that applies
+abbrev pub checked : Board → Call → Check
+checked b (Enter p v q) = enterCheck b p v q
+checked b (Open p f) = openCheck b p f
+checked b (Close p f) = closeCheck b p f
+checked b (Drop p f) = openCheck b p f
+checked b (Leave p) = leaveCheck b p
+
+-- what the call does if it is accepted
+abbrev pub accepted : Board → Call → Reply
+accepted b (Enter p v q) = enter b p v q
+accepted b (Open p f) = openFile b p f
+accepted b (Close p f) = closeFile b p f
+accepted b (Drop p f) = dropFile b p f
+accepted b (Leave p) = leave b p
+
+-- the reply unless refused
+abbrev pub unless : Board → Check → Reply → Reply
+unless b Check.Passed r = r
+unless b (Check.Failed n) r = refuse b n
+
+-- the rules applied to a board: checks 8 to 16, then the call
+unfoldable pub apply : Board → Call → Reply
+apply b c = unless b (checked b c) (accepted b c)
+
+-- a direct call: check 1 first, then the rules
+unfoldable pub direct : Board → Call → Reply
+direct b c = cond (sound b) (apply b c) (refuseUnsound b)

@@ -1,0 +1,10 @@
+-- The rules of the lock board, as definitions that compute.
+pub mod Lists
+pub mod Boards
+pub mod Orders
+pub mod Soundness
+pub mod Settling
+pub mod Replies
+pub mod Checks
+pub mod Calls
+pub mod Worked

@@ -1,0 +1,76 @@
+-- "A sound board", clause by clause.
+-- Assumes nothing.
+use Prim.Native.Nat.{ℕ, _+_}
+use mathlib.Core.Bool.{Bool, true, not, cond, _&&_, _||_}
+use mathlib.Core.List.{List}
+use lib.Dec.{eqb, leb}
+use lib.ListN.{length}
+use Rattle.rules.specs.declared.Standing.{Standing}
+use Rattle.rules.specs.declared.Program.{Program}
+use Rattle.rules.specs.declared.Board.{Board}
+use Rattle.rules.specs.Lists.{any, all, found, listed, distinct, same, names, padded}
+use Rattle.files.specs.Sets.{meets, within, isEmpty}
+use Rattle.rules.specs.Boards.{isProgram, everyone, at, awaited, admitted, isWaiting, isHeld, claims, hasOpen}
+use Rattle.rules.specs.Orders.{conflict, carried, canGive}
+
+-- ---- each program
+
+-- W is within V, R within Q, V and Q share nothing
+unfoldable pub setsSound : Program → Bool
+setsSound q =
+    within (q .writing) (q .writable)
+    && within (q .reading) (q .readable)
+    && not (meets (q .writable) (q .readable))
+
+-- absent programs have empty sets, held ones nothing open
+unfoldable pub standingSound : Standing → Program → Bool
+standingSound Standing.Absent q =
+    isEmpty (q .writable) && isEmpty (q .readable) && isEmpty (q .writing) && isEmpty (q .reading)
+standingSound Standing.Running q = true
+standingSound (Standing.Waiting f) q = true
+standingSound Standing.Held q = isEmpty (q .writing) && isEmpty (q .reading)
+
+-- what is said of a program by itself
+unfoldable pub programSound : Program → Bool
+programSound q = setsSound q && standingSound (q .standing) q
+
+-- ---- the board
+
+-- no two different programs conflict
+unfoldable pub noConflict : Board → Bool
+noConflict b = all (λ i. all (λ j. eqb i j || not (conflict (at b i) (at b j))) everyone) everyone
+
+-- the line names each program that passes the test once, and nobody else, and is then 0
+unfoldable pub lineSound : List ℕ → (ℕ → Bool) → Bool
+lineSound l t =
+    all (λ p. isProgram p && t p) (names l)
+    && all (λ p. not (t p) || listed p (names l)) everyone
+    && distinct (names l)
+    && same l (padded 0 (names l))
+
+-- the waiter's file is claimed, not open by it, and can't be given now
+unfoldable pub waiterSound : Board → ℕ → ℕ → Bool
+waiterSound b p f = claims (at b p) f && not (hasOpen (at b p) f) && not (canGive b p f)
+
+-- nobody favoured: nobody held, and both numbers 0
+unfoldable pub noneFavoured : Board → Bool
+noneFavoured b = not (any (λ p. isHeld (at b p .standing)) everyone) && eqb (b .initial) 0 && eqb (b .leaves) 0
+
+-- the favoured program is waiting; leaves plus admitted equal the number at favouring, which is at most 32
+unfoldable pub someFavoured : Board → Bool
+someFavoured b =
+    isProgram (b .favoured)
+    && isWaiting (at b (b .favoured) .standing)
+    && eqb (b .leaves + length (admitted b)) (b .initial)
+    && leb (b .initial) 32
+
+-- sets as above; no conflict; a completion order exists; the two lines; the waiters; the favoured program
+unfoldable pub sound : Board → Bool
+sound b =
+    all (λ p. programSound (at b p)) everyone
+    && noConflict b
+    && found (carried b)
+    && lineSound (b .waiting) (λ p. isWaiting (at b p .standing))
+    && lineSound (b .entry) (λ p. isHeld (at b p .standing))
+    && all (λ p. waiterSound b p (awaited b p)) (names (b .waiting))
+    && cond (eqb (b .favoured) 0) (noneFavoured b) (someFavoured b)

@@ -1,0 +1,121 @@
+// The types of the lock board. The rules themselves stand in specs/.
+use files::FileSet;
+
+mod boards;
+mod programs;
+mod refusals;
+mod standings;
+
+// A program's standing: absent, held at entry, running or waiting; waiting carries its file.
+pub enum Standing {
+    Absent,
+    Running,
+    Waiting(u8),
+    Held,
+}
+
+// 01's V and Q, the write and the read claim, and W and R, the files open for writing and for reading.
+pub struct Program {
+    pub writable: FileSet,
+    pub readable: FileSet,
+    pub writing: FileSet,
+    pub reading: FileSet,
+    pub standing: Standing,
+}
+
+// Program p stands at index p - 1. The waiting line and the entry line are oldest first, and then 0.
+// favoured is the favoured program or 0, initial the number admitted when it was favoured, leaves the accepted leaves since.
+pub struct Board {
+    pub programs: [Program; 32],
+    pub waiting: [u8; 32],
+    pub entry: [u8; 32],
+    pub favoured: u8,
+    pub initial: u8,
+    pub leaves: u8,
+}
+
+// The five calls.
+pub enum Verb {
+    Enter,
+    Open,
+    Close,
+    Drop,
+    Leave,
+}
+
+// What a call asks. The file counts for open, close and drop only, the claims (V and Q) for enter only.
+pub struct Asked {
+    pub verb: Verb,
+    pub program: u64,
+    pub file: u64,
+    pub writable: FileSet,
+    pub readable: FileSet,
+}
+
+// Why a call is refused, in the order of 01's numbers 1 to 16.
+pub enum Refusal {
+    NotSound,
+    JournalFull,
+    NoVerb,
+    BadLength,
+    BadNumber,
+    BadLabel,
+    NotRising,
+    OutOfRange,
+    NotAbsent,
+    ClaimsMeet,
+    IsAbsent,
+    IsHeld,
+    IsWaiting,
+    NotClaimed,
+    IsOpen,
+    NotOpen,
+}
+
+// Whether the checks of a call refuse it.
+pub enum Check {
+    Passed,
+    Failed(Refusal),
+}
+
+// What a call answers.
+pub enum Answer {
+    Admit,
+    Held,
+    Given,
+    Wait,
+    Unsafe,
+    Done,
+    Refuse(Refusal),
+}
+
+// The word of a journal line.
+pub enum Word {
+    Admit,
+    Held,
+    Given,
+    Wait,
+    Unsafe,
+    Done,
+    Favour,
+    Refuse,
+}
+
+// A journal line; 0 where there is no file or no refusal.
+pub struct Line {
+    pub word: Word,
+    pub program: u8,
+    pub file: u8,
+    pub refusal: u8,
+}
+
+// What a direct call gives back: the board after it, the answer, its lines (the first `count` of 32 places)
+// and the carried order (the first `placed` of 32 places).
+pub struct Reply {
+    pub board: Board,
+    pub answer: Answer,
+    pub lines: [Line; 32],
+    pub count: u8,
+    pub order: [u8; 32],
+    pub placed: u8,
+}

@@ -1,0 +1,153 @@
+// What the rules ask of a program by itself or against another, and a program with one part changed.
+use crate::Program;
+use crate::Standing;
+use files::FileSet;
+ghost use mathlib.Core.Path.{_≡_};
+ghost use mathlib.Core.Bool.{_||_};
+ghost use Rattle.files.specs.Sets.{member, meets};
+ghost use Rattle.rules.specs.Boards.{noProgram, claims, hasOpen, setStanding, opening, closing, dropping};
+ghost use Rattle.rules.specs.Orders.{conflict, holdsBack};
+
+// Whether f is in one of the two sets.
+fn in_either(s: FileSet, t: FileSet, f: u8) -> bool
+    ensures { λ r. ⌜ r ≡ member s f || member t f ⌝ }
+{
+    if s.has(f) {
+        return true;
+    }
+    t.has(f)
+}
+
+// Whether one of three pairs of sets meets.
+fn some_meet(a: FileSet, b: FileSet, c: FileSet, d: FileSet, e: FileSet, f: FileSet) -> bool
+    ensures { λ r. ⌜ r ≡ meets a b || meets c d || meets e f ⌝ }
+{
+    if a.meets(b) {
+        return true;
+    }
+    if c.meets(d) {
+        return true;
+    }
+    e.meets(f)
+}
+
+impl Program {
+    // An absent program, with empty sets.
+    pub const ABSENT: Program = Program {
+        writable: FileSet { bits: 0 },
+        readable: FileSet { bits: 0 },
+        writing: FileSet { bits: 0 },
+        reading: FileSet { bits: 0 },
+        standing: Standing::Absent,
+    };
+
+    // The constant, with its contract.
+    pub fn absent() -> Program
+        ensures { λ r. ⌜ r ≡ noProgram ⌝ }
+    {
+        Program::ABSENT
+    }
+
+    // Whether f is in V or Q.
+    pub fn claims(self, f: u8) -> bool
+        ensures { λ r. ⌜ r ≡ claims self f ⌝ }
+    {
+        let v = self.writable;
+        let q = self.readable;
+        in_either(v, q, f)
+    }
+
+    // Whether f is in W or R.
+    pub fn has_open(self, f: u8) -> bool
+        ensures { λ r. ⌜ r ≡ hasOpen self f ⌝ }
+    {
+        let w = self.writing;
+        let r = self.reading;
+        in_either(w, r, f)
+    }
+
+    // Whether the two conflict: W of one meets W or R of the other.
+    pub fn conflicts(self, other: Program) -> bool
+        ensures { λ r. ⌜ r ≡ conflict self other ⌝ }
+    {
+        let w = self.writing;
+        let r = self.reading;
+        let x = other.writing;
+        let s = other.reading;
+        some_meet(w, x, w, s, x, r)
+    }
+
+    // Whether the program holds back the other: its W meets V or Q of the other, or its R meets V of the other.
+    pub fn holds_back(self, other: Program) -> bool
+        ensures { λ r. ⌜ r ≡ holdsBack self other ⌝ }
+    {
+        let w = self.writing;
+        let r = self.reading;
+        let v = other.writable;
+        let q = other.readable;
+        some_meet(w, v, w, q, r, v)
+    }
+
+    // The program at another standing.
+    pub fn at_standing(self, s: Standing) -> Program
+        ensures { λ r. ⌜ r ≡ setStanding self s ⌝ }
+    {
+        let v = self.writable;
+        let q = self.readable;
+        let w = self.writing;
+        let r = self.reading;
+        Program {
+            writable: v,
+            readable: q,
+            writing: w,
+            reading: r,
+            standing: s,
+        }
+    }
+
+    // The program with f among its open files, in the way that its claim says: in V for writing, in Q for reading.
+    pub fn opening(self, f: u8) -> Program
+        ensures { λ r. ⌜ r ≡ opening self f ⌝ }
+    {
+        let mut next = self;
+        let v = self.writable;
+        if v.has(f) {
+            let w = self.writing;
+            let more = w.with(f);
+            next.writing = more;
+            return next;
+        }
+        let r = self.reading;
+        let more = r.with(f);
+        next.reading = more;
+        next
+    }
+
+    // The program with f open no longer.
+    pub fn closing(self, f: u8) -> Program
+        ensures { λ r. ⌜ r ≡ closing self f ⌝ }
+    {
+        let w = self.writing;
+        let r = self.reading;
+        let written = w.without(f);
+        let read = r.without(f);
+        let mut next = self;
+        next.writing = written;
+        next.reading = read;
+        next
+    }
+
+    // The program with f gone from its claim.
+    pub fn dropping(self, f: u8) -> Program
+        ensures { λ r. ⌜ r ≡ dropping self f ⌝ }
+    {
+        let v = self.writable;
+        let q = self.readable;
+        let writable = v.without(f);
+        let readable = q.without(f);
+        let mut next = self;
+        next.writable = writable;
+        next.readable = readable;
+        next
+    }
+}

@@ -1,0 +1,152 @@
+-- `search_rest` meets its contract. Assumes nothing.
+use mathlib.Core.Path.{_≡_, _∙_}
+use native.Mathlib.Omega.{arith}
+use lib.ListN.{length}
+use borrow.Author.Needs.{needs}
+use Rattle.rules.specs.Lists.{without}
+use Rattle.rules.specs.Boards.{at}
+use Rattle.search.proofs.Laws.{order-done, order-stuck, order-more}
+use Prim.Native.Nat.{ℕ, _<_}
+use borrow.Fn.Kinds.{In}
+use borrow.Fn.PlainCycle.{Measures, is, falls, and}
+use Rattle.search.proofs.search_rest.Reads as search-rest
+use Rattle.search.proofs.search_rest.Kinds as search-rest-kinds
+use Rattle.search.proofs.+search_rest.Lts-search_rest as search-rest-lts
+use Rattle.search.proofs.ProgramSet.without.Reads as without-reads
+use Rattle.search.proofs.lowest_free.Reads as lowest-free-reads
+use Rattle.search.proofs.+search_rest.{statement}
+use Rattle.search.proofs.+search_rest.Tie.{close}
+
+abbrev μ-search-rest : Measures 0 search-rest-kinds.ps ℕ
+μ-search-rest κs a = a .1 .1 .0
+
+abbrev search-rest-at : ℕ → In 0 search-rest-kinds.ps
+search-rest-at t =
+    and 0 search-rest-kinds.ps (is 0 search-rest-kinds.ps μ-search-rest t) search-rest.Pre
+
+abbrev search-rest-below : ℕ → In 0 search-rest-kinds.ps
+search-rest-below t =
+    and 0 search-rest-kinds.ps (falls 0 search-rest-kinds.ps _<_ μ-search-rest t) search-rest.Pre
+
+-- src/lib.rt:241:9
+search-rest-returns : (t : ℕ) → search-rest-lts.Need-returns (
+  lowest-free-reads.Asked,
+  lowest-free-reads.Learnt,
+  without-reads.Asked,
+  without-reads.Learnt,
+  search-rest-below t,
+  search-rest.Post,
+) (search-rest-at t) search-rest.Post
+search-rest-returns t c = let a = c .before .args in order-done (a .rows) (a .left) (a .at) (a .n) (a .k) (c .if1 .taken)
+
+-- src/lib.rt:246:9
+search-rest-lowest-free-requires : (t : ℕ) → search-rest-lts.Need-lowest-free-requires (
+  lowest-free-reads.Asked,
+  lowest-free-reads.Learnt,
+  without-reads.Asked,
+  without-reads.Learnt,
+  search-rest-below t,
+  search-rest.Post,
+) (search-rest-at t) search-rest.Post
+search-rest-lowest-free-requires t c κs = search needs
+
+-- src/lib.rt:248:9
+search-rest-returns-2 : (t : ℕ) → search-rest-lts.Need-returns-2 (
+  lowest-free-reads.Asked,
+  lowest-free-reads.Learnt,
+  without-reads.Asked,
+  without-reads.Learnt,
+  search-rest-below t,
+  search-rest.Post,
+) (search-rest-at t) search-rest.Post
+search-rest-returns-2 t c = let a = c .before .before .before .args in
+    order-stuck (a .rows) (a .left) (a .at) (a .n) (a .k) (c .before .lowest-free .result) (c .before .before .if1 .left) (c .before .lowest-free .ensures .0) (c .if2 .taken)
+
+-- src/lib.rt:253:9
+search-rest-without-requires : (t : ℕ) → search-rest-lts.Need-without-requires (
+  lowest-free-reads.Asked,
+  lowest-free-reads.Learnt,
+  without-reads.Asked,
+  without-reads.Learnt,
+  search-rest-below t,
+  search-rest.Post,
+) (search-rest-at t) search-rest.Post
+search-rest-without-requires t c κs = search needs
+
+-- src/lib.rt:255:5
+search-rest-array-write-next : (t : ℕ) → search-rest-lts.Need-array-write-next (
+  lowest-free-reads.Asked,
+  lowest-free-reads.Learnt,
+  without-reads.Asked,
+  without-reads.Learnt,
+  search-rest-below t,
+  search-rest.Post,
+) (search-rest-at t) search-rest.Post
+search-rest-array-write-next t c = search needs
+
+-- src/lib.rt:256:29
+search-rest-sub-search-rest : (t : ℕ) → search-rest-lts.Need-sub-search-rest (
+  lowest-free-reads.Asked,
+  lowest-free-reads.Learnt,
+  without-reads.Asked,
+  without-reads.Learnt,
+  search-rest-below t,
+  search-rest.Post,
+) (search-rest-at t) search-rest.Post
+search-rest-sub-search-rest t c = search needs
+
+-- src/lib.rt:256:42
+search-rest-add-search-rest : (t : ℕ) → search-rest-lts.Need-add-search-rest (
+  lowest-free-reads.Asked,
+  lowest-free-reads.Learnt,
+  without-reads.Asked,
+  without-reads.Learnt,
+  search-rest-below t,
+  search-rest.Post,
+) (search-rest-at t) search-rest.Post
+search-rest-add-search-rest t c = search needs
+
+-- src/lib.rt:256:5
+search-rest-search-rest-requires : (t : ℕ) → search-rest-lts.Need-search-rest-requires (
+  lowest-free-reads.Asked,
+  lowest-free-reads.Learnt,
+  without-reads.Asked,
+  without-reads.Learnt,
+  search-rest-below t,
+  search-rest.Post,
+) (search-rest-at t) search-rest.Post
+search-rest-search-rest-requires t c κs = search needs
+
+-- src/lib.rt:236:1
+search-rest-returns-3 : (t : ℕ) → search-rest-lts.Need-returns-3 (
+  lowest-free-reads.Asked,
+  lowest-free-reads.Learnt,
+  without-reads.Asked,
+  without-reads.Learnt,
+  search-rest-below t,
+  search-rest.Post,
+) (search-rest-at t) search-rest.Post
+search-rest-returns-3 t c = let s = c .before .before .before .before .before in let a = s .args in
+    let l : length (a .at) ≡ 32 = search needs in
+    c .search-rest .ensures ∙ rw (c .before .without .ensures) (order-more (a .rows) (a .left) (a .at) (a .n) (a .k) (c .before .before .before .lowest-free .result) (c .before .before .before .before .if1 .left) (c .before .before .before .lowest-free .ensures .0) (c .before .before .if2 .left) (omega (arith, c .before .before .before .before .if1 .left)))
+
+pub +search-rest-spec : {M : Type 1} → statement M
++search-rest-spec = close μ-search-rest λ t. search-rest-lts.spec (
+  lowest-free-reads.Asked,
+  lowest-free-reads.Learnt,
+  without-reads.Asked,
+  without-reads.Learnt,
+  search-rest-below t,
+  search-rest.Post,
+)
+    (search-rest-at t)
+    search-rest.Post
+    (search-rest-returns t)
+    (search-rest-lowest-free-requires t)
+    (search-rest-returns-2 t)
+    (search-rest-without-requires t)
+    (search-rest-array-write-next t)
+    (search-rest-sub-search-rest t)
+    (search-rest-add-search-rest t)
+    (search-rest-search-rest-requires t)
+    (search-rest-returns-3 t)

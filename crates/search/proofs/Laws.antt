@@ -1,0 +1,350 @@
+-- Laws of lists of numbers, of sets of programs, and of the search. Assumes nothing.
+use mathlib.Core.Path.{_≡_, refl, sym, ap, ap₂, _∙_}
+use mathlib.Core.Bool.{Bool, true, false, not, cond, _&&_, _||_}
+use mathlib.Core.List.{List, [], _∷_, _++_}
+use mathlib.Core.Option.{Option, none, some, Option·getD}
+use Prim.Native.Nat.{ℕ, zero, suc, _+_, _-_, _≤_, _<_}
+use native.Mathlib.Numerals.{add-one, sub-one}
+use native.Mathlib.Omega.{arith}
+use lib.ListN.{length}
+use mathlib.Core.List.{append-assoc}
+use mathlib.Core.Logic.{_≢_}
+use native.Mathlib.Nat.{zero-add, add-zero, add-suc, suc-add}
+use lib.Dec.{eqb, leb}
+use lib.ListN.{getD, set, take, drop, replicate, take-append-drop}
+use lib.Seq.{take-suc-set, drop-set-lt, getD-set-same, getD-set-other}
+use borrow.Author.Tests.{eq-eqb, ne-eqb, eqb-true, eqb-false, leb-true, leb-false}
+use Rattle.files.proofs.Tests.{by-test, never, and-left, and-right, and-both, no-true, same-test}
+use Rattle.files.specs.Bits.{hasBit, isNumber}
+use Rattle.files.proofs.Bits.{zero-has, with-only, share-of, of-share, is-number, has-bit, with-number-same, with-number-other, without-number-same, without-number-other}
+use Rattle.rules.specs.declared.Board.{Board}
+use Rattle.rules.specs.Lists.{rising, any, all, keep, first, found, withFound, without, padded}
+use Rattle.rules.specs.Boards.{everyone, at, admitted, isAdmitted}
+use Rattle.rules.specs.Orders.{heldBack, carriedFrom, carried}
+use Rattle.search.specs.declared.ProgramSet.{ProgramSet}
+use Rattle.search.specs.declared.Search.{Search}
+use Rattle.search.specs.declared.Order.{Order}
+use Rattle.search.specs.ProgramSets.{noPrograms, hasProgram, withProgram, withoutProgram, programsMeet}
+use Rattle.search.specs.Rows.{joined, packed, stops, holders, RowsOf, admits, admittedSet, free, lowest, orderFrom, placed, asOrder}
+
+-- ---- the numbers from p to 32
+
+pub rising-step : (p : ℕ) → p ≤ 32 → rising (33 - p) p ≡ p ∷ rising (33 - suc p) (suc p)
+unfolding rising
+rising-step p h = let e : 33 - p ≡ suc (33 - suc p) = omega arith in rw e
+
+pub rising-end : (p : ℕ) → 32 < p → rising (33 - p) p ≡ []
+unfolding rising
+rising-end p h = let e : 33 - p ≡ 0 = omega arith in rw e
+
+module _ (t : ℕ → Bool) (p : ℕ) where
+  pub any-step : p ≤ 32 → any t (rising (33 - p) p) ≡ (t p || any t (rising (33 - suc p) (suc p)))
+  unfolding any
+  any-step h = ap (any t) (rising-step p h)
+
+  pub any-end : 32 < p → any t (rising (33 - p) p) ≡ false
+  unfolding any
+  any-end h = ap (any t) (rising-end p h)
+
+  pub all-step : p ≤ 32 → all t (rising (33 - p) p) ≡ (t p && all t (rising (33 - suc p) (suc p)))
+  unfolding all
+  all-step h = ap (all t) (rising-step p h)
+
+  pub all-end : 32 < p → all t (rising (33 - p) p) ≡ true
+  unfolding all
+  all-end h = ap (all t) (rising-end p h)
+
+  pub first-step : p ≤ 32 → first t (rising (33 - p) p) ≡ cond (t p) (some p) (first t (rising (33 - suc p) (suc p)))
+  unfolding first
+  first-step h = ap (first t) (rising-step p h)
+
+  pub first-end : 32 < p → first t (rising (33 - p) p) ≡ none
+  unfolding first
+  first-end h = ap (first t) (rising-end p h)
+
+  pub keep-more : p ≤ 32 → t p ≡ true → length (keep t (rising (33 - p) p)) ≡ suc (length (keep t (rising (33 - suc p) (suc p))))
+  unfolding keep
+  keep-more h e = rw (rising-step p h, e)
+
+  pub keep-less : p ≤ 32 → t p ≡ false → length (keep t (rising (33 - p) p)) ≡ length (keep t (rising (33 - suc p) (suc p)))
+  unfolding keep
+  keep-less h e = rw (rising-step p h, e)
+
+  pub keep-end : 32 < p → length (keep t (rising (33 - p) p)) ≡ 0
+  unfolding keep
+  keep-end h = rw (rising-end p h)
+
+-- ---- sets of the numbers that pass a test
+
+-- the set of those up to i
+pub packed-more : (t : ℕ → Bool) (i : ℕ) (s r : ProgramSet) → 1 ≤ i → s ≡ packed t (i - 1) → r ≡ joined s i (t i) → r ≡ packed t (i + 1 - 1)
+unfolding packed
+packed-more t zero s r h e k = absurd (omega arith)
+packed-more t (suc i) s r h e k =
+    let a : suc i + 1 - 1 ≡ suc i = omega arith in
+    let z : suc i - 1 ≡ i = omega arith in
+    rw a (k ∙ ap (λ (x : ProgramSet). joined x (suc i) (t (suc i))) (e ∙ ap (packed t) z))
+
+-- and of all
+pub packed-all : (t : ℕ → Bool) (i : ℕ) (s : ProgramSet) → i ≡ 33 → s ≡ packed t (i - 1) → s ≡ packed t 32
+packed-all t i s h e = e ∙ ap (λ (x : ℕ). packed t (x - 1)) h
+
+-- ---- members of a packed set
+
+-- a bit of a packed set is that of a number that passes the test
+packed-bit : (t : ℕ → Bool) (n i : ℕ) → n ≤ 32 → hasBit (packed t n .bits) i ≡ true → (i < n) × (t (suc i) ≡ true)
+unfolding packed
+packed-bit t zero i h e = never e (zero-has i)
+packed-bit t (suc n) i h e =
+    by-test (t (suc n))
+    (λ y. by-test (eqb i n) (λ d. let z : i ≡ n = eqb-true i n d in (omega arith, ap (λ x. t (suc x)) z ∙ y))
+    (λ d. let z : i ≢ n = eqb-false i n d in
+    let k : suc n - 1 ≡ n = omega arith in
+    let r = packed-bit t n i (omega arith) (with-only (packed t n .bits) n i (rw (y, is-number 32 (suc n) (omega arith) h, k) at e) z) in
+    (omega (arith, r .0), r .1)))
+    (λ y. let r = packed-bit t n i (omega arith) (rw y at e) in (omega (arith, r .0), r .1))
+
+pub packed-has : (t : ℕ → Bool) (n i : ℕ) → n ≤ 32 → 1 ≤ i → i ≤ n → hasProgram (packed t n) i ≡ t i
+unfolding packed
+packed-has t zero i m l h = absurd (omega arith)
+packed-has t (suc n) i m l h =
+    by-test (eqb i (suc n))
+    (λ e. let z : i ≡ suc n = eqb-true i (suc n) e in rw z last)
+    (λ e. let z : i ≢ suc n = eqb-false i (suc n) e in
+    by-test (t (suc n))
+    (λ y. rw y (with-number-other 32 (packed t n .bits) (suc n) i z ∙ packed-has t n i (omega arith) l (omega arith)))
+    (λ y. rw y (packed-has t n i (omega arith) l (omega arith))))
+  where
+    is : isNumber 32 (suc n) ≡ true
+    is = is-number 32 (suc n) (omega arith) m
+
+    last : hasProgram (joined (packed t n) (suc n) (t (suc n))) (suc n) ≡ t (suc n)
+    last =
+        by-test (t (suc n)) (λ y. rw y (with-number-same 32 (packed t n .bits) (suc n) is))
+        (λ y. rw y (no-true (hasProgram (packed t n) (suc n)) (λ d. let k : suc n - 1 ≡ n = omega arith in let r = packed-bit t n n (omega arith) (rw k at (has-bit 32 (packed t n .bits) (suc n) d)) .0 in omega arith)))
+
+-- ---- tests over a range of numbers
+
+or-true : (s : Bool) → (s || true) ≡ true
+or-true true = refl
+or-true false = refl
+
+pub any-of : (t : ℕ → Bool) (n k p : ℕ) → k ≤ p → p < k + n → t p ≡ true → any t (rising n k) ≡ true
+unfolding any rising
+any-of t zero k p l h e = absurd (omega arith)
+any-of t (suc n) k p l h e =
+    by-test (eqb k p)
+    (λ z. let w : k ≡ p = eqb-true k p z in rw (ap t w ∙ e))
+    (λ z. let w : k ≢ p = eqb-false k p z in rw (any-of t n (suc k) p (omega arith) (omega arith) e) (or-true (t k)))
+
+pub of-any : (t : ℕ → Bool) (n k : ℕ) → any t (rising n k) ≡ true → (p : ℕ) × (k ≤ p) × (p < k + n) × (t p ≡ true)
+unfolding any rising
+of-any t zero k e = never e refl
+of-any t (suc n) k e =
+    by-test (t k)
+    (λ y. (k, omega arith, omega arith, y))
+    (λ y. let r = of-any t n (suc k) (rw y at e) in (r .0, omega (arith, r .1), omega (arith, r .2), r .3))
+
+pub first-in : (t : ℕ → Bool) (n k p : ℕ) → first t (rising n k) ≡ some p → (k ≤ p) × (p < k + n) × (t p ≡ true)
+unfolding first rising
+first-in t zero k p e = absurd (none-is-none e)
+  where
+    none-is-none : _≡_ {A = Option ℕ} none (some p) → ⊥
+    none-is-none e = let z : _≡_ {A = ℕ} 0 1 = cc in omega arith
+first-in t (suc n) k p e =
+    by-test (t k)
+    (λ y. let w : k ≡ p = some-is (rw y at e) in (omega (arith, w), omega (arith, w), sym (ap t w) ∙ y))
+    (λ y. let r = first-in t n (suc k) p (rw y at e) in (omega (arith, r .0), omega (arith, r .1), r .2))
+  where
+    some-is : _≡_ {A = Option ℕ} (some k) (some p) → k ≡ p
+    some-is e = cc
+
+-- an option is one of the two, with the equation kept
+pub by-option {ℓ} : {A : Type 0} {C : Type ℓ} (o : Option A) → (o ≡ none → C) → ((x : A) → o ≡ some x → C) → C
+by-option none f g = f refl
+by-option (some x) f g = g x refl
+
+module _ (s t : ℕ → Bool) where
+  pub any-keep : (l : List ℕ) → any t (keep s l) ≡ any (λ x. s x && t x) l
+  unfolding any keep
+  any-keep [] = refl
+  any-keep (x ∷ l) =
+      by-test (s x) (λ y. rw y (ap (λ (z : Bool). t x || z) (any-keep l))) (λ y. rw y (any-keep l))
+
+  pub first-keep : (l : List ℕ) → first t (keep s l) ≡ first (λ x. s x && t x) l
+  unfolding first keep
+  first-keep [] = refl
+  first-keep (x ∷ l) =
+      by-test (s x) (λ y. rw y (ap (λ (z : Option ℕ). cond (t x) (some x) z) (first-keep l))) (λ y. rw y (first-keep l))
+
+  pub keep-keep : (l : List ℕ) → keep t (keep s l) ≡ keep (λ x. s x && t x) l
+  unfolding keep
+  keep-keep [] = refl
+  keep-keep (x ∷ l) =
+      by-test (s x) (λ y. rw y (ap (λ (z : List ℕ). cond (t x) (x ∷ z) z) (keep-keep l))) (λ y. rw y (keep-keep l))
+
+  pub first-same : (n k : ℕ) → ((p : ℕ) → k ≤ p → p < k + n → s p ≡ t p) → first s (rising n k) ≡ first t (rising n k)
+  unfolding first rising
+  first-same zero k f = refl
+  first-same (suc n) k f =
+      rw (f k (omega arith) (omega arith), first-same n (suc k) (λ p l h. f p (omega arith) (omega arith)))
+
+  pub keep-same : (n k : ℕ) → ((p : ℕ) → k ≤ p → p < k + n → s p ≡ t p) → keep s (rising n k) ≡ keep t (rising n k)
+  unfolding keep rising
+  keep-same zero k f = refl
+  keep-same (suc n) k f =
+      rw (f k (omega arith) (omega arith), keep-same n (suc k) (λ p l h. f p (omega arith) (omega arith)))
+
+-- ---- holding back, by sets
+
+pub any-meets : (l : ProgramSet) (t : ℕ → Bool) → any (λ x. hasProgram l x && t x) everyone ≡ programsMeet l (packed t 32)
+unfolding everyone
+any-meets l t = same-test (any (λ x. hasProgram l x && t x) (rising 32 1)) (programsMeet l (packed t 32))
+    (λ y. let r = of-any (λ x. hasProgram l x && t x) 32 1 y in
+    let a = and-left (hasProgram l (r .0)) (t (r .0)) (r .3) in
+    let e = packed-has t 32 (r .0) (omega arith) (r .1) (omega (arith, r .2)) ∙ and-right (hasProgram l (r .0)) (t (r .0)) (r .3) in
+    share-of (l .bits) (packed t 32 .bits) (r .0 - 1) (has-bit 32 (l .bits) (r .0) a) (has-bit 32 (packed t 32 .bits) (r .0) e))
+    (λ m. let (i, a, d) = of-share (l .bits) (packed t 32 .bits) m in
+    let (h, e) = packed-bit t 32 i (omega arith) d in
+    any-of (λ x. hasProgram l x && t x) 32 1 (suc i) (omega arith) (omega arith)
+    (and-both (hasProgram l (suc i)) (t (suc i)) (and-both (isNumber 32 (suc i)) (hasBit (l .bits) (suc i - 1)) (is-number 32 (suc i) (omega arith) (omega arith)) (let k : suc i - 1 ≡ i = omega arith in rw k a)) e))
+
+pub held-is : (b : Board) (l : ProgramSet) (p : ℕ) → heldBack b (keep (hasProgram l) everyone) p ≡ programsMeet l (holders b p)
+unfolding heldBack holders
+held-is b l p = any-keep (hasProgram l) (stops b p) everyone ∙ any-meets l (stops b p)
+
+-- ---- the order, by sets
+
+pub left-without : (l : ProgramSet) (p : ℕ) → 1 ≤ p → without p (keep (hasProgram l) everyone) ≡ keep (hasProgram (withoutProgram l p)) everyone
+unfolding without everyone
+left-without l p h =
+    keep-keep (hasProgram l) (λ x. not (eqb x p)) (rising 32 1)
+    ∙ keep-same (λ x. hasProgram l x && not (eqb x p)) (hasProgram (withoutProgram l p)) 32 1 (λ x k m. each x k)
+  where
+    each : (x : ℕ) → 1 ≤ x → (hasProgram l x && not (eqb x p)) ≡ hasProgram (withoutProgram l p) x
+    each x k = by-test (eqb x p)
+        (λ y. let z : x ≡ p = eqb-true x p y in rw y (and-false (hasProgram l x) ∙ sym (ap (hasProgram (withoutProgram l p)) z ∙ without-number-same 32 (l .bits) p)))
+        (λ y. let z : x ≢ p = eqb-false x p y in rw y (and-true (hasProgram l x) ∙ sym (without-number-other 32 (l .bits) p x z)))
+      where
+        and-false : (s : Bool) → (s && false) ≡ false
+        and-false true = refl
+        and-false false = refl
+
+        and-true : (s : Bool) → (s && true) ≡ s
+        and-true true = refl
+        and-true false = refl
+
+pub first-is : (b : Board) (rows : List ProgramSet) (l : ProgramSet) → RowsOf b rows
+    → first (λ p. not (heldBack b (keep (hasProgram l) everyone) p)) (keep (hasProgram l) everyone) ≡ first (free rows l) everyone
+unfolding everyone
+first-is b rows l f =
+    first-keep (hasProgram l) (λ p. not (heldBack b (keep (hasProgram l) everyone) p)) (rising 32 1)
+    ∙ first-same (λ p. hasProgram l p && not (heldBack b (keep (hasProgram l) everyone) p)) (free rows l) 32 1
+    (λ p k h. ap (λ (x : Bool). hasProgram l p && not x) (held-is b l p ∙ ap (programsMeet l) (sym (f p k (omega arith)))))
+
+first-from : (t : ℕ → Bool) (p : ℕ) → first t everyone ≡ some p → 1 ≤ p
+unfolding everyone
+first-from t p e = first-in t 32 1 p e .0
+
+pub order-is : (b : Board) (rows : List ProgramSet) → RowsOf b rows → (n : ℕ) (l : ProgramSet)
+    → carriedFrom n b (keep (hasProgram l) everyone) ≡ orderFrom n rows l
+unfolding carriedFrom orderFrom
+order-is b rows f zero l = refl
+order-is b rows f (suc n) l =
+    by-option (first (free rows l) everyone)
+    (λ e. rw (first-is b rows l f, e))
+    (λ p e. rw (first-is b rows l f, e, left-without l p (first-from (free rows l) p e), order-is b rows f n (withoutProgram l p)))
+
+pub admitted-is : (b : Board) → admitted b ≡ keep (hasProgram (admittedSet b)) everyone
+unfolding admitted admittedSet everyone
+admitted-is b = keep-same (admits b) (hasProgram (packed (admits b) 32)) 32 1 (λ p k h. sym (packed-has (admits b) 32 p (omega arith) k (omega arith)))
+
+-- the search from the admitted programs is the carried order
+pub carried-is : (b : Board) (rows : List ProgramSet) → RowsOf b rows → orderFrom (length (admitted b)) rows (admittedSet b) ≡ carried b
+unfolding carried
+carried-is b rows f =
+    sym (ap (carriedFrom (length (admitted b)) b) (admitted-is b) ∙ order-is b rows f (length (admitted b)) (admittedSet b))
+
+-- ---- the lowest
+
+pub lowest-none : (rows : List ProgramSet) (l : ProgramSet) → lowest rows l ≡ 0 → first (free rows l) everyone ≡ none
+unfolding lowest everyone
+lowest-none rows l e =
+    by-option (first (free rows l) (rising 32 1)) (λ z. z)
+    (λ p z. let a = first-in (free rows l) 32 1 p z .0 in let w : p ≡ 0 = rw z at e in absurd (omega arith))
+
+pub lowest-some : (rows : List ProgramSet) (l : ProgramSet) (p : ℕ) → p ≡ lowest rows l → p ≢ 0 → first (free rows l) everyone ≡ some p
+unfolding lowest everyone
+lowest-some rows l p e n =
+    by-option (first (free rows l) (rising 32 1))
+    (λ z. let w : p ≡ 0 = rw z at e in absurd (n w))
+    (λ q z. let w : p ≡ q = rw z at e in z ∙ ap some (sym w))
+
+-- ---- the order's places
+
+pub drop-replicate : {A : Type 0} (z : A) (n m : ℕ) → drop n (replicate m z) ≡ replicate (m - n) z
+drop-replicate z zero m = let e : m - 0 ≡ m = omega arith in rw e
+drop-replicate z (suc n) zero = let e : 0 - suc n ≡ 0 = omega arith in rw e
+drop-replicate z (suc n) (suc m) = let e : suc m - suc n ≡ m - n = omega arith in rw e (drop-replicate z n m)
+
+pub placed-start : (o : Option (List ℕ)) → placed (replicate 32 0) 0 o ≡ asOrder o
+unfolding padded
+placed-start none = refl
+placed-start (some l) = rw (zero-add (length l), drop-replicate {A = ℕ} 0 (length l) 32)
+
+placed-none : (at : List ℕ) (k : ℕ) → _≡_ {A = Order} (record { kind = Search.Found k; at = at }) (placed at k (some []))
+placed-none at k = rw (add-zero k, take-append-drop k at)
+
+placed-more : (at : List ℕ) (k p : ℕ) (x : Option (List ℕ)) → k < length at → placed (set at k p) (k + 1) x ≡ placed at k (withFound x none (λ l. some (p ∷ l)))
+placed-more at k p none h = refl
+placed-more at k p (some l) h =
+    rw (
+      add-one k,
+      suc-add k (length l),
+      add-suc k (length l),
+      take-suc-set at k p h,
+      drop-set-lt (suc (k + length l)) at k p (omega arith),
+      append-assoc,
+    )
+
+-- ---- one call of the search
+
+module _ (rows : List ProgramSet) (l : ProgramSet) (at : List ℕ) where
+  pub order-done : (n k : ℕ) → n ≡ 0 → _≡_ {A = Order} (record { kind = Search.Found k; at = at }) (placed at k (orderFrom n rows l))
+  unfolding orderFrom
+  order-done n k e = rw e (placed-none at k)
+
+  pub order-stuck : (n k p : ℕ) → n ≢ 0 → p ≡ lowest rows l → p ≡ 0
+      → _≡_ {A = Order} (record { kind = Search.Stuck; at = replicate 32 0 }) (placed at k (orderFrom n rows l))
+  unfolding orderFrom
+  order-stuck zero k p ne e z = absurd (ne refl)
+  order-stuck (suc n) k p ne e z = rw (lowest-none rows l (sym e ∙ z))
+
+  pub order-more : (n k p : ℕ) → n ≢ 0 → p ≡ lowest rows l → p ≢ 0 → k < length at
+      → placed (set at k p) (k + 1) (orderFrom (n - 1) rows (withoutProgram l p)) ≡ placed at k (orderFrom n rows l)
+  unfolding orderFrom
+  order-more zero k p ne e z h = absurd (ne refl)
+  order-more (suc n) k p ne e z h =
+      rw (lowest-some rows l p e z, sub-one (suc n)) (placed-more at k p (orderFrom n rows (withoutProgram l p)) h)
+
+-- ---- the rows, one after another
+
+-- the rows up to p are written
+abbrev pub RowsTo : Board → ℕ → List ProgramSet → Type 0
+RowsTo b p rows = (i : ℕ) → 1 ≤ i → i < p → getD rows (i - 1) noPrograms ≡ holders b i
+
+pub rows-more : (b : Board) (p : ℕ) (rows : List ProgramSet) (r : ProgramSet) → 1 ≤ p → p - 1 < length rows → r ≡ holders b p → RowsTo b p rows → RowsTo b (p + 1) (set rows (p - 1) r)
+rows-more b p rows r l h e f i k m =
+    by-test (eqb i p)
+    (λ y. let z : i ≡ p = eqb-true i p y in rw z (getD-set-same rows (p - 1) r noPrograms h ∙ e))
+    (λ y. let z : i ≢ p = eqb-false i p y in getD-set-other rows (p - 1) (i - 1) r noPrograms (omega arith) ∙ f i k (omega arith))
+
+-- ---- whether an order was found
+
+abbrev pub isFound : Search → Bool
+isFound (Search.Found n) = true
+isFound Search.Stuck = false
+
+pub has-found : (o : Option (List ℕ)) → isFound (asOrder o .kind) ≡ found o
+has-found none = refl
+has-found (some l) = refl

@@ -1,0 +1,76 @@
+-- The search for the carried order as the code makes it, by sets of programs. The laws of proofs/ show that it is the carried order of the rules.
+-- Assumes nothing.
+use Prim.Native.Nat.{ℕ, zero, suc, _+_, _-_, _≤_}
+use mathlib.Core.Path.{_≡_}
+use mathlib.Core.Bool.{Bool, true, false, not, cond, _&&_}
+use mathlib.Core.List.{List, [], _∷_, _++_}
+use mathlib.Core.Option.{Option, none, some, Option·getD}
+use lib.Dec.{eqb}
+use lib.ListN.{length, getD, take, drop, replicate}
+use Rattle.rules.specs.declared.Program.{Program}
+use Rattle.rules.specs.declared.Board.{Board}
+use Rattle.rules.specs.Lists.{first, withFound, padded}
+use Rattle.rules.specs.Boards.{everyone, at, isAdmitted}
+use Rattle.rules.specs.Orders.{conflict, holdsBack}
+use Rattle.search.specs.declared.ProgramSet.{ProgramSet}
+use Rattle.search.specs.declared.Search.{Search}
+use Rattle.search.specs.declared.Order.{Order}
+use Rattle.search.specs.ProgramSets.{noPrograms, hasProgram, withProgram, withoutProgram, programsMeet}
+
+-- s, and n where the test passes
+abbrev pub joined : ProgramSet → ℕ → Bool → ProgramSet
+joined s n t = cond t (withProgram s n) s
+
+-- the set of those of 1 to n that pass the test
+unfoldable pub packed : (ℕ → Bool) → ℕ → ProgramSet
+packed t zero = noPrograms
+packed t (suc n) = joined (packed t n) (suc n) (t (suc n))
+
+-- i is another program than p, and holds it back
+abbrev pub stops : Board → ℕ → ℕ → Bool
+stops b p i = not (eqb i p) && holdsBack (at b i) (at b p)
+
+-- the programs that hold p back
+unfoldable pub holders : Board → ℕ → ProgramSet
+holders b p = packed (stops b p) 32
+
+-- the rows of the board: in each program's place, those that hold it back
+abbrev pub RowsOf : Board → List ProgramSet → Type 0
+RowsOf b rows = (p : ℕ) → 1 ≤ p → p ≤ 32 → getD rows (p - 1) noPrograms ≡ holders b p
+
+-- p is admitted
+abbrev pub admits : Board → ℕ → Bool
+admits b p = isAdmitted (at b p .standing)
+
+-- the admitted programs
+unfoldable pub admittedSet : Board → ProgramSet
+admittedSet b = packed (admits b) 32
+
+-- i is another program than p, which would be me, and conflicts with it
+abbrev pub clashes : Board → ℕ → Program → ℕ → Bool
+clashes b p me i = not (eqb i p) && conflict (at b i) me
+
+-- p is left, and none that is left is in its row
+abbrev pub free : List ProgramSet → ProgramSet → ℕ → Bool
+free rows left p = hasProgram left p && not (programsMeet left (getD rows (p - 1) noPrograms))
+
+-- the lowest program that is free, or 0
+unfoldable pub lowest : List ProgramSet → ProgramSet → ℕ
+lowest rows left = Option·getD (first (free rows left) everyone) 0
+
+-- the order of the n programs left
+unfoldable pub orderFrom : ℕ → List ProgramSet → ProgramSet → Option (List ℕ)
+orderFrom zero rows left = some []
+orderFrom (suc n) rows left =
+    withFound (first (free rows left) everyone) none
+    (λ p. withFound (orderFrom n rows (withoutProgram left p)) none (λ l. some (p ∷ l)))
+
+-- an order as the code gives it back: the numbers from place k on
+abbrev pub placed : List ℕ → ℕ → Option (List ℕ) → Order
+placed at k (some l) = record { kind = Search.Found (k + length l); at = take k at ++ (l ++ drop (k + length l) at) }
+placed at k none = record { kind = Search.Stuck; at = replicate 32 0 }
+
+-- an order, or none, as the code gives it back
+abbrev pub asOrder : Option (List ℕ) → Order
+asOrder (some l) = record { kind = Search.Found (length l); at = padded 0 l }
+asOrder none = record { kind = Search.Stuck; at = replicate 32 0 }

@@ -1,0 +1,254 @@
+// The carried order of a board, and whether a file can be given.
+use rules::Board;
+use rules::Program;
+ghost use mathlib.Core.Path.{_≡_};
+ghost use mathlib.Core.Bool.{_&&_, not};
+ghost use Prim.Native.Nat.{_+_, _≤_};
+ghost use lib.Dec.{eqb};
+ghost use lib.ListN.{length};
+ghost use Rattle.rules.specs.Lists.{found};
+ghost use Rattle.rules.specs.Boards.{admitted};
+ghost use Rattle.rules.specs.Orders.{conflict, holdsBack, carried, withGiven, inUse, canGive};
+ghost use Rattle.search.specs.Rows.{joined, holders, RowsOf, admittedSet, free, lowest, orderFrom, placed, asOrder};
+
+mod sets;
+
+// A set of the programs 1 to 32: bit p - 1 says whether program p is in it.
+pub struct ProgramSet {
+    pub bits: u32,
+}
+
+// What a search comes back with: an order of so many programs, or none.
+pub enum Search {
+    Found(usize),
+    Stuck,
+}
+
+// The order that was found stands in the first places of `at`.
+pub struct Order {
+    pub kind: Search,
+    pub at: [u8; 32],
+}
+
+// ---- who holds back whom
+
+// The set, and p where the test passed.
+fn join(s: ProgramSet, p: u8, yes: bool) -> ProgramSet
+    ensures { λ r. ⌜ r ≡ joined s p yes ⌝ }
+{
+    if yes {
+        return s.with(p);
+    }
+    s
+}
+
+// Whether q, which is program i, is another than program p, and holds it back.
+fn stops_other(i: u8, q: Program, p: u8, me: Program) -> bool
+    ensures { λ r. ⌜ r ≡ not (eqb i p) && holdsBack q me ⌝ }
+{
+    if i == p {
+        return false;
+    }
+    q.holds_back(me)
+}
+
+// The programs that hold p back.
+fn row(b: Board, p: u8) -> ProgramSet
+    requires { ⌜ (1 ≤ p) × (p ≤ 32) ⌝ }
+    ensures { λ r. ⌜ r ≡ holders b p ⌝ }
+{
+    let k = (p - 1) as usize;
+    let me = b.programs[k];
+    let mut held = ProgramSet::EMPTY;
+    let mut i: u8 = 1;
+    while i <= 32 {
+        let j = (i - 1) as usize;
+        let q = b.programs[j];
+        let yes = stops_other(i, q, p, me);
+        held = join(held, i, yes);
+        i += 1;
+    }
+    held
+}
+
+// For each program, in its place, those that hold it back.
+fn all_rows(b: Board) -> [ProgramSet; 32]
+    ensures { λ r. ⌜ RowsOf b r ⌝ }
+{
+    let none = ProgramSet::EMPTY;
+    let mut rows = [none; 32];
+    let mut p: u8 = 1;
+    while p <= 32 {
+        let i = (p - 1) as usize;
+        let r = row(b, p);
+        rows[i] = r;
+        p += 1;
+    }
+    rows
+}
+
+// ---- who is admitted
+
+// The set of the admitted programs.
+fn admitted_set(b: Board) -> ProgramSet
+    ensures { λ r. ⌜ r ≡ admittedSet b ⌝ }
+{
+    let mut set = ProgramSet::EMPTY;
+    let mut p: u8 = 1;
+    while p <= 32 {
+        let i = (p - 1) as usize;
+        let q = b.programs[i];
+        let s = q.standing;
+        let yes = s.is_admitted();
+        set = join(set, p, yes);
+        p += 1;
+    }
+    set
+}
+
+// How many programs are admitted.
+pub fn admitted_count(b: Board) -> u8
+    ensures { λ r. ⌜ (r ≡ length (admitted b)) × (r ≤ 32) ⌝ }
+{
+    let mut n: u8 = 0;
+    let mut p: u8 = 1;
+    while p <= 32 {
+        let i = (p - 1) as usize;
+        let q = b.programs[i];
+        let s = q.standing;
+        if s.is_admitted() {
+            n += 1;
+        }
+        p += 1;
+    }
+    n
+}
+
+// ---- the carried order
+
+// Whether p is left and none that is left holds it back.
+fn is_free(rows: [ProgramSet; 32], left: ProgramSet, p: u8) -> bool
+    requires { ⌜ (1 ≤ p) × (p ≤ 32) ⌝ }
+    ensures { λ r. ⌜ r ≡ free rows left p ⌝ }
+{
+    if !left.has(p) {
+        return false;
+    }
+    let i = (p - 1) as usize;
+    let row = rows[i];
+    !left.meets(row)
+}
+
+// The lowest-numbered program that no other remaining one holds back, or 0.
+fn lowest_free(rows: [ProgramSet; 32], left: ProgramSet) -> u8
+    ensures { λ r. ⌜ (r ≡ lowest rows left) × (r ≤ 32) ⌝ }
+{
+    let mut p: u8 = 1;
+    while p <= 32 {
+        if is_free(rows, left, p) {
+            return p;
+        }
+        p += 1;
+    }
+    0
+}
+
+// The order of the n programs left, from place k of `at` on: one is taken, then the same for the rest.
+fn search_rest(rows: [ProgramSet; 32], left: ProgramSet, n: usize, at: [u8; 32], k: usize) -> Order
+    requires { ⌜ k + n ≤ 32 ⌝ }
+    ensures { λ r. ⌜ r ≡ placed at k (orderFrom n rows left) ⌝ }
+{
+    if n == 0 {
+        return Order {
+            kind: Search::Found(k),
+            at: at,
+        };
+    }
+    let p = lowest_free(rows, left);
+    if p == 0 {
+        return Order {
+            kind: Search::Stuck,
+            at: [0u8; 32],
+        };
+    }
+    let rest = left.without(p);
+    let mut next = at;
+    next[k] = p;
+    search_rest(rows, rest, n - 1, next, k + 1)
+}
+
+// The carried order of the board's admitted programs.
+pub fn carried_order(b: Board) -> Order
+    ensures { λ r. ⌜ r ≡ asOrder (carried b) ⌝ }
+{
+    let rows = all_rows(b);
+    let left = admitted_set(b);
+    let n = admitted_count(b);
+    let none = [0u8; 32];
+    search_rest(rows, left, n as usize, none, 0)
+}
+
+// Whether an order comes back for the board.
+pub fn has_order(b: Board) -> bool
+    ensures { λ r. ⌜ r ≡ found (carried b) ⌝ }
+{
+    let order = carried_order(b);
+    let kind = order.kind;
+    let Search::Found(_) = kind else {
+        return false;
+    };
+    true
+}
+
+// ---- giving a file
+
+// Whether q, which is program i, is another than program p, and conflicts with it.
+fn conflicts_other(i: u8, q: Program, p: u8, me: Program) -> bool
+    ensures { λ r. ⌜ r ≡ not (eqb i p) && conflict q me ⌝ }
+{
+    if i == p {
+        return false;
+    }
+    q.conflicts(me)
+}
+
+// Whether another program has f in conflicting use: with f given, it and p would conflict.
+pub fn in_use(b: Board, p: u8, f: u8) -> bool
+    requires { ⌜ (1 ≤ p) × (p ≤ 32) ⌝ }
+    ensures { λ r. ⌜ r ≡ inUse b p f ⌝ }
+{
+    let k = (p - 1) as usize;
+    let q = b.programs[k];
+    let me = q.opening(f);
+    let mut i: u8 = 1;
+    while i <= 32 {
+        let j = (i - 1) as usize;
+        let other = b.programs[j];
+        if conflicts_other(i, other, p, me) {
+            return true;
+        }
+        i += 1;
+    }
+    false
+}
+
+// The board with f given to p.
+pub fn with_given(b: Board, p: u8, f: u8) -> Board
+    requires { ⌜ (1 ≤ p) × (p ≤ 32) ⌝ }
+    ensures { λ r. ⌜ r ≡ withGiven b p f ⌝ }
+{
+    let k = (p - 1) as usize;
+    let q = b.programs[k];
+    b.put(p, q.opening(f))
+}
+
+// Whether an open would give f to p.
+pub fn can_give(b: Board, p: u8, f: u8) -> bool
+    requires { ⌜ (1 ≤ p) × (p ≤ 32) ⌝ }
+    ensures { λ r. ⌜ r ≡ canGive b p f ⌝ }
+{
+    if in_use(b, p, f) {
+        return false;
+    }
+    has_order(with_given(b, p, f))
+}

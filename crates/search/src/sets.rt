@@ -1,0 +1,60 @@
+// Sets of programs, by value.
+use crate::ProgramSet;
+ghost use mathlib.Core.Path.{_≡_};
+ghost use Rattle.search.specs.ProgramSets.{hasProgram, withProgram, withoutProgram, programsMeet};
+
+impl ProgramSet {
+    // No program.
+    pub const EMPTY: ProgramSet = ProgramSet { bits: 0 };
+
+    // Whether p is a program of the set.
+    pub fn has(self, p: u8) -> bool
+        ensures { λ r. ⌜ r ≡ hasProgram self p ⌝ }
+    {
+        if p == 0 {
+            return false;
+        }
+        if 32 < p {
+            return false;
+        }
+        (self.bits >> (p - 1)) % 2 == 1
+    }
+
+    // The set and p; the set itself if p is no program.
+    pub fn with(self, p: u8) -> ProgramSet
+        ensures { λ r. ⌜ r ≡ withProgram self p ⌝ }
+    {
+        if p == 0 {
+            return self;
+        }
+        if 32 < p {
+            return self;
+        }
+        ProgramSet {
+            bits: self.bits | (1u32 << (p - 1)),
+        }
+    }
+
+    // The set but p.
+    pub fn without(self, p: u8) -> ProgramSet
+        ensures { λ r. ⌜ r ≡ withoutProgram self p ⌝ }
+    {
+        if p == 0 {
+            return self;
+        }
+        if 32 < p {
+            return self;
+        }
+        let m = 1u32 << (p - 1);
+        ProgramSet {
+            bits: (self.bits | m) - m,
+        }
+    }
+
+    // Whether the sets have a program in common.
+    pub fn meets(self, other: ProgramSet) -> bool
+        ensures { λ r. ⌜ r ≡ programsMeet self other ⌝ }
+    {
+        self.bits & other.bits != 0
+    }
+}

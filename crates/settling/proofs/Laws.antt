@@ -1,0 +1,230 @@
+-- Laws of settling. Assumes nothing.
+use mathlib.Core.Path.{_≡_, refl, sym, ap, ap₂, _∙_, subst}
+use mathlib.Core.Logic.{_≢_}
+use mathlib.Core.Bool.{Bool, true, false, not, cond, _&&_, _||_}
+use mathlib.Core.List.{List, [], _∷_, _++_, List·Memᴰ·head, List·Memᴰ·tail, List·Memᴰ·eq-of-singleton, List·Memᴰ·not-nil}
+use mathlib.Core.Option.{Option, none, some, Option·getD}
+use Prim.Native.Nat.{ℕ, zero, suc, _+_, _-_, _≤_, _<_}
+use native.Mathlib.Nat.{add-zero, zero-add, add-suc, suc-add, add-assoc}
+use native.Mathlib.Numerals.{add-one}
+use native.Mathlib.Omega.{arith}
+use lib.Dec.{eqb}
+use lib.ListN.{length, getD, set, drop, length-append}
+use lib.Seq.{sets}
+use borrow.Author.Tests.{eq-eqb, ne-eqb, eqb-true, eqb-false}
+use Rattle.files.proofs.Tests.{by-test, never}
+use Rattle.rules.specs.declared.Standing.{Standing}
+use Rattle.rules.specs.declared.Program.{Program}
+use Rattle.rules.specs.declared.Board.{Board}
+use Rattle.rules.specs.declared.Word.{Word}
+use Rattle.rules.specs.declared.Line.{Line}
+use Rattle.rules.specs.Lists.{all, first, withFound, names}
+use Rattle.rules.specs.Boards.{at, awaited, awaitedOf, isProgram, isWaiting, setEntry}
+use Rattle.rules.specs.Orders.{withGiven, canGive}
+use Rattle.rules.specs.Settling.{Step, line, still, andThen, unfavour, resume, tryGive, pass, candidate, favour, runHeld, choose, settle}
+use Rattle.theory.specs.Lists.{_∈_, Pairs, NoRepeat, here, by-option, each-all, first-some}
+use Rattle.theory.specs.Programs.{Is, of-is}
+use Rattle.theory.specs.Loose.{waitsIn, stands, waiting-file, Loose}
+use Rattle.theory.specs.Settling.{pass-passed}
+use Rattle.lines.proofs.Laws.{names-on, all-names-on}
+use Rattle.lines.proofs.Laws.{program-range, names-left}
+use Rattle.settling.specs.declared.Written.{Written}
+use Rattle.settling.specs.Writing.{after, Fits, admitOne, unused}
+
+-- ---- lines after lines
+
+sets-append : {A : Type 0} (l : List A) (i : ℕ) (xs ys : List A) → sets l i (xs ++ ys) ≡ sets (sets l i xs) (i + length xs) ys
+sets-append l i [] ys = ap (λ (n : ℕ). sets l n ys) (sym (add-zero i))
+sets-append l i (x ∷ xs) ys =
+    let e : suc i + length xs ≡ i + suc (length xs) = omega arith in
+    sets-append (set l i x) (suc i) xs ys ∙ ap (λ (n : ℕ). sets (sets (set l i x) (suc i) xs) n ys) e
+
+pub after-then : (w : Written) (s t : Step) → after (after w s) t ≡ after w (andThen (s .lines) t)
+after-then w s t =
+    rw (sets-append (w .lines) (w .count) (s .lines) (t .lines), length-append (s .lines) (t .lines), add-assoc (w .count) (length (s .lines)) (length (t .lines)))
+
+pub after-still : (w : Written) → w ≡ after w (still (w .board))
+after-still w = rw (add-zero (w .count))
+
+-- ---- the pass
+
+pub give-fits : (w : Written) (b : Board) (p f : ℕ) → canGive b p f ≡ true → Fits w (tryGive b p f) → w .count < 32
+unfolding tryGive
+give-fits w b p f e h = let k : w .count + 1 ≤ 32 = rw e at h in omega arith
+
+pub give-none : (w : Written) (p f : ℕ) → canGive (w .board) p f ≡ false → w ≡ after w (tryGive (w .board) p f)
+unfolding tryGive
+give-none w p f e = rw e (after-still w)
+
+pub give-some : (w : Written) (b : Board) (p f : ℕ) → canGive b p f ≡ true
+    → _≡_ {A = Written} (record { board = unfavour (resume (withGiven b p f) p) p; lines = set (w .lines) (w .count) (line Word.Given p f); count = w .count + 1 }) (after w (tryGive b p f))
+unfolding tryGive
+give-some w b p f e = rw e
+
+-- these are waiters, each once, of a board that is loose
+abbrev pub Ready : Board → List ℕ → Type 0
+Ready b ps = Loose b × NoRepeat ps × ((p : ℕ) → p ∈ ps → Is p × (waitsIn (b .programs) p ≡ true))
+
+pub ready-next : (b : Board) (p : ℕ) (ps : List ℕ) → Ready b (p ∷ ps) → Ready (tryGive b p (awaited b p) .board) ps
+unfolding pass Pairs
+ready-next b p ps r =
+    let q = pass-passed (p ∷ []) b (r .0) ((λ x m. absurd (List·Memᴰ·not-nil m)), tt) (λ x m. r .2 x (only x m)) in (
+      q .loose,
+      r .1 .1,
+      λ x m. let y = r .2 x (List·Memᴰ·tail m) in
+          (y .0, ap (λ (z : Program). isWaiting (z .standing)) (q .others x (y .0) (λ n. r .1 .0 x m (sym (List·Memᴰ·eq-of-singleton n)))) ∙ y .1),
+    )
+  where
+    only : (x : ℕ) → x ∈ p ∷ [] → x ∈ p ∷ ps
+    only x m = List·Memᴰ·head (List·Memᴰ·eq-of-singleton m)
+
+-- the waiters of line l from place k on are still to be asked, and s is what was written before that
+abbrev pub PassAt : Written → List ℕ → ℕ → Written → Type 0
+PassAt w l k s = Ready (s .board) (names (drop k l)) × Fits s (pass (names (drop k l)) (s .board))
+    × (after w (pass (names l) (w .board)) ≡ after s (pass (names (drop k l)) (s .board)))
+
+pub pass-start : (w : Written) → Loose (w .board) → Fits w (pass (names (w .board .waiting)) (w .board)) → PassAt w (w .board .waiting) 0 w
+pass-start w k f = ((k, k .waits .once, k .waits .of), f, refl)
+
+pub pass-over : (w s : Written) (l : List ℕ) (k : ℕ) → PassAt w l k s → names (drop k l) ≡ [] → s ≡ after w (pass (names l) (w .board))
+unfolding pass
+pass-over w s l k i e = after-still s ∙ sym (i .2 ∙ ap (λ (ps : List ℕ). after s (pass ps (s .board))) e)
+
+module _ (w s : Written) (l : List ℕ) (k : ℕ) (h : k < length l) (ne : getD l k 0 ≢ 0) (i : PassAt w l k s) where
+  p : ℕ
+  p = getD l k 0
+
+  ps : List ℕ
+  ps = names (drop (suc k) l)
+
+  ready-here : Ready (s .board) (getD l k 0 ∷ names (drop (suc k) l))
+  ready-here = subst (Ready (s .board)) (names-on l k h ne) (i .0)
+
+  fits-here : Fits s (pass (getD l k 0 ∷ names (drop (suc k) l)) (s .board))
+  fits-here = subst (λ (x : List ℕ). Fits s (pass x (s .board))) (names-on l k h ne) (i .1)
+
+  pub pass-range : ((1 ≤ getD l k 0) × (getD l k 0 ≤ 32))
+      × Fits s (tryGive (s .board) (getD l k 0) (awaited (s .board) (getD l k 0)))
+  unfolding pass
+  pass-range =
+      let r = ready-here .2 (getD l k 0) here .0 in
+      let t = tryGive (s .board) (getD l k 0) (awaited (s .board) (getD l k 0)) in
+      let n = length-append (t .lines) (pass (names (drop (suc k) l)) (t .board) .lines) in
+      ((r .least, r .most), omega (arith, fits-here, n))
+
+  pub pass-next : (u : Written) → u ≡ after s (tryGive (s .board) (getD l k 0) (awaited (s .board) (getD l k 0))) → PassAt w l (k + 1) u
+  unfolding pass
+  pass-next u e =
+      let t = tryGive (s .board) (getD l k 0) (awaited (s .board) (getD l k 0)) in
+      let n = length-append (t .lines) (pass (names (drop (suc k) l)) (t .board) .lines) in
+      rw (add-one k) (subst (PassAt w l (suc k)) (sym e) (
+        ready-next (s .board) (getD l k 0) (names (drop (suc k) l)) ready-here,
+        omega (arith, fits-here, n),
+        i .2 ∙ ap (λ (x : List ℕ). after s (pass x (s .board))) (names-on l k h ne) ∙ sym (after-then s t (pass (names (drop (suc k) l)) (t .board))),
+      ))
+
+-- ---- running those held
+
+pub held-lines : (ps : List ℕ) (b : Board) → length (runHeld ps b .lines) ≡ length ps
+unfolding runHeld
+held-lines [] b = refl
+held-lines (p ∷ ps) b = ap suc (held-lines ps (admitOne b p .board))
+
+abbrev pub HeldAt : Written → List ℕ → ℕ → Written → Type 0
+HeldAt w l k s = (all isProgram (names (drop k l)) ≡ true) × (s .count + length (names (drop k l)) ≤ 32)
+    × (after w (runHeld (names l) (w .board)) ≡ after s (runHeld (names (drop k l)) (s .board)))
+
+pub held-over : (w s : Written) (l : List ℕ) (k : ℕ) → HeldAt w l k s → names (drop k l) ≡ [] → s ≡ after w (runHeld (names l) (w .board))
+unfolding runHeld
+held-over w s l k i e = after-still s ∙ sym (i .2 ∙ ap (λ (ps : List ℕ). after s (runHeld ps (s .board))) e)
+
+pub held-next : (w s u : Written) (l : List ℕ) (k : ℕ) → k < length l → getD l k 0 ≢ 0 → HeldAt w l k s → u ≡ after s (admitOne (s .board) (getD l k 0)) → HeldAt w l (k + 1) u
+unfolding runHeld
+held-next w s u l k h ne i e =
+    let n : length (names (drop k l)) ≡ suc (length (names (drop (suc k) l))) = ap length (names-on l k h ne) in
+    rw (add-one k) (subst (HeldAt w l (suc k)) (sym e) (
+      names-left isProgram l k h ne (i .0),
+      omega (arith, i .1, n),
+      i .2 ∙ ap (λ (x : List ℕ). after s (runHeld x (s .board))) (names-on l k h ne) ∙ sym (after-then s (admitOne (s .board) (getD l k 0)) (runHeld (names (drop (suc k) l)) (admitOne (s .board) (getD l k 0) .board))),
+    ))
+
+pub held-room : (s : Written) (l : List ℕ) (k : ℕ) → k < length l → getD l k 0 ≢ 0 → s .count + length (names (drop k l)) ≤ 32 → s .count < 32
+held-room s l k h ne f = let n : length (names (drop k l)) ≡ suc (length (names (drop (suc k) l))) = ap length (names-on l k h ne) in omega (arith, f, n)
+
+-- ---- the waiter to be favoured
+
+pub first-names-on : (t : ℕ → Bool) (l : List ℕ) (k : ℕ) → k < length l → getD l k 0 ≢ 0 → first t (names (drop k l)) ≡ cond (t (getD l k 0)) (some (getD l k 0)) (first t (names (drop (suc k) l)))
+unfolding first
+first-names-on t l k h ne = rw (names-on l k h ne)
+
+pub first-none-left : (t : ℕ → Bool) (l : List ℕ) → l ≡ [] → first t l ≡ none
+unfolding first
+first-none-left t l e = rw e
+
+pub all-waiting : (b : Board) → Loose b → all isProgram (names (b .waiting)) ≡ true
+all-waiting b k = each-all isProgram (names (b .waiting)) (λ p m. of-is p (k .waits .of p m .0))
+
+pub all-held : (b : Board) → Loose b → all isProgram (names (b .entry)) ≡ true
+all-held b k = each-all isProgram (names (b .entry)) (λ p m. of-is p (k .helds .of p m .0))
+
+candidate-is : (b : Board) (p : ℕ) → Loose b → candidate b ≡ some p → Is p
+unfolding candidate
+candidate-is b p k e = k .waits .of p (first-some (unused b) (names (b .waiting)) p e .0) .0
+
+pub candidate-none : (b : Board) (n : ℕ) → Loose b → n ≡ Option·getD (candidate b) 0 → n ≡ 0 → candidate b ≡ none
+candidate-none b n k e z =
+    by-option (candidate b) (λ y. y) (λ p y. let m = candidate-is b p k y .least in let q : n ≡ p = rw y at e in absurd (omega arith))
+
+pub candidate-some : (b : Board) (n : ℕ) → Loose b → n ≡ Option·getD (candidate b) 0 → n ≢ 0 → (candidate b ≡ some n) × ((1 ≤ n) × (n ≤ 32))
+candidate-some b n k e z =
+    by-option (candidate b) (λ y. let q : n ≡ 0 = rw y at e in absurd (z q))
+    (λ p y. let q : n ≡ p = rw y at e in let i = candidate-is b p k y in let l = i .least in let m = i .most in (y ∙ ap some (sym q), (omega arith, omega arith)))
+
+-- ---- choosing
+
+module _ (w : Written) where
+  pub choose-still : w .board .favoured ≢ 0 → w ≡ after w (choose (w .board))
+  unfolding choose
+  choose-still n = rw (ne-eqb (w .board .favoured) 0 n) (after-still w)
+
+  choose-held : w .board .favoured ≡ 0 → candidate (w .board) ≡ none → choose (w .board) ≡ runHeld (names (w .board .entry)) (setEntry (w .board) [])
+  unfolding choose
+  choose-held e c = rw (eq-eqb (w .board .favoured) 0 e, c)
+
+  choose-favour : (p : ℕ) → w .board .favoured ≡ 0 → candidate (w .board) ≡ some p → choose (w .board) ≡ favour (w .board) p
+  unfolding choose
+  choose-favour p e c = rw (eq-eqb (w .board .favoured) 0 e, c)
+
+  pub run-held-is : w .board .favoured ≡ 0 → candidate (w .board) ≡ none → after w (runHeld (names (w .board .entry)) (setEntry (w .board) [])) ≡ after w (choose (w .board))
+  run-held-is e c = ap (after w) (sym (choose-held e c))
+
+  pub favour-is : (p : ℕ) → w .board .favoured ≡ 0 → candidate (w .board) ≡ some p → after w (favour (w .board) p) ≡ after w (choose (w .board))
+  favour-is p e c = ap (after w) (sym (choose-favour p e c))
+
+  pub held-fits : w .board .favoured ≡ 0 → candidate (w .board) ≡ none → Fits w (choose (w .board)) → w .count + length (names (w .board .entry)) ≤ 32
+  held-fits e c f =
+      let a : Fits w (runHeld (names (w .board .entry)) (setEntry (w .board) [])) = subst (Fits w) (choose-held e c) f in
+      let n = held-lines (names (w .board .entry)) (setEntry (w .board) []) in omega (arith, a, n)
+
+  pub favour-fits : (p : ℕ) → w .board .favoured ≡ 0 → candidate (w .board) ≡ some p → Fits w (choose (w .board)) → w .count < 32
+  unfolding favour
+  favour-fits p e c f = let a : w .count + 1 ≤ 32 = subst (Fits w) (choose-favour p e c) f in omega arith
+
+  -- ---- settling
+
+  pub settle-loose : (s : Written) → s ≡ after w (pass (names (w .board .waiting)) (w .board)) → Loose (w .board) → Loose (s .board)
+  settle-loose s e k = subst (λ (x : Written). Loose (x .board)) (sym e) (pass-passed (names (w .board .waiting)) (w .board) k (k .waits .once) (k .waits .of) .loose)
+
+  settle-lines : length (settle (w .board) .lines) ≡ length (pass (names (w .board .waiting)) (w .board) .lines) + length (choose (pass (names (w .board .waiting)) (w .board) .board) .lines)
+  unfolding settle
+  settle-lines = length-append (pass (names (w .board .waiting)) (w .board) .lines) (choose (pass (names (w .board .waiting)) (w .board) .board) .lines)
+
+  pub settle-fits-pass : Fits w (settle (w .board)) → Fits w (pass (names (w .board .waiting)) (w .board))
+  settle-fits-pass f = omega (arith, f, settle-lines)
+
+  pub settle-fits-choose : (s : Written) → s ≡ after w (pass (names (w .board .waiting)) (w .board)) → Fits w (settle (w .board)) → Fits s (choose (s .board))
+  settle-fits-choose s e f = subst (λ (x : Written). Fits x (choose (x .board))) (sym e) (omega (arith, f, settle-lines))
+
+  pub settle-is : (s : Written) → s ≡ after w (pass (names (w .board .waiting)) (w .board)) → after s (choose (s .board)) ≡ after w (settle (w .board))
+  unfolding settle
+  settle-is s e = ap (λ (x : Written). after x (choose (x .board))) e ∙ after-then w (pass (names (w .board .waiting)) (w .board)) (choose (pass (names (w .board .waiting)) (w .board) .board))

@@ -1,0 +1,259 @@
+// Settling.
+use rules::Board;
+use rules::Line;
+use rules::Standing;
+use rules::Word;
+ghost use mathlib.Core.Path.{_≡_};
+ghost use mathlib.Core.Bool.{true};
+ghost use mathlib.Core.List.{[]};
+ghost use mathlib.Core.Option.{Option·getD};
+ghost use Prim.Native.Nat.{_+_, _≤_, _<_};
+ghost use lib.ListN.{length, set};
+ghost use Rattle.rules.specs.Lists.{all, names};
+ghost use Rattle.rules.specs.Boards.{awaited, isProgram, setEntry};
+ghost use Rattle.rules.specs.Settling.{unfavour, resume, tryGive, pass, candidate, favour, runHeld, choose, settle};
+ghost use Rattle.theory.specs.Loose.{Loose};
+ghost use Rattle.settling.specs.Writing.{after, Fits, admitOne};
+
+// A board, and the lines written so far: the first `count` of `lines`.
+pub struct Written {
+    pub board: Board,
+    pub lines: [Line; 32],
+    pub count: u8,
+}
+
+// The lines with one more.
+fn add_line(lines: [Line; 32], count: u8, l: Line) -> [Line; 32]
+    requires { ⌜ count < 32 ⌝ }
+    ensures { λ r. ⌜ r ≡ set lines count l ⌝ }
+{
+    let n = count as usize;
+    let mut more = lines;
+    more[n] = l;
+    more
+}
+
+// The waiter p runs, out of the waiting line.
+fn resumed(b: Board, p: u8) -> Board
+    requires { ⌜ (1 ≤ p) × (p ≤ 32) ⌝ }
+    ensures { λ r. ⌜ r ≡ resume b p ⌝ }
+{
+    let i = (p - 1) as usize;
+    let q = b.programs[i];
+    let runs = q.at_standing(Standing::Running);
+    let line = b.waiting;
+    let rest = lines::remove(line, p);
+    let mut c = b.put(p, runs);
+    c.waiting = rest;
+    c
+}
+
+// A favoured program that is given its file is favoured no longer.
+fn unfavoured(b: Board, p: u8) -> Board
+    ensures { λ r. ⌜ r ≡ unfavour b p ⌝ }
+{
+    let f = b.favoured;
+    if f == p {
+        let mut c = b;
+        c.favoured = 0;
+        c.initial = 0;
+        c.leaves = 0;
+        return c;
+    }
+    b
+}
+
+// The waiter p is given its file, if an open would now give it: a GIVEN line.
+fn give_waiter(w: Written, p: u8) -> Written
+    requires { ⌜ ((1 ≤ p) × (p ≤ 32)) × Fits w (tryGive (w .board) p (awaited (w .board) p)) ⌝ }
+    ensures { λ r. ⌜ r ≡ after w (tryGive (w .board) p (awaited (w .board) p)) ⌝ }
+{
+    let b = w.board;
+    let f = b.awaited(p);
+    if !search::can_give(b, p, f) {
+        return w;
+    }
+    let given = search::with_given(b, p, f);
+    let runs = resumed(given, p);
+    let c = unfavoured(runs, p);
+    let n = w.count;
+    let lines = w.lines;
+    let more = add_line(
+        lines,
+        n,
+        Line {
+            word: Word::Given,
+            program: p,
+            file: f,
+            refusal: 0,
+        },
+    );
+    Written {
+        board: c,
+        lines: more,
+        count: n + 1,
+    }
+}
+
+// Once through the waiting line, from the oldest.
+fn pass_line(w: Written) -> Written
+    requires { ⌜ Loose (w .board) × Fits w (pass (names (w .board .waiting)) (w .board)) ⌝ }
+    ensures { λ r. ⌜ r ≡ after w (pass (names (w .board .waiting)) (w .board)) ⌝ }
+{
+    let b = w.board;
+    let line = b.waiting;
+    let mut s = w;
+    let mut k: usize = 0;
+    while k < 32 {
+        let p = line[k];
+        if p == 0 {
+            return s;
+        }
+        s = give_waiter(s, p);
+        k += 1;
+    }
+    s
+}
+
+// The oldest waiter whose file is in no conflicting use, or 0.
+fn oldest_unused(b: Board) -> u8
+    requires { ⌜ all isProgram (names (b .waiting)) ≡ true ⌝ }
+    ensures { λ r. ⌜ r ≡ Option·getD (candidate b) 0 ⌝ }
+{
+    let line = b.waiting;
+    let mut k: usize = 0;
+    while k < 32 {
+        let p = line[k];
+        if p == 0 {
+            return 0;
+        }
+        let f = b.awaited(p);
+        if !search::in_use(b, p, f) {
+            return p;
+        }
+        k += 1;
+    }
+    0
+}
+
+// The waiter p becomes favoured, with the number admitted and a leave count of 0: a FAVOUR line.
+fn favour_waiter(w: Written, p: u8) -> Written
+    requires { ⌜ ((1 ≤ p) × (p ≤ 32)) × (w .count < 32) ⌝ }
+    ensures { λ r. ⌜ r ≡ after w (favour (w .board) p) ⌝ }
+{
+    let b = w.board;
+    let f = b.awaited(p);
+    let admitted = search::admitted_count(b);
+    let mut c = b;
+    c.favoured = p;
+    c.initial = admitted;
+    c.leaves = 0;
+    let n = w.count;
+    let lines = w.lines;
+    let more = add_line(
+        lines,
+        n,
+        Line {
+            word: Word::Favour,
+            program: p,
+            file: f,
+            refusal: 0,
+        },
+    );
+    Written {
+        board: c,
+        lines: more,
+        count: n + 1,
+    }
+}
+
+// The held program p runs: an ADMIT line.
+fn admit_held(w: Written, p: u8) -> Written
+    requires { ⌜ ((1 ≤ p) × (p ≤ 32)) × (w .count < 32) ⌝ }
+    ensures { λ r. ⌜ r ≡ after w (admitOne (w .board) p) ⌝ }
+{
+    let b = w.board;
+    let i = (p - 1) as usize;
+    let q = b.programs[i];
+    let runs = q.at_standing(Standing::Running);
+    let c = b.put(p, runs);
+    let n = w.count;
+    let lines = w.lines;
+    let more = add_line(
+        lines,
+        n,
+        Line {
+            word: Word::Admit,
+            program: p,
+            file: 0,
+            refusal: 0,
+        },
+    );
+    Written {
+        board: c,
+        lines: more,
+        count: n + 1,
+    }
+}
+
+// The programs of a line run, in line order.
+fn admit_line(w: Written, line: [u8; 32]) -> Written
+    requires { ⌜ (all isProgram (names line) ≡ true) × (w .count + length (names line) ≤ 32) ⌝ }
+    ensures { λ r. ⌜ r ≡ after w (runHeld (names line) (w .board)) ⌝ }
+{
+    let mut s = w;
+    let mut k: usize = 0;
+    while k < 32 {
+        let p = line[k];
+        if p == 0 {
+            return s;
+        }
+        s = admit_held(s, p);
+        k += 1;
+    }
+    s
+}
+
+// All held programs run, and the entry line is empty.
+fn admit_all(w: Written) -> Written
+    requires { ⌜ (all isProgram (names (w .board .entry)) ≡ true) × (w .count + length (names (w .board .entry)) ≤ 32) ⌝ }
+    ensures { λ r. ⌜ r ≡ after w (runHeld (names (w .board .entry)) (setEntry (w .board) [])) ⌝ }
+{
+    let mut c = w.board;
+    let line = c.entry;
+    c.entry = [0u8; 32];
+    let lines = w.lines;
+    let n = w.count;
+    let s = Written {
+        board: c,
+        lines: lines,
+        count: n,
+    };
+    admit_line(s, line)
+}
+
+// If nobody is favoured, the oldest waiter whose file is not in use is; if there is none, all held programs run.
+fn choose_next(w: Written) -> Written
+    requires { ⌜ Loose (w .board) × Fits w (choose (w .board)) ⌝ }
+    ensures { λ r. ⌜ r ≡ after w (choose (w .board)) ⌝ }
+{
+    let b = w.board;
+    let favoured = b.favoured;
+    if favoured != 0 {
+        return w;
+    }
+    let p = oldest_unused(b);
+    if p == 0 {
+        return admit_all(w);
+    }
+    favour_waiter(w, p)
+}
+
+// Settle: through the waiting line once from the oldest, then favour or run those held.
+pub fn settled(w: Written) -> Written
+    requires { ⌜ Loose (w .board) × Fits w (settle (w .board)) ⌝ }
+    ensures { λ r. ⌜ r ≡ after w (settle (w .board)) ⌝ }
+{
+    let s = pass_line(w);
+    choose_next(s)
+}

@@ -1,0 +1,53 @@
+-- `has_all` meets its contract. Assumes nothing.
+use mathlib.Core.Path.{_≡_, refl, sym, _∙_}
+use Prim.Native.Nat.{_-_, _≤_}
+use native.Mathlib.Numerals.{add-one}
+use native.Mathlib.Omega.{arith}
+use borrow.Author.Tests.{not-true, not-false}
+use borrow.Author.Needs.{needs}
+use Rattle.rules.specs.Lists.{all, rising}
+use Rattle.rules.specs.Boards.{everyone, at}
+use Rattle.rules.specs.Settling.{line}
+use Rattle.search.proofs.Laws.{all-step, all-end}
+use Rattle.sound.specs.Parts.{inLine}
+use Rattle.sound.proofs.has_all.Statement.{statement}
+use Rattle.sound.proofs.has_all.Tie as tie
+
+abbrev Inv-loop : tie.InvT-loop
+Inv-loop line held b p₀ p = (1 ≤ p) × (p ≤ 33) × (all (inLine b line held) everyone ≡ all (inLine b line held) (rising (33 - p) p))
+
+abbrev μ-loop : tie.MeasureT-loop
+μ-loop line held b p₀ p = 33 - p
+
+loop-holds : tie.Need-loop-holds Inv-loop μ-loop
+unfolding everyone
+loop-holds c = (search needs, search needs, refl)
+
+returns : tie.Need-returns Inv-loop μ-loop
+returns c = let l = c .before .before .before .before .loop in let a = c .before .before .before .before .before .args in
+    sym (rw (sym (c .before .is-in-line .ensures) ∙ not-true (c .before .is-in-line .result) (c .if1 .taken)) at (l .inv .2 ∙ all-step (inLine (a .t1) (a .line) (a .held)) (l .p) (omega arith)))
+
+loop-again : tie.Need-loop-again Inv-loop μ-loop
+loop-again c = let l = c .before .before .before .before .loop in let a = c .before .before .before .before .before .args in
+    (search needs, search needs, rw (add-one (l .p)) (rw (sym (c .before .is-in-line .ensures) ∙ not-false (c .before .is-in-line .result) (c .if1 .left)) at (l .inv .2 ∙ all-step (inLine (a .t1) (a .line) (a .held)) (l .p) (omega arith))))
+
+returns-2 : tie.Need-returns-2 Inv-loop μ-loop
+returns-2 c = let l = c .before .loop in let a = c .before .before .args in sym (l .inv .2 ∙ all-end (inLine (a .t1) (a .line) (a .held)) (l .p) (omega arith))
+
+pub has-all-spec : {M : Type 1} → statement M
+has-all-spec =
+    tie.close
+    (tie.spec
+    Inv-loop
+    μ-loop
+    loop-holds
+    (λ c. search needs)
+    (λ c. search needs)
+    (λ c. search needs)
+    (λ c. search needs)
+    (λ c κs. search needs)
+    returns
+    (λ c. search needs)
+    (λ c. search needs)
+    loop-again
+    returns-2)

@@ -1,0 +1,126 @@
+-- What demand 3 says of a list of calls, as one record, `Demand3`. `demand3` of Demand3Proof proves it of every non-empty list.
+-- Assumes nothing.
+use Prim.Native.Nat.{ℕ, _+_, _≤_}
+use mathlib.Core.Path.{_≡_}
+use mathlib.Core.Logic.{_↔_, _≢_, _⊎_}
+use mathlib.Core.Bool.{true, false, cond}
+use mathlib.Core.List.{List, [], _∷_, _++_}
+use lib.ListN.{length}
+use Rattle.rules.specs.declared.Board.{Board}
+use Rattle.rules.specs.declared.Answer.{Answer}
+use Rattle.rules.specs.declared.Word.{Word}
+use Rattle.rules.specs.declared.Reply.{Reply}
+use Rattle.rules.specs.Boards.{isWaiting, emptyBoard, at, admitted, opening}
+use Rattle.rules.specs.Orders.{conflict, holdsBack, withGiven}
+use Rattle.rules.specs.Settling.{line}
+use Rattle.rules.specs.Replies.{settlingLines, refused, linesOf, orderOf}
+use Rattle.rules.specs.Calls.{Call, Enter, Open, Close, Drop, Leave, apply}
+use Rattle.rules.specs.Worked.{worked, repliesFrom, directFrom}
+use Rattle.theory.specs.Lists.{_∈_}
+use Rattle.theory.specs.Order.{Names}
+use Rattle.theory.specs.Programs.{Is}
+use Rattle.theory.specs.Carried.{EveryOrderHeld}
+
+-- ══ The words of demand 3 ══
+
+-- The worked reply to the call c that comes after the calls xs of the list.
+abbrev pub replyAfter : List Call → Call → Reply
+replyAfter xs c = apply (worked xs) c
+
+-- "A call is accepted if it isn't refused."
+abbrev pub Accepted : List Call → Call → Type 0
+Accepted xs c = refused (replyAfter xs c .answer) ≡ false
+
+-- "An accepted open waits if its answer is WAIT or UNSAFE."
+abbrev pub Waits : Answer → Type 0
+Waits a = (a ≡ Answer.Wait) ⊎ (a ≡ Answer.Unsafe)
+
+-- "Another program has f in conflicting use if, with f given, it and p would conflict."
+abbrev pub ConflictingUse : Board → ℕ → ℕ → Type 0
+ConflictingUse b p f = (i : ℕ) × Is i × (i ≢ p) × (conflict (at b i) (opening (at b p) f) ≡ true)
+
+-- The number of programs admitted after the calls xs.
+abbrev pub admittedAfter : List Call → ℕ
+admittedAfter xs = length (admitted (worked xs))
+
+-- 1 if the call is an accepted leave, and 0 otherwise; xs are the calls before it.
+abbrev pub acceptedLeave : List Call → Call → ℕ
+acceptedLeave xs (Enter p v q) = 0
+acceptedLeave xs (Open p f) = 0
+acceptedLeave xs (Close p f) = 0
+acceptedLeave xs (Drop p f) = 0
+acceptedLeave xs (Leave p) = cond (refused (replyAfter xs (Leave p) .answer)) 0 1
+
+-- The number of accepted leave calls among ys, which come after the calls xs.
+unfoldable pub leavesIn : List Call → List Call → ℕ
+leavesIn xs [] = 0
+leavesIn xs (c ∷ ys) = acceptedLeave xs c + leavesIn (xs ++ (c ∷ [])) ys
+
+-- The call c after the calls xs has a FAVOUR line for p, with the file f.
+abbrev pub Favours : List Call → Call → ℕ → ℕ → Type 0
+Favours xs c p f = line Word.Favour p f ∈ linesOf (replyAfter xs c)
+
+-- The reply r stands in the list after n others.
+pub record StandsAt (n : ℕ) (r : Reply) (rs : List Reply) : Type 0 where
+  pub earlier : List Reply
+  pub later : List Reply
+  pub split : rs ≡ earlier ++ (r ∷ later)
+  pub place : length earlier ≡ n
+
+-- ══ The sentences of demand 3 ══
+
+-- "After the list, the order of completion in the last answer names each admitted program exactly once, has none held back by a later one
+-- and, unless empty, begins with a program that isn't waiting."
+pub record LastOrder (cs : List Call) : Type 0 where
+  pub earlier : List Reply
+  pub last : Reply
+  pub last-answer : directFrom emptyBoard cs ≡ earlier ++ (last ∷ [])
+  pub names-each-once : Names (admitted (worked cs)) (orderOf last)
+  pub none-held-back : (before after : List ℕ) (i j : ℕ) → orderOf last ≡ before ++ (i ∷ after) → j ∈ after → holdsBack (at (worked cs) j) (at (worked cs) i) ≡ false
+  pub first-not-waiting : (p : ℕ) (rest : List ℕ) → orderOf last ≡ p ∷ rest → isWaiting (at (worked cs) p .standing) ≡ false
+
+-- "While a program is favoured, the accepted leaves after the call that favoured it and the programs now admitted add up to the number
+-- admitted after that call." xs are the calls up to now. "The call that favoured a program is the latest of these whose lines have FAVOUR for it."
+pub record FavouredBy (xs : List Call) (p : ℕ) : Type 0 where
+  pub before : List Call
+  pub call : Call
+  pub after : List Call
+  pub split : xs ≡ before ++ (call ∷ after)
+  pub file : ℕ
+  pub favours : Favours before call p file
+  pub latest : (us vs : List Call) (d : Call) (f : ℕ) → after ≡ us ++ (d ∷ vs) → Favours (before ++ (call ∷ us)) d p f → ⊥
+  pub adds-up : leavesIn (before ++ (call ∷ [])) after + admittedAfter xs ≡ admittedAfter (before ++ (call ∷ []))
+  -- "the board's two numbers are the number admitted after that call and the count of these leaves"
+  pub number : worked xs .initial ≡ admittedAfter (before ++ (call ∷ []))
+  pub count : worked xs .leaves ≡ leavesIn (before ++ (call ∷ [])) after
+  -- while it is favoured, those leaves have not yet come to that number less one
+  pub to-come : leavesIn (before ++ (call ∷ [])) after + 2 ≤ admittedAfter (before ++ (call ∷ []))
+
+-- A call of ys, which come after the calls xs, gives p the file f by "a GIVEN line of settling", and "that wait is then over".
+pub record GetsFile (xs ys : List Call) (p f : ℕ) : Type 0 where
+  pub before : List Call
+  pub call : Call
+  pub after : List Call
+  pub split : ys ≡ before ++ (call ∷ after)
+  pub given : line Word.Given p f ∈ settlingLines (replyAfter (xs ++ before) call)
+  pub wait-over : isWaiting (at (worked (xs ++ (before ++ (call ∷ [])))) p .standing) ≡ false
+
+pub record Demand3 (cs : List Call) : Type 0 where
+  -- "each answer is the one that 01's rules give when worked through the list": the replies of direct calls, the first handed the empty board
+  -- and each later one the board that the call before it gave back, are the worked ones, with their boards, lines and orders
+  pub answers : directFrom emptyBoard cs ≡ repliesFrom emptyBoard cs
+  -- the reply to each call of the list is the one that the sentences below speak of
+  pub each : (xs ys : List Call) (c : Call) → cs ≡ xs ++ (c ∷ ys) → StandsAt (length xs) (replyAfter xs c) (directFrom emptyBoard cs)
+  -- the sentence on the last answer's order
+  pub order : LastOrder cs
+  -- "An accepted open in the list waits exactly when another program has its file in conflicting use or, with the file given, every order of
+  -- the admitted programs has one held back by a later one."
+  pub waits : (xs ys : List Call) (p f : ℕ) → cs ≡ xs ++ (Open p f ∷ ys) → Accepted xs (Open p f)
+      → Waits (replyAfter xs (Open p f) .answer) ↔ (ConflictingUse (worked xs) p f ⊎ EveryOrderHeld (withGiven (worked xs) p f))
+  -- the sentence on the sum, after each call of the list
+  pub favoured : (xs ys : List Call) (p : ℕ) → cs ≡ xs ++ ys → p ≢ 0 → worked xs .favoured ≡ p → FavouredBy xs p
+  -- "It gets its file at the latest with the leave that brings those leaves to that number less one, and that wait is then over."
+  -- c favours p with the file f, and `Leave q` is that leave.
+  pub gets : (xs ys zs : List Call) (c : Call) (p f q : ℕ) → cs ≡ xs ++ (c ∷ (ys ++ (Leave q ∷ zs))) → Favours xs c p f
+      → Accepted (xs ++ (c ∷ ys)) (Leave q) → leavesIn (xs ++ (c ∷ [])) (ys ++ (Leave q ∷ [])) + 1 ≡ admittedAfter (xs ++ (c ∷ []))
+      → GetsFile (xs ++ (c ∷ [])) (ys ++ (Leave q ∷ [])) p f

@@ -1,0 +1,287 @@
+-- The proof of demand 3: `demand3`.
+-- Assumes nothing.
+use Prim.Native.Nat.{ℕ, suc, _≤_, _+_}
+use native.Mathlib.Omega.{arith}
+use mathlib.Core.Path.{_≡_, refl, sym, _∙_, ap, ap₂, subst}
+use mathlib.Core.Logic.{_↔_, _≢_, _⊎_, inl, inr, ⊎-elim}
+use mathlib.Core.Bool.{true, false}
+use mathlib.Core.List.{List, [], _∷_, _++_}
+use lib.ListN.{length}
+use Rattle.files.proofs.Tests.{by-test, never}
+use Rattle.rules.specs.declared.Board.{Board}
+use Rattle.rules.specs.declared.Answer.{Answer}
+use Rattle.rules.specs.declared.Word.{Word}
+use Rattle.rules.specs.declared.Line.{Line}
+use Rattle.rules.specs.declared.Reply.{Reply}
+use Rattle.rules.specs.Boards.{isWaiting, emptyBoard, at, awaited, awaitedOf, admitted}
+use Rattle.rules.specs.Orders.{holdsBack, withGiven, inUse, safe}
+use Rattle.rules.specs.Settling.{line}
+use Rattle.rules.specs.Replies.{settlingLines, refused, reply, orderOf}
+use Rattle.rules.specs.Calls.{openFile, done, leave, Call, Enter, Open, Close, Drop, Leave, checked, apply}
+use Rattle.rules.specs.Worked.{workedFrom, worked, repliesFrom, directFrom}
+use Rattle.theory.specs.Lists.{_∈_, Pairs, Pairs-split}
+use Rattle.theory.specs.Order.{Names, IsOrder}
+use Rattle.theory.specs.Programs.{admitted-is, inUse-is, used-by, by-used}
+use Rattle.theory.specs.Loose.{stands}
+use Rattle.theory.specs.Settling.{Newly}
+use Rattle.theory.specs.Calls.{stepOf, by-check, FavourMore, EndedIn, Stepped, countIf, none-counted, leavesBy, apply-accepted, apply-stepped}
+use Rattle.theory.specs.Carried.{holdsOn, EveryOrderHeld, unsafe-iff}
+use Rattle.theory.specs.Worked.{append-nil, append-assoc, worked-good, worked-snoc, direct-worked, replies-split, passed-of, order-of-reply, first-runs, favoured-bound}
+use Rattle.theory.specs.Demand3.{replyAfter, Accepted, Waits, ConflictingUse, admittedAfter, acceptedLeave, leavesIn, Favours, StandsAt, LastOrder, FavouredBy, GetsFile, Demand3}
+
+step : (xs : List Call) (c : Call) → Stepped (worked xs) (leavesBy (worked xs) c) (stepOf (replyAfter xs c))
+step xs c = apply-stepped (worked xs) c (worked-good xs)
+
+-- ── Lists from their end ──
+
+pub by-end : (D : List Call → Type 0) → D [] → ((xs : List Call) (c : Call) → D xs → D (xs ++ (c ∷ []))) → (xs : List Call) → D xs
+by-end D z s xs = go [] xs z
+  where
+    go : (done left : List Call) → D done → D (done ++ left)
+    go done [] h = subst D (sym (append-nil done)) h
+    go done (c ∷ left) h = subst D (append-assoc done (c ∷ []) left) (go (done ++ (c ∷ [])) left (s done c h))
+
+-- Where a list with one more at its end is split, the split is at the end, or before it.
+snoc-split : (xs us vs : List Call) (c d : Call) → xs ++ (c ∷ []) ≡ us ++ (d ∷ vs) → ((us ≡ xs) × (d ≡ c)) ⊎ ((ws : List Call) × (xs ≡ us ++ (d ∷ ws)))
+snoc-split [] [] vs c d e = inl (refl, let k : d ≡ c = cc in k)
+snoc-split [] (u ∷ us) vs c d e = absurd (let k = ap length e in let j = lib.ListN.length-append us (d ∷ vs) in omega arith)
+snoc-split (x ∷ xs) [] vs c d e = inr (xs, let k : x ≡ d = cc in ap (_∷ xs) k)
+snoc-split (x ∷ xs) (u ∷ us) vs c d e =
+    let k : x ≡ u = cc in
+    let r : xs ++ (c ∷ []) ≡ us ++ (d ∷ vs) = cc in
+    ⊎-elim (λ z. inl (ap₂ _∷_ (sym k) (z .0), z .1)) (λ z. inr (z .0, ap₂ _∷_ k (z .1))) (snoc-split xs us vs c d r)
+
+-- ── Leaves ──
+
+leave-answer : (b : Board) (p : ℕ) → refused (leave b p .answer) ≡ false
+unfolding leave done reply
+leave-answer b p = refl
+
+-- What the rules count is what the list counts.
+leaves-same : (xs : List Call) (c : Call) → leavesBy (worked xs) c ≡ acceptedLeave xs c
+leaves-same xs (Enter p v q) = none-counted (checked (worked xs) (Enter p v q))
+leaves-same xs (Open p f) = none-counted (checked (worked xs) (Open p f))
+leaves-same xs (Close p f) = none-counted (checked (worked xs) (Close p f))
+leaves-same xs (Drop p f) = none-counted (checked (worked xs) (Drop p f))
+leaves-same xs (Leave p) = by-test (refused (replyAfter xs (Leave p) .answer))
+    (λ t. rw t (by-check (checked (worked xs) (Leave p))
+    (λ e. never t (ap (λ (r : Reply). refused (r .answer)) (apply-accepted (worked xs) (Leave p) e) ∙ leave-answer (worked xs) p))
+    (λ r e. ap (λ k. countIf k 1) e)))
+    (λ t. rw t (ap (λ k. countIf k 1) (passed-of (worked xs) (Leave p) t)))
+
+leavesIn-snoc : (xs ys : List Call) (c : Call) → leavesIn xs (ys ++ (c ∷ [])) ≡ leavesIn xs ys + acceptedLeave (xs ++ ys) c
+unfolding leavesIn
+leavesIn-snoc xs [] c = rw (append-nil xs) (omega arith)
+leavesIn-snoc xs (y ∷ ys) c =
+    let i = leavesIn-snoc (xs ++ (y ∷ [])) ys c in
+    let j : acceptedLeave ((xs ++ (y ∷ [])) ++ ys) c ≡ acceptedLeave (xs ++ (y ∷ ys)) c = ap (λ l. acceptedLeave l c) (append-assoc xs (y ∷ []) ys) in
+    omega arith
+
+-- ── Each answer ──
+
+replies-length : (b : Board) (xs : List Call) → length (repliesFrom b xs) ≡ length xs
+unfolding repliesFrom
+replies-length b [] = refl
+replies-length b (x ∷ xs) = ap suc (replies-length (apply b x .board) xs)
+
+stands-at : (cs xs ys : List Call) (c : Call) → cs ≡ xs ++ (c ∷ ys) → StandsAt (length xs) (replyAfter xs c) (directFrom emptyBoard cs)
+stands-at cs xs ys c e = record {
+  earlier = repliesFrom emptyBoard xs;
+  later = repliesFrom (replyAfter xs c .board) ys;
+  split = ap (directFrom emptyBoard) e ∙ direct-worked (xs ++ (c ∷ ys)) ∙ replies-split xs ys c;
+  place = replies-length emptyBoard xs;
+}
+
+-- ── The last answer ──
+
+at-end : (xs : List Call) (c : Call) → LastOrder (xs ++ (c ∷ []))
+unfolding repliesFrom
+at-end xs c = record {
+  earlier = repliesFrom emptyBoard xs;
+  last = replyAfter xs c;
+  last-answer = direct-worked (xs ++ (c ∷ [])) ∙ replies-split xs [] c;
+  names-each-once = subst (λ b. Names (admitted b) o) (sym e) (record { all = i .all; only = i .only; once = i .once });
+  none-held-back = λ before after k j d m. subst (λ b. holdsBack (at b j) (at b k) ≡ false) (sym e) (Pairs-split (λ x y. holdsOn (replyAfter xs c .board) y x ≡ false) before after k j (subst (λ l. Pairs (λ x y. holdsOn (replyAfter xs c .board) y x ≡ false) l) d (i .clear)) m);
+  first-not-waiting = λ p rest d. subst (λ b. isWaiting (at b p .standing) ≡ false) (sym e) (first-runs (replyAfter xs c .board) p rest (step xs c .good) (subst (IsOrder (holdsOn (replyAfter xs c .board)) (admitted (replyAfter xs c .board))) d i));
+}
+  where
+    o : List ℕ
+    o = orderOf (replyAfter xs c)
+
+    e : worked (xs ++ (c ∷ [])) ≡ replyAfter xs c .board
+    e = worked-snoc xs c
+
+    i : IsOrder (holdsOn (replyAfter xs c .board)) (admitted (replyAfter xs c .board)) o
+    i = order-of-reply (worked xs) c (worked-good xs)
+
+last-order : (cs : List Call) → cs ≢ [] → LastOrder cs
+last-order cs n = by-end (λ l. l ≢ [] → LastOrder l) (λ z. absurd (z refl)) (λ xs c _ _. at-end xs c) cs n
+
+-- ── Opens ──
+
+used-iff : (b : Board) (p f : ℕ) → (inUse b p f ≡ true) ↔ ConflictingUse b p f
+used-iff b p f = (λ e. used-by (b .programs) p f (sym (inUse-is b p f) ∙ e), λ u. inUse-is b p f ∙ by-used (b .programs) p f (u .0) (u .1) (u .2) (u .3))
+
+open-answer : (b : Board) (p f : ℕ) → Waits (openFile b p f .answer) ↔ (ConflictingUse b p f ⊎ EveryOrderHeld (withGiven b p f))
+unfolding openFile reply
+open-answer b p f = by-test (inUse b p f)
+    (λ t. (λ _. inl (used-iff b p f .0 t), λ _. inl (rw t)))
+    (λ t. by-test (safe b p f)
+    (λ u. (
+      λ w. absurd (given-waits (rw (t, u) at w)),
+      λ s. ⊎-elim (λ k. never (used-iff b p f .1 k) t) (λ k. never u (unsafe-iff b p f .1 k)) s,
+    ))
+    (λ u. (λ _. inr (unsafe-iff b p f .0 u), λ _. inr (rw (t, u)))))
+  where
+    given-waits : Waits Answer.Given → ⊥
+    given-waits (inl e) = let z : _≡_ {A = ℕ} 0 1 = cc in omega arith
+    given-waits (inr e) = let z : _≡_ {A = ℕ} 0 1 = cc in omega arith
+
+open-waits : (xs : List Call) (p f : ℕ) → Accepted xs (Open p f) → Waits (replyAfter xs (Open p f) .answer) ↔ (ConflictingUse (worked xs) p f ⊎ EveryOrderHeld (withGiven (worked xs) p f))
+open-waits xs p f a = subst (λ (r : Reply). Waits (r .answer) ↔ (ConflictingUse (worked xs) p f ⊎ EveryOrderHeld (withGiven (worked xs) p f))) (sym (apply-accepted (worked xs) (Open p f) (passed-of (worked xs) (Open p f) a))) (open-answer (worked xs) p f)
+
+-- ── The favoured program ──
+
+-- The two numbers of the board give the sum.
+sum-of : (xs : List Call) (p n l : ℕ) → p ≢ 0 → worked xs .favoured ≡ p → worked xs .initial ≡ n → worked xs .leaves ≡ l → l + admittedAfter xs ≡ n
+sum-of xs p n l z e i j = let k = worked-good xs .loose .count (λ d. z (sym e ∙ d)) .0 in let q = ap length (admitted-is (worked xs)) in omega arith
+
+-- The leave that brings the leaves to that number less one is still to come.
+coming : (xs : List Call) (p n l : ℕ) → p ≢ 0 → worked xs .favoured ≡ p → worked xs .initial ≡ n → worked xs .leaves ≡ l → l + 2 ≤ n
+coming xs p n l z e i j = let k = favoured-bound (worked xs) (worked-good xs) (λ d. z (sym e ∙ d)) in omega arith
+
+-- The call that favours.
+favoured-now : (xs : List Call) (c : Call) (p : ℕ) → p ≢ 0 → worked (xs ++ (c ∷ [])) .favoured ≡ p → Newly (stepOf (replyAfter xs c)) p → FavouredBy (xs ++ (c ∷ [])) p
+unfolding leavesIn
+favoured-now xs c p z e w = record {
+  before = xs;
+  call = c;
+  after = [];
+  split = refl;
+  file = w .file;
+  favours = w .line-there;
+  latest = λ us vs d f k _. let j = ap length k in let i = lib.ListN.length-append us (d ∷ vs) in omega arith;
+  adds-up = omega arith;
+  number = number;
+  count = count;
+  to-come = coming (xs ++ (c ∷ [])) p _ _ z e number count;
+}
+  where
+    count : worked (xs ++ (c ∷ [])) .leaves ≡ 0
+    count = ap (λ (b : Board). b .leaves) (worked-snoc xs c) ∙ w .none-left
+
+    number : worked (xs ++ (c ∷ [])) .initial ≡ admittedAfter (xs ++ (c ∷ []))
+    number = ap (λ (b : Board). b .initial) (worked-snoc xs c) ∙ w .counted ∙ sym (ap length (admitted-is (replyAfter xs c .board))) ∙ ap (λ b. length (admitted b)) (sym (worked-snoc xs c))
+
+-- A later call that leaves the program favoured.
+favoured-still : (xs : List Call) (c : Call) (p : ℕ) → p ≢ 0 → worked (xs ++ (c ∷ [])) .favoured ≡ p → FavourMore (worked xs) (replyAfter xs c .board) (leavesBy (worked xs) c) → ((f : ℕ) → Favours xs c p f → ⊥) → FavouredBy xs p → FavouredBy (xs ++ (c ∷ [])) p
+favoured-still xs c p z e m quiet r = record {
+  before = r .before;
+  call = r .call;
+  after = r .after ++ (c ∷ []);
+  split = ap (_++ (c ∷ [])) (r .split) ∙ append-assoc (r .before) (r .call ∷ r .after) (c ∷ []);
+  file = r .file;
+  favours = r .favours;
+  latest = λ us vs d f k w. ⊎-elim
+      (λ q. quiet f (subst (λ l. Favours l c p f) (sym (r .split)) (subst (λ l. Favours (r .before ++ (r .call ∷ l)) c p f) (q .0) (subst (λ h. Favours (r .before ++ (r .call ∷ us)) h p f) (q .1) w))))
+      (λ q. r .latest us (q .0) d f (q .1) w)
+      (snoc-split (r .after) us vs c d k);
+  adds-up = sum-of (xs ++ (c ∷ [])) p _ _ z e number count;
+  number = number;
+  count = count;
+  to-come = coming (xs ++ (c ∷ [])) p _ _ z e number count;
+}
+  where
+    start : List Call
+    start = r .before ++ (r .call ∷ [])
+
+    fav : worked xs .favoured ≢ 0
+    fav d = z (sym e ∙ ap (λ (b : Board). b .favoured) (worked-snoc xs c) ∙ m .who ∙ d)
+
+    number : worked (xs ++ (c ∷ [])) .initial ≡ admittedAfter start
+    number = ap (λ (b : Board). b .initial) (worked-snoc xs c) ∙ m .number ∙ r .number
+
+    here-now : start ++ r .after ≡ xs
+    here-now = append-assoc (r .before) (r .call ∷ []) (r .after) ∙ sym (r .split)
+
+    count : worked (xs ++ (c ∷ [])) .leaves ≡ leavesIn start (r .after ++ (c ∷ []))
+    count = let a = ap (λ (b : Board). b .leaves) (worked-snoc xs c) ∙ m .left fav in let b = leaves-same xs c in let d = r .count in let g = leavesIn-snoc start (r .after) c in
+        let h : acceptedLeave (start ++ r .after) c ≡ acceptedLeave xs c = ap (λ l. acceptedLeave l c) here-now in omega arith
+
+favoured-by : (xs : List Call) (p : ℕ) → p ≢ 0 → worked xs .favoured ≡ p → FavouredBy xs p
+unfolding worked workedFrom
+favoured-by xs = by-end (λ l. (p : ℕ) → p ≢ 0 → worked l .favoured ≡ p → FavouredBy l p) start next xs
+  where
+    start : (p : ℕ) → p ≢ 0 → worked [] .favoured ≡ p → FavouredBy [] p
+    start p z e = absurd (z (sym e))
+
+    next : (l : List Call) (c : Call) → ((p : ℕ) → p ≢ 0 → worked l .favoured ≡ p → FavouredBy l p) → (p : ℕ) → p ≢ 0 → worked (l ++ (c ∷ [])) .favoured ≡ p → FavouredBy (l ++ (c ∷ [])) p
+    next l c ih p z e =
+        let now : replyAfter l c .board .favoured ≡ p = ap (λ (b : Board). b .favoured) (sym (worked-snoc l c)) ∙ e in
+        ⊎-elim
+        (λ w. favoured-now l c p z e (subst (Newly (stepOf (replyAfter l c))) (sym (w .1 .now) ∙ now) (w .1)))
+        (λ w. ⊎-elim (λ k. absurd (z (sym now ∙ k))) (λ (k : FavourMore (worked l) (replyAfter l c .board) (leavesBy (worked l) c)). favoured-still l c p z e k (λ f m. w .1 (line Word.Favour p f) m refl) (ih p z (sym (k .who) ∙ now))) (w .0))
+        (step l c .fav)
+
+-- ── The favoured program gets its file ──
+
+gets-file : (xs es : List Call) (p f : ℕ) → p ≢ 0 → worked xs .favoured ≡ p → awaited (worked xs) p ≡ f → worked xs .initial ≤ worked xs .leaves + leavesIn xs es + 1 → GetsFile xs es p f
+unfolding leavesIn
+gets-file xs [] p f z e a k = absurd (let b = favoured-bound (worked xs) (worked-good xs) (λ d. z (sym e ∙ d)) in omega arith)
+gets-file xs (c ∷ es) p f z e a k = ⊎-elim
+    (λ (m : FavourMore (worked xs) (replyAfter xs c .board) (leavesBy (worked xs) c)).
+    let s = worked-snoc xs c in
+    let now : replyAfter xs c .board .favoured ≡ worked xs .favoured = m .who in
+    let w : awaited (replyAfter xs c .board) p ≡ f = ap (awaited (replyAfter xs c .board)) (sym e) ∙ step xs c .file-stays fav now ∙ ap (awaited (worked xs)) e ∙ a in
+    let i = ap (λ (b : Board). b .initial) s ∙ m .number in
+    let l = ap (λ (b : Board). b .leaves) s ∙ m .left fav in
+    let q = leaves-same xs c in
+    let r = gets-file (xs ++ (c ∷ [])) es p f z (ap (λ (b : Board). b .favoured) s ∙ now ∙ e) (ap (λ b. awaited b p) s ∙ w) (omega arith) in
+    record {
+      before = c ∷ r .before;
+      call = r .call;
+      after = r .after;
+      split = ap (c ∷_) (r .split);
+      given = subst (λ h. line Word.Given p f ∈ settlingLines (replyAfter h (r .call))) (append-assoc xs (c ∷ []) (r .before)) (r .given);
+      wait-over = subst (λ h. isWaiting (at (worked h) p .standing) ≡ false) (append-assoc xs (c ∷ []) (r .before ++ (r .call ∷ []))) (r .wait-over);
+    })
+    (λ (m : EndedIn (worked xs) (stepOf (replyAfter xs c))). record {
+      before = [];
+      call = c;
+      after = es;
+      split = refl;
+      given = subst (λ h. line Word.Given p f ∈ settlingLines (replyAfter h c)) (sym (append-nil xs)) (subst (λ h. h ∈ settlingLines (replyAfter xs c)) (ap₂ (line Word.Given) e (ap (awaited (worked xs)) e ∙ a)) (m .line-there));
+      wait-over = ap (λ b. isWaiting (at b p .standing)) (worked-snoc xs c) ∙ ap isWaiting (ap (stands (replyAfter xs c .board .programs)) (sym e) ∙ m .runs);
+    })
+    (step xs c .ended fav)
+  where
+    fav : worked xs .favoured ≢ 0
+    fav d = z (sym e ∙ d)
+
+favoured-gets : (xs es : List Call) (c : Call) (p f : ℕ) → Favours xs c p f → leavesIn (xs ++ (c ∷ [])) es + 1 ≡ admittedAfter (xs ++ (c ∷ [])) → GetsFile (xs ++ (c ∷ [])) es p f
+favoured-gets xs es c p f h k = ⊎-elim
+    (λ w. let n = w .1 in
+    let d : line Word.Favour p f ≡ line Word.Favour (w .0) (n .file) = n .no-other (line Word.Favour p f) h refl in
+    let dp : p ≡ w .0 = ap (λ (l : Line). l .program) d in
+    let df : f ≡ n .file = ap (λ (l : Line). l .file) d in
+    let s = worked-snoc xs c in
+    let i = ap (λ (b : Board). b .initial) s ∙ n .counted in
+    let j = ap length (admitted-is (replyAfter xs c .board)) in
+    let q = ap (λ b. length (admitted b)) s in
+    let l = ap (λ (b : Board). b .leaves) s ∙ n .none-left in
+    gets-file (xs ++ (c ∷ [])) es p f (λ o. let v = n .is .least in omega arith) (ap (λ (b : Board). b .favoured) s ∙ n .now ∙ sym dp)
+    (ap (λ b. awaited b p) s ∙ ap (awaited (replyAfter xs c .board)) dp ∙ ap awaitedOf (n .waits) ∙ sym df) (omega arith))
+    (λ w. absurd (w .1 (line Word.Favour p f) h refl))
+    (step xs c .fav)
+
+-- ══ Demand 3 ══
+
+pub demand3 : (cs : List Call) → cs ≢ [] → Demand3 cs
+demand3 cs n = record {
+  answers = direct-worked cs;
+  each = stands-at cs;
+  order = last-order cs n;
+  waits = λ xs ys p f _ a. open-waits xs p f a;
+  favoured = λ xs ys p _ z e. favoured-by xs p z e;
+  gets = λ xs ys zs c p f q _ h _ k. favoured-gets xs (ys ++ (Leave q ∷ [])) c p f h k;
+}

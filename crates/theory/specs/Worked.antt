@@ -1,0 +1,272 @@
+-- Every list of calls from the empty board: every board is sound, and every direct call does what the rules say.
+-- Assumes nothing.
+use Prim.Native.Nat.{ℕ, _≤_, _+_}
+use native.Mathlib.Omega.{arith}
+use mathlib.Core.Path.{_≡_, refl, sym, _∙_, ap, ap₂, subst}
+use mathlib.Core.Logic.{_≢_}
+use mathlib.Core.Bool.{Bool, true, false, not, _&&_}
+use mathlib.Core.Option.{some, Option·getD}
+use mathlib.Core.List.{List, [], _∷_, _++_, List·Memᴰ·not-nil, List·Memᴰ·eq-of-singleton}
+use lib.Dec.{eqb}
+use lib.ListN.{length}
+use Rattle.files.proofs.Tests.{by-test, never}
+use Rattle.files.specs.Sets.{isFile, meets}
+use Rattle.rules.specs.declared.Standing.{Standing}
+use Rattle.rules.specs.declared.Board.{Board}
+use Rattle.rules.specs.declared.Refusal.{Refusal}
+use Rattle.rules.specs.declared.Check.{Check}
+use Rattle.rules.specs.declared.Answer.{Answer}
+use Rattle.rules.specs.declared.Line.{Line}
+use Rattle.rules.specs.declared.Reply.{Reply}
+use Rattle.rules.specs.Lists.{any, all, keep, first, padded, rising, listed, distinct, without, same, names}
+use Rattle.rules.specs.Boards.{isAbsent, isWaiting, isProgram, emptyBoard, everyone, at, admitted, claims, hasOpen}
+use Rattle.rules.specs.Orders.{heldBack, carriedFrom, carried, withGiven, inUse, safe, canGive}
+use Rattle.rules.specs.Soundness.{setsSound, standingSound, programSound, noConflict, lineSound, waiterSound, noneFavoured, someFavoured, sound}
+use Rattle.rules.specs.Replies.{refused, blank, reply, refuse, linesOf, orderOf, number}
+use Rattle.rules.specs.Checks.{refuseIf, unlessRunning, enterCheck, openCheck, closeCheck, leaveCheck}
+use Rattle.rules.specs.Calls.{enter, openFile, done, closeFile, dropFile, leave, Call, Enter, Open, Close, Drop, Leave, checked, accepted, apply, direct}
+use Rattle.rules.specs.Worked.{workedFrom, worked, repliesFrom, directFrom}
+use Rattle.theory.specs.Lists.{_∈_, by-mem, here, no-longer, length-rising}
+use Rattle.theory.specs.Order.{IsOrder}
+use Rattle.theory.specs.Programs.{Is, mem-everyone, holds, ins, ins-mem, mem-ins, admitted-is, first-can}
+use Rattle.theory.specs.Loose.{stands, waitsIn, waiting-file, waiting-in, Good}
+use Rattle.theory.specs.Calls.{take-padded, by-check, apply-accepted, apply-refused, apply-stepped}
+use Rattle.theory.specs.Carried.{holdsOn, CompletionOrder, carried-sound, carried-complete}
+use Rattle.theory.specs.Sound.{sound-iff, good-sound, sound-good}
+
+-- ── Lists ──
+
+pub append-nil : {A : Type 0} (l : List A) → l ++ [] ≡ l
+append-nil [] = refl
+append-nil (x ∷ l) = ap (x ∷_) (append-nil l)
+
+pub append-assoc : {A : Type 0} (l m n : List A) → (l ++ m) ++ n ≡ l ++ (m ++ n)
+append-assoc [] m n = refl
+append-assoc (x ∷ l) m n = ap (x ∷_) (append-assoc l m n)
+
+-- ── The empty board is sound, and every call keeps a board sound ──
+
+empty-sound : sound emptyBoard ≡ true
+unfolding any all keep first padded rising listed distinct without same names
+    everyone admitted
+    heldBack carriedFrom carried withGiven inUse safe canGive
+    setsSound standingSound programSound noConflict lineSound waiterSound noneFavoured someFavoured sound
+empty-sound = refl
+
+pub empty-good : Good emptyBoard
+empty-good = sound-good emptyBoard refl (sound-iff emptyBoard .0 empty-sound)
+
+pub workedFrom-good : (b : Board) (cs : List Call) → Good b → Good (workedFrom b cs)
+unfolding workedFrom
+workedFrom-good b [] g = g
+workedFrom-good b (c ∷ cs) g = workedFrom-good (apply b c .board) cs (apply-stepped b c g .good)
+
+pub worked-good : (cs : List Call) → Good (worked cs)
+unfolding worked
+worked-good cs = workedFrom-good emptyBoard cs empty-good
+
+-- Every worked board is sound.
+pub worked-sound : (cs : List Call) → sound (worked cs) ≡ true
+worked-sound cs = sound-iff (worked cs) .1 (good-sound (worked cs) (worked-good cs))
+
+workedFrom-append : (b : Board) (xs ys : List Call) → workedFrom b (xs ++ ys) ≡ workedFrom (workedFrom b xs) ys
+unfolding workedFrom
+workedFrom-append b [] ys = refl
+workedFrom-append b (x ∷ xs) ys = workedFrom-append (apply b x .board) xs ys
+
+-- One more call.
+pub worked-snoc : (xs : List Call) (c : Call) → worked (xs ++ (c ∷ [])) ≡ apply (worked xs) c .board
+unfolding worked workedFrom
+worked-snoc xs c = workedFrom-append emptyBoard xs (c ∷ [])
+
+-- ── A direct call does what the rules say ──
+
+-- On a sound board check 1 does not apply.
+pub direct-is-apply : (b : Board) (c : Call) → sound b ≡ true → direct b c ≡ apply b c
+unfolding direct
+direct-is-apply b c s = rw s
+
+directFrom-is : (b : Board) (cs : List Call) → Good b → directFrom b cs ≡ repliesFrom b cs
+unfolding directFrom repliesFrom
+directFrom-is b [] g = refl
+directFrom-is b (c ∷ cs) g =
+    let e = direct-is-apply b c (sound-iff b .1 (good-sound b g)) in
+    ap₂ _∷_ e (ap (λ (r : Reply). directFrom (r .board) cs) e ∙ directFrom-is (apply b c .board) cs (apply-stepped b c g .good))
+
+pub direct-worked : (cs : List Call) → directFrom emptyBoard cs ≡ repliesFrom emptyBoard cs
+direct-worked cs = directFrom-is emptyBoard cs empty-good
+
+repliesFrom-append : (b : Board) (xs ys : List Call) → repliesFrom b (xs ++ ys) ≡ repliesFrom b xs ++ repliesFrom (workedFrom b xs) ys
+unfolding repliesFrom workedFrom
+repliesFrom-append b [] ys = refl
+repliesFrom-append b (x ∷ xs) ys = ap (apply b x ∷_) (repliesFrom-append (apply b x .board) xs ys)
+
+-- The replies before a call, its own, and those after it.
+pub replies-split : (xs ys : List Call) (c : Call) → repliesFrom emptyBoard (xs ++ (c ∷ ys)) ≡ repliesFrom emptyBoard xs ++ (apply (worked xs) c ∷ repliesFrom (apply (worked xs) c .board) ys)
+unfolding worked repliesFrom
+replies-split xs ys c = repliesFrom-append emptyBoard xs (c ∷ ys)
+
+-- ── Refusals ──
+
+-- A call that isn't refused has passed its checks.
+pub passed-of : (b : Board) (c : Call) → refused (apply b c .answer) ≡ false → checked b c ≡ Check.Passed
+unfolding refuse reply
+passed-of b c e = by-check (checked b c) (λ u. u) (λ r u. never {t = true} refl (sym (ap (λ (q : Reply). refused (q .answer)) (apply-refused b c r u)) ∙ e))
+
+-- Whatever a call is refused for by its own checks, it is one of the refusals 8 to 16.
+if-number : (t : Bool) (r : Refusal) (k : Check) → 8 ≤ number r → ((q : Refusal) → k ≡ Check.Failed q → 8 ≤ number q) → (q : Refusal) → refuseIf t r k ≡ Check.Failed q → 8 ≤ number q
+if-number true r k n f q e = subst (λ z. 8 ≤ number z) (let d : r ≡ q = cc in d) n
+if-number false r k n f q e = f q e
+
+running-number : (s : Standing) (k : Check) → ((q : Refusal) → k ≡ Check.Failed q → 8 ≤ number q) → (q : Refusal) → unlessRunning s k ≡ Check.Failed q → 8 ≤ number q
+running-number Standing.Absent k f q e = subst (λ z. 8 ≤ number z) (let d : Refusal.IsAbsent ≡ q = cc in d) (omega arith)
+running-number Standing.Held k f q e = subst (λ z. 8 ≤ number z) (let d : Refusal.IsHeld ≡ q = cc in d) (omega arith)
+running-number (Standing.Waiting g) k f q e = subst (λ z. 8 ≤ number z) (let d : Refusal.IsWaiting ≡ q = cc in d) (omega arith)
+running-number Standing.Running k f q e = f q e
+
+passed-number : (q : Refusal) → Check.Passed ≡ Check.Failed q → 8 ≤ number q
+passed-number q e = absurd (let z : _≡_ {A = ℕ} 0 1 = cc in omega arith)
+
+open-number : (b : Board) (p f : ℕ) (q : Refusal) → openCheck b p f ≡ Check.Failed q → 8 ≤ number q
+unfolding openCheck
+open-number b p f =
+    if-number (not (isProgram p && isFile f)) Refusal.OutOfRange _ (omega arith)
+    (running-number (at b p .standing) _
+    (if-number (not (claims (at b p) f)) Refusal.NotClaimed _ (omega arith)
+    (if-number (hasOpen (at b p) f) Refusal.IsOpen Check.Passed (omega arith) passed-number)))
+
+pub checked-number : (b : Board) (c : Call) (q : Refusal) → checked b c ≡ Check.Failed q → 8 ≤ number q
+unfolding enterCheck closeCheck leaveCheck
+checked-number b (Enter p v r) =
+    if-number (not (isProgram p)) Refusal.OutOfRange _ (omega arith)
+    (if-number (not (isAbsent (at b p .standing))) Refusal.NotAbsent _ (omega arith)
+    (if-number (meets v r) Refusal.ClaimsMeet Check.Passed (omega arith) passed-number))
+checked-number b (Open p f) = open-number b p f
+checked-number b (Close p f) =
+    if-number (not (isProgram p && isFile f)) Refusal.OutOfRange _ (omega arith)
+    (running-number (at b p .standing) _
+    (if-number (not (hasOpen (at b p) f)) Refusal.NotOpen Check.Passed (omega arith) passed-number))
+checked-number b (Drop p f) = open-number b p f
+checked-number b (Leave p) =
+    if-number (not (isProgram p)) Refusal.OutOfRange _ (omega arith)
+    (running-number (at b p .standing) Check.Passed passed-number)
+
+-- What an accepted call answers is no refusal.
+pub accepted-answer : (b : Board) (c : Call) → refused (accepted b c .answer) ≡ false
+unfolding enter openFile closeFile dropFile leave done reply
+accepted-answer b (Enter p v q) = by-test (eqb (b .favoured) 0) (λ t. rw t) (λ t. rw t)
+accepted-answer b (Open p f) = by-test (inUse b p f) (λ t. rw t) (λ t. by-test (safe b p f) (λ u. rw (t, u)) (λ u. rw (t, u)))
+accepted-answer b (Close p f) = refl
+accepted-answer b (Drop p f) = refl
+accepted-answer b (Leave p) = refl
+
+-- Applied by the rules, a call is refused with 8 to 16 only.
+pub apply-number : (b : Board) (c : Call) (q : Refusal) → apply b c .answer ≡ Answer.Refuse q → 8 ≤ number q
+unfolding refuse reply
+apply-number b c q e = by-check (checked b c)
+    (λ u. never {t = true} refl (sym (ap refused e) ∙ ap (λ (r : Reply). refused (r .answer)) (apply-accepted b c u) ∙ accepted-answer b c))
+    (λ r u. let d : Answer.Refuse r ≡ Answer.Refuse q = ap (λ (z : Reply). z .answer) (sym (apply-refused b c r u)) ∙ e in subst (λ z. 8 ≤ number z) (let k : r ≡ q = cc in k) (checked-number b c r u))
+
+replies-number : (b : Board) (cs : List Call) (r : Reply) (q : Refusal) → r ∈ repliesFrom b cs → r .answer ≡ Answer.Refuse q → 8 ≤ number q
+unfolding repliesFrom
+replies-number b [] r q m e = absurd (List·Memᴰ·not-nil m)
+replies-number b (c ∷ cs) r q m e = by-mem m (λ d. apply-number b c q (ap (λ (z : Reply). z .answer) (sym d) ∙ e)) (λ k. replies-number (apply b c .board) cs r q k e)
+
+-- "1 never after calls from the empty board."
+pub never-not-sound : (cs : List Call) (r : Reply) → r ∈ directFrom emptyBoard cs → r .answer ≢ Answer.Refuse Refusal.NotSound
+never-not-sound cs r m e = let k = replies-number emptyBoard cs r Refusal.NotSound (subst (λ l. r ∈ l) (direct-worked cs) m) e in omega arith
+
+-- ── Every reply carries the order of its board, its lines in 32 places and its order in 32 places ──
+
+pub record IsReply (r : Reply) : Type 0 where
+  pub its-lines : List Line
+  pub is : r ≡ reply (r .board) (r .answer) its-lines
+
+made : (b : Board) (a : Answer) (ls : List Line) → IsReply (reply b a ls)
+unfolding reply
+made b a ls = record { its-lines = ls; is = refl }
+
+accepted-reply : (b : Board) (c : Call) → IsReply (accepted b c)
+unfolding enter openFile closeFile dropFile leave done
+accepted-reply b (Enter p v q) = by-test (eqb (b .favoured) 0) (λ t. rw t (made _ _ _)) (λ t. rw t (made _ _ _))
+accepted-reply b (Open p f) = by-test (inUse b p f) (λ t. rw t (made _ _ _)) (λ t. by-test (safe b p f) (λ u. rw (t, u) (made _ _ _)) (λ u. rw (t, u) (made _ _ _)))
+accepted-reply b (Close p f) = made _ _ _
+accepted-reply b (Drop p f) = made _ _ _
+accepted-reply b (Leave p) = made _ _ _
+
+pub apply-reply : (b : Board) (c : Call) → IsReply (apply b c)
+unfolding refuse
+apply-reply b c = by-check (checked b c) (λ e. subst IsReply (sym (apply-accepted b c e)) (accepted-reply b c)) (λ r e. subst IsReply (sym (apply-refused b c r e)) (made b (Answer.Refuse r) []))
+
+reply-order : (b : Board) (a : Answer) (ls : List Line) → orderOf (reply b a ls) ≡ Option·getD (carried b) []
+unfolding reply
+reply-order b a ls = take-padded 0 (Option·getD (carried b) [])
+
+-- The carried order of a sound board is a completion order.
+pub carried-order : (b : Board) → Good b → (o : List ℕ) × (carried b ≡ some o) × CompletionOrder b o
+carried-order b g = let (o, e) = carried-complete b (g .loose .base .order .0) (subst (λ l. IsOrder (holdsOn b) l (g .loose .base .order .0)) (sym (admitted-is b)) (g .loose .base .order .1)) in (o, e, carried-sound b o e)
+
+-- The order of every reply is a completion order of its board.
+pub order-of-reply : (b : Board) (c : Call) → Good b → CompletionOrder (apply b c .board) (orderOf (apply b c))
+order-of-reply b c g =
+    let r = apply b c in
+    let k = apply-reply b c in
+    let (o, e, i) = carried-order (r .board) (apply-stepped b c g .good) in
+    subst (IsOrder (holdsOn (r .board)) (admitted (r .board))) (sym (ap orderOf (k .is) ∙ reply-order (r .board) (r .answer) (k .its-lines) ∙ ap (λ z. Option·getD z []) e)) i
+
+-- At most 32 lines follow a call, and at most 32 programs are in its order.
+pub record Fits (r : Reply) : Type 0 where
+  pub lines-fit : r .count ≤ 32
+  pub order-fits : r .placed ≤ 32
+
+reply-count : (b : Board) (a : Answer) (ls : List Line) → reply b a ls .count ≡ length (linesOf (reply b a ls))
+unfolding reply
+reply-count b a ls = ap length (sym (take-padded blank ls))
+
+reply-placed : (b : Board) (a : Answer) (ls : List Line) → reply b a ls .placed ≡ length (orderOf (reply b a ls))
+unfolding reply
+reply-placed b a ls = ap length (sym (take-padded 0 (Option·getD (carried b) [])))
+
+pub apply-fits : (b : Board) (c : Call) → Good b → Fits (apply b c)
+unfolding everyone
+apply-fits b c g =
+    let r = apply b c in
+    let k = apply-reply b c in
+    let m = apply-stepped b c g .many in
+    let n = ap (λ (q : Reply). q .count) (k .is) ∙ reply-count (r .board) (r .answer) (k .its-lines) ∙ ap (λ q. length (linesOf q)) (sym (k .is)) in
+    let p = ap (λ (q : Reply). q .placed) (k .is) ∙ reply-placed (r .board) (r .answer) (k .its-lines) ∙ ap (λ q. length (orderOf q)) (sym (k .is)) in
+    let o = order-of-reply b c g in
+    let l = no-longer (orderOf r) everyone (o .once) (λ a i. mem-everyone a (ins-mem (r .board .programs) a (subst (λ z. a ∈ z) (admitted-is (r .board)) (o .only a i)) .0)) in
+    let z = length-rising 32 1 in
+    record { lines-fit = omega arith; order-fits = omega arith }
+
+-- ── The favoured program ──
+
+-- The first of an order is not waiting.
+pub first-runs : (b : Board) (p : ℕ) (o : List ℕ) → Good b → IsOrder (holdsOn b) (admitted b) (p ∷ o) → isWaiting (at b p .standing) ≡ false
+first-runs b p o g r = by-test (isWaiting (at b p .standing)) (λ t. let (f, e) = waiting-file (at b p .standing) t in never (first-can (b .programs) p f o (g .loose .base) i r′ (g .loose .asked p f i e .claimed)) (g .stuck p f i e)) (λ t. t)
+  where
+    r′ : IsOrder (holds (b .programs)) (ins (b .programs)) (p ∷ o)
+    r′ = subst (λ l. IsOrder (holdsOn b) l (p ∷ o)) (admitted-is b) r
+
+    i : Is p
+    i = ins-mem (b .programs) p (r′ .only p here) .0
+
+two-members : (l : List ℕ) (a b : ℕ) → a ∈ l → b ∈ l → a ≢ b → 2 ≤ length l
+two-members [] a b m k n = absurd (List·Memᴰ·not-nil m)
+two-members (x ∷ []) a b m k n = absurd (n (List·Memᴰ·eq-of-singleton m ∙ sym (List·Memᴰ·eq-of-singleton k)))
+two-members (x ∷ y ∷ l) a b m k n = omega arith
+
+-- While somebody is favoured, fewer programs have left than were admitted, by at least two.
+pub favoured-bound : (b : Board) → Good b → b .favoured ≢ 0 → b .leaves + 2 ≤ b .initial
+favoured-bound b g n = go (g .loose .base .order .0) (g .loose .base .order .1)
+  where
+    m : b .favoured ∈ ins (b .programs)
+    m = let (i, w) = g .loose .fav-waits n in mem-ins (b .programs) (b .favoured) i (waiting-in (stands (b .programs) (b .favoured)) w)
+
+    go : (o : List ℕ) → IsOrder (holds (b .programs)) (ins (b .programs)) o → b .leaves + 2 ≤ b .initial
+    go [] i = absurd (List·Memᴰ·not-nil (i .all (b .favoured) m))
+    go (p ∷ o) i =
+        let r = first-runs b p o g (subst (λ l. IsOrder (holdsOn b) l (p ∷ o)) (sym (admitted-is b)) i) in
+        let k = two-members (ins (b .programs)) (b .favoured) p m (i .only p here) (λ d. never (g .loose .fav-waits n .1) (ap (waitsIn (b .programs)) d ∙ r)) in
+        let j = g .loose .count n in omega arith
