@@ -8,7 +8,7 @@ use mathlib.Core.Logic.{_≢_, _↔_}
 use mathlib.Core.Bool.{Bool, true, false, _&&_}
 use lib.Dec.{eqb, leb, ltb}
 use lib.Pow.{pow-lt, pow-add}
-use lib.Bits.{bitAnd, bitOr, bitXor, differ, and-step, or-step, xor-step, and-high, or-add-and, xor-add-and, and-le-l}
+use lib.Bits.{bitAnd, bitOr, bitXor, differ, and-step, or-step, xor-step, and-high, or-add-and, xor-add-and, and-le-l, and-comm}
 use borrow.Author.Tests.{eq-eqb, ne-eqb, eqb-true, eqb-false, leb-true, le-leb, ltb-true, ltb-false}
 use Rattle.files.specs.Bits.{hasBit, withBit, withoutBit, share, covers, isNumber, hasNumber, withNumber, withoutNumber}
 use Rattle.files.proofs.Tests.{by-test, never, and-left, and-right, and-both, no-true, same-test}
@@ -288,6 +288,13 @@ covers-iff w a b o = (
   λ e k m. and-both (isNumber w k) (hasBit b (k - 1)) (has-number w a k m) (of-covers a b e (k - 1) (has-bit w a k m)),
   λ g. covers-of a b (λ i e. let z : suc i - 1 ≡ i = omega arith in rw z at (has-bit w b (suc i) (g (suc i) (bit-number w a i o e)))),
 )
+
+-- sets with the same numbers are equal
+pub numbers-same : (w a b : ℕ) → a < 2 ^ w → b < 2 ^ w → ((k : ℕ) → hasNumber w a k ≡ hasNumber w b k) → a ≡ b
+numbers-same w a b o q f =
+    let x = eqb-true (bitAnd a b) a (covers-iff w a b o .1 (λ k e. sym (f k) ∙ e)) in
+    let y = eqb-true (bitAnd b a) b (covers-iff w b a q .1 (λ k e. f k ∙ e)) in
+    sym x ∙ and-comm a b ∙ y
 
 -- ---- the masks that the code makes, in a word of w bits
 

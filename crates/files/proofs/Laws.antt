@@ -12,7 +12,7 @@ use Rattle.files.specs.Bits.{hasBit}
 use Rattle.files.specs.Sets.{isFile, noFiles, member, adding, removing, meets, within, OfFiles}
 use Rattle.files.proofs.Tests.{by-test, never, and-both, no-true}
 use Rattle.files.proofs.Bits.{zero-has, with-more, with-only, without-other, without-less, share-of, of-share, of-covers, covers-of}
-use Rattle.files.proofs.Bits.{has-number, has-bit, with-number-same, with-number-other, without-number-same, without-number-other, share-iff, covers-iff}
+use Rattle.files.proofs.Bits.{has-number, has-bit, with-number-same, with-number-other, without-number-same, without-number-other, share-iff, covers-iff, numbers-same}
 
 -- ---- by files
 
@@ -42,6 +42,14 @@ meets-iff s t o k = share-iff 64 (s .bits) (t .bits) o k
 -- a set is within another exactly when every file of the one is in the other
 pub within-iff : (s t : FileSet) → OfFiles s → (within s t ≡ true) ↔ ((f : ℕ) → member s f ≡ true → member t f ≡ true)
 within-iff s t o = covers-iff 64 (s .bits) (t .bits) o
+
+-- sets with the same files are equal
+pub set-same : (s t : FileSet) → OfFiles s → OfFiles t → ((f : ℕ) → member s f ≡ member t f) → s ≡ t
+set-same s t o k f = ap {B = FileSet} (λ x. record { bits = x }) (numbers-same 64 (s .bits) (t .bits) o k f)
+
+-- nothing is in the empty set
+pub none-member : (f : ℕ) → member noFiles f ≡ false
+none-member f = by-test (isFile f) (λ e. rw (e, zero-has (f - 1))) (λ e. rw e)
 
 -- ---- by places
 

@@ -5,8 +5,7 @@ use mathlib.Core.Path.{_≡_, refl, sym, ap, _∙_}
 use mathlib.Core.List.{List, [], _∷_, map}
 use mathlib.Core.Option.{Option·getD}
 use lib.ListN.{getD, List·getD-map}
-use Rattle.files.specs.declared.FileSet.{FileSet}
-use Rattle.files.specs.Sets.{noFiles, adding}
+use Rattle.files.specs.Sets.{noFiles}
 use Rattle.rules.specs.declared.Board.{Board}
 use Rattle.rules.specs.declared.Refusal.{Refusal}
 use Rattle.rules.specs.declared.Answer.{Answer}
@@ -22,6 +21,7 @@ use Rattle.rules.specs.Replies.{reply, refuse, refuseUnsound, wordOf, li
 use Rattle.rules.specs.Checks.{enterCheck, openCheck, closeCheck, leaveCheck}
 use Rattle.rules.specs.Calls.{enter, wait, openFile, done, closeFile, dropFile, countLeave, leave, apply, direct}
 use Rattle.rules.specs.Calls.{Call, Enter, Open, Close, Drop, Leave}
+use Rattle.rules.proofs.Tables.{set}
 
 -- ---- what a list of direct calls, from the empty board, comes to
 
@@ -57,11 +57,6 @@ unfolding toldFrom carried carriedFrom admitted keep everyone rising
 outcome cs = toldFrom emptyBoard (Option·getD (carried emptyBoard) []) cs
 
 -- ---- words for the table
-
--- the set of these files
-set : List ℕ → FileSet
-set [] = noFiles
-set (f ∷ fs) = adding (set fs) f
 
 -- the program and the file that an answer's line names
 programOf : Call → ℕ

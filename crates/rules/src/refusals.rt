@@ -1,7 +1,8 @@
-// The number of a refusal.
+// The numbers of refusals.
+use crate::Answer;
 use crate::Refusal;
 ghost use mathlib.Core.Path.{_≡_};
-ghost use Rattle.rules.specs.Replies.{number};
+ghost use Rattle.rules.specs.Replies.{number, refusalOf};
 
 impl Refusal {
     // 01's number of the refusal.
@@ -25,6 +26,23 @@ impl Refusal {
             Refusal::NotClaimed => 14,
             Refusal::IsOpen => 15,
             Refusal::NotOpen => 16,
+        }
+    }
+}
+
+impl Answer {
+    // 01's number of a refusal, and 0 for any other answer.
+    pub fn refusal(self) -> u8
+        ensures { λ r. ⌜ r ≡ refusalOf self ⌝ }
+    {
+        match self {
+            Answer::Admit => 0,
+            Answer::Held => 0,
+            Answer::Given => 0,
+            Answer::Wait => 0,
+            Answer::Unsafe => 0,
+            Answer::Done => 0,
+            Answer::Refuse(r) => r.number(),
         }
     }
 }

@@ -1,0 +1,15 @@
+-- `lock_board_empty` meets its contract. Assumes nothing.
+use mathlib.Core.Path.{sym, _∙_}
+use borrow.Author.Needs.{needs}
+use Rattle.host.proofs.lock_board_empty.Statement.{statement}
+use Rattle.host.proofs.lock_board_empty.Tie as tie
+
+returns : tie.Need-returns
+returns c = let p = c .before .before .before .put-image in (rw (sym (p .ensures .0) ∙ c .if1 .taken), p .ensures .1)
+
+returns-2 : tie.Need-returns-2
+returns-2 c = let p = c .before .before .before .put-image in (rw (sym (p .ensures .0) ∙ c .if1 .left), p .ensures .1)
+
+pub lock-board-empty-spec : {M : Type 1} → statement M
+lock-board-empty-spec =
+    tie.close (tie.spec (λ c κs. search needs) (λ c. search needs) returns (λ c. search needs) returns-2)

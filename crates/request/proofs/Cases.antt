@@ -1,0 +1,43 @@
+-- Lines that are refused with 3 to 7, as one table: antt computes each from the definitions. Assumes nothing.
+use Prim.Native.Nat.{ℕ}
+use mathlib.Core.Path.{_≡_, refl}
+use mathlib.Core.List.{List, [], _∷_, map}
+use Rattle.columns.specs.Columns.{digitOf, field3, fieldOf, numberOf}
+use Rattle.rules.specs.Lists.{all, same}
+use Rattle.rules.specs.Replies.{number}
+use Rattle.request.specs.declared.Reading.{Reading}
+use Rattle.request.specs.Requests.{begins, numberAt, programAt, labelPart, filesIn, risesFrom, addingAll}
+use Rattle.request.specs.Requests.{enterFiles, enterCounts, enterOf, fileOf, leaveOf, requestOf}
+
+-- 01's number of the refusal, 0 for a line that is taken
+refusal : Reading → ℕ
+refusal Reading.Taken = 0
+refusal (Reading.Refused r) = number r
+
+refused-lines : List (List ℕ)
+refused-lines =
+    (69 ∷ 78 ∷ 84 ∷ 69 ∷ 82 ∷ [])
+    ∷ (79 ∷ 80 ∷ 69 ∷ 78 ∷ 88 ∷ 32 ∷ 32 ∷ 32 ∷ 49 ∷ 32 ∷ 32 ∷ 49 ∷ [])
+    ∷ (79 ∷ 80 ∷ 69 ∷ 78 ∷ 32 ∷ 32 ∷ 32 ∷ 32 ∷ 49 ∷ [])
+    ∷ (76 ∷ 69 ∷ 65 ∷ 86 ∷ 69 ∷ 32 ∷ 32 ∷ 32 ∷ 49 ∷ 32 ∷ [])
+    ∷ (76 ∷ 69 ∷ 65 ∷ 86 ∷ 69 ∷ 32 ∷ 32 ∷ 48 ∷ 49 ∷ [])
+    ∷ (76 ∷ 69 ∷ 65 ∷ 86 ∷ 69 ∷ 32 ∷ 32 ∷ 51 ∷ 51 ∷ [])
+    ∷ (79 ∷ 80 ∷ 69 ∷ 78 ∷ 32 ∷ 32 ∷ 32 ∷ 32 ∷ 49 ∷ 32 ∷ 32 ∷ 48 ∷ [])
+    ∷ (67 ∷ 76 ∷ 79 ∷ 83 ∷ 69 ∷ 32 ∷ 32 ∷ 32 ∷ 49 ∷ 32 ∷ 54 ∷ 53 ∷ [])
+    ∷ (69 ∷ 78 ∷ 84 ∷ 69 ∷ 82 ∷ 32 ∷ 32 ∷ 32 ∷ 49 ∷ 83 ∷ 84 ∷ 79 ∷ 67 ∷ 75 ∷ 32 ∷ 32 ∷ 32 ∷ 32 ∷ 32 ∷ 49 ∷ [])
+    ∷ (69 ∷ 78 ∷ 84 ∷ 69 ∷ 82 ∷ 32 ∷ 32 ∷ 32 ∷ 48 ∷ 83 ∷ 84 ∷ 79 ∷ 127 ∷ 75 ∷ 32 ∷ 32 ∷ 32 ∷ 32 ∷ 32 ∷ 49 ∷ 32 ∷ 32 ∷ 48 ∷ 32 ∷ 32 ∷ 49 ∷ [])
+    ∷ (69 ∷ 78 ∷ 84 ∷ 69 ∷ 82 ∷ 32 ∷ 32 ∷ 32 ∷ 49 ∷ 83 ∷ 84 ∷ 79 ∷ 127 ∷ 75 ∷ 32 ∷ 32 ∷ 32 ∷ 32 ∷ 54 ∷ 53 ∷ 32 ∷ 32 ∷ 48 ∷ 32 ∷ 32 ∷ 49 ∷ [])
+    ∷ (69 ∷ 78 ∷ 84 ∷ 69 ∷ 82 ∷ 32 ∷ 32 ∷ 32 ∷ 49 ∷ 83 ∷ 84 ∷ 79 ∷ 67 ∷ 75 ∷ 32 ∷ 32 ∷ 32 ∷ 32 ∷ 54 ∷ 53 ∷ 32 ∷ 32 ∷ 48 ∷ 32 ∷ 32 ∷ 49 ∷ [])
+    ∷ (69 ∷ 78 ∷ 84 ∷ 69 ∷ 82 ∷ 32 ∷ 32 ∷ 32 ∷ 49 ∷ 83 ∷ 84 ∷ 79 ∷ 67 ∷ 75 ∷ 32 ∷ 32 ∷ 32 ∷ 32 ∷ 32 ∷ 49 ∷ 32 ∷ 32 ∷ 48 ∷ [])
+    ∷ (69 ∷ 78 ∷ 84 ∷ 69 ∷ 82 ∷ 32 ∷ 32 ∷ 32 ∷ 49 ∷ 83 ∷ 84 ∷ 79 ∷ 67 ∷ 75 ∷ 32 ∷ 32 ∷ 32 ∷ 32 ∷ 32 ∷ 49 ∷ 32 ∷ 32 ∷ 49 ∷ 32 ∷ 32 ∷ 49 ∷ 32 ∷ 32 ∷ 48 ∷ [])
+    ∷ (69 ∷ 78 ∷ 84 ∷ 69 ∷ 82 ∷ 32 ∷ 32 ∷ 32 ∷ 49 ∷ 83 ∷ 84 ∷ 79 ∷ 67 ∷ 75 ∷ 32 ∷ 32 ∷ 32 ∷ 32 ∷ 32 ∷ 50 ∷ 32 ∷ 32 ∷ 49 ∷ 32 ∷ 32 ∷ 50 ∷ 32 ∷ 32 ∷ 50 ∷ 32 ∷ 54 ∷ 53 ∷ [])
+    ∷ (69 ∷ 78 ∷ 84 ∷ 69 ∷ 82 ∷ 32 ∷ 32 ∷ 32 ∷ 49 ∷ 83 ∷ 84 ∷ 79 ∷ 67 ∷ 75 ∷ 32 ∷ 32 ∷ 32 ∷ 32 ∷ 32 ∷ 50 ∷ 32 ∷ 32 ∷ 49 ∷ 32 ∷ 32 ∷ 50 ∷ 32 ∷ 32 ∷ 50 ∷ 32 ∷ 54 ∷ 52 ∷ [])
+    ∷ (69 ∷ 78 ∷ 84 ∷ 69 ∷ 82 ∷ 32 ∷ 32 ∷ 32 ∷ 49 ∷ 83 ∷ 84 ∷ 79 ∷ 67 ∷ 75 ∷ 32 ∷ 32 ∷ 32 ∷ 32 ∷ 32 ∷ 49 ∷ 32 ∷ 32 ∷ 50 ∷ 32 ∷ 32 ∷ 49 ∷ 32 ∷ 32 ∷ 51 ∷ 32 ∷ 32 ∷ 50 ∷ [])
+    ∷ []
+
+table : map (λ (l : List ℕ). refusal (requestOf l .reading)) refused-lines ≡ 3 ∷ 3 ∷ 4 ∷ 4 ∷ 5 ∷ 5 ∷ 5 ∷ 5 ∷ 4 ∷ 5 ∷ 6 ∷ 5 ∷ 4 ∷ 5 ∷ 5 ∷ 7 ∷ 7 ∷ []
+unfolding refusal refused-lines
+    digitOf field3 fieldOf numberOf all same
+    begins numberAt programAt labelPart filesIn risesFrom addingAll
+    enterFiles enterCounts enterOf fileOf leaveOf requestOf
+table = refl

@@ -1,0 +1,83 @@
+-- `is_verb` meets its contract. Assumes nothing.
+use mathlib.Core.Path.{_≡_, refl, ap, sym, _∙_}
+use Prim.Native.Nat.{_-_, _≤_}
+use native.Mathlib.Omega.{arith}
+use borrow.Author.Needs.{needs}
+use lib.ListN.{length, take, drop}
+use Rattle.rules.specs.Lists.{same}
+use Rattle.request.specs.Requests.{begins}
+use Rattle.request.proofs.Laws
+use Rattle.request.proofs.is_verb.Statement.{statement}
+use Rattle.request.proofs.is_verb.Tie as tie
+
+abbrev Inv-loop : tie.InvT-loop
+Inv-loop line w i₀ i = (i ≤ 6) × (same (take 6 line) w ≡ same (drop i (take 6 line)) (drop i w))
+
+abbrev μ-loop : tie.MeasureT-loop
+μ-loop line w i₀ i = 6 - i
+
+-- a verb has six columns
+six : (c : tie.After-verb-bytes Inv-loop μ-loop) → length (c .verb-bytes .result) ≡ 6
+six c = ap length (c .verb-bytes .ensures) ∙ Laws.verb-length (c .before .before .before .args .v)
+
+returns : tie.Need-returns Inv-loop μ-loop
+returns c =
+    sym (Laws.verb-short _ _ (c .if1 .taken))
+
+verb-bytes-requires : tie.Need-verb-bytes-requires Inv-loop μ-loop
+verb-bytes-requires c κs =
+    search needs
+
+loop-holds : tie.Need-loop-holds Inv-loop μ-loop
+loop-holds c =
+    (omega arith, refl)
+
+shared-slice-read-if2 : tie.Need-shared-slice-read-if2 Inv-loop μ-loop
+shared-slice-read-if2 c =
+    search needs
+
+array-read-if2 : tie.Need-array-read-if2 Inv-loop μ-loop
+array-read-if2 c =
+    search needs
+
+returns-2 : tie.Need-returns-2 Inv-loop μ-loop
+unfolding begins
+returns-2 c =
+    let m = six (c .before .before .before .before) in
+    rw (← c .before .before .before .before .verb-bytes .ensures) (sym (c .before .before .before .loop .inv .1 ∙ Laws.verb-differs (c .before .before .before .before .verb-bytes .result) (c .before .before .before .before .before .before .before .args .line .now) (c .before .before .before .loop .i) m (c .before .before .before .before .before .if1 .left) (omega arith) (c .if2 .taken)))
+
+add-i : tie.Need-add-i Inv-loop μ-loop
+add-i c =
+    search needs
+
+loop-less : tie.Need-loop-less Inv-loop μ-loop
+loop-less c =
+    omega arith
+
+loop-again : tie.Need-loop-again Inv-loop μ-loop
+loop-again c =
+    let m = six (c .before .before .before .before) in
+    (omega arith, c .before .before .before .loop .inv .1 ∙ Laws.verb-more (c .before .before .before .before .verb-bytes .result) (c .before .before .before .before .before .before .before .args .line .now) (c .before .before .before .loop .i) m (c .before .before .before .before .before .if1 .left) (omega arith) (c .if2 .left))
+
+returns-3 : tie.Need-returns-3 Inv-loop μ-loop
+unfolding begins
+returns-3 c =
+    let m = six (c .before .before) in
+    rw (← c .before .before .verb-bytes .ensures) (sym (c .before .loop .inv .1 ∙ Laws.verb-ends (c .before .before .verb-bytes .result) (c .before .before .before .before .before .args .line .now) (c .before .loop .i) m (omega arith)))
+
+pub is-verb-spec : {M : Type 1} → statement M
+is-verb-spec =
+    tie.close
+    (tie.spec
+    Inv-loop
+    μ-loop
+    returns
+    verb-bytes-requires
+    loop-holds
+    shared-slice-read-if2
+    array-read-if2
+    returns-2
+    add-i
+    loop-less
+    loop-again
+    returns-3)
