@@ -25,7 +25,7 @@ pub struct Posted {
 }
 
 // Whether the journal has no room for a call's lines from the place on.
-pub fn is_full(room: usize, place: u64) -> bool
+fn is_full(room: usize, place: u64) -> bool
     ensures { λ r. ⌜ r ≡ journalFull room place ⌝ }
 {
     if 1000000000 < place {
@@ -47,7 +47,7 @@ fn refuse_line(q: Request, n: u8) -> Line
 }
 
 // Writes a reply's lines into the journal from the place on, and gives the new place.
-pub fn write_reply(journal: &mut [u8], place: usize, q: Request, r: Reply) -> usize
+fn write_reply(journal: &mut [u8], place: usize, q: Request, r: Reply) -> usize
     requires { ⌜ (place + 512 ≤ length (now journal)) × (r .count ≤ 32) ⌝ }
     ensures { λ p. ⌜ (p ≡ place + 16 * length (linesFor q r)) × (now (journal .exit) ≡ written (now (journal .entry)) place (linesFor q r)) ⌝ }
 {
