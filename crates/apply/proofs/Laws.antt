@@ -127,7 +127,8 @@ module _ (b : Board) (p f : ℕ) where
   close-far-file e = rw (no-file (isProgram p) f e)
 
 -- check 8 of any call: its program
-checked-far : (b : Board) (v : Verb) (p f : ℕ) (w r : FileSet) → isProgram p ≡ false → checked b (callWith v p f w r) ≡ Check.Failed Refusal.OutOfRange
+checked-far : (b : Board) (v : Verb) (p f : ℕ) (w r : FileSet) → isProgram p ≡ false
+    → checked b (callWith v p f w r) ≡ Check.Failed Refusal.OutOfRange
 checked-far b Verb.Enter p f w r e = enter-far b p f w r e
 checked-far b Verb.Open p f w r e = open-far-program b p f e
 checked-far b Verb.Close p f w r e = close-far-program b p f e
@@ -181,7 +182,8 @@ pub replied-stuck : (w : Written) (a : Answer) → carried (w .board) ≡ none
 unfolding padded
 replied-stuck w a e = rw e
 
-pub replied-found : (w : Written) (a : Answer) (at : List ℕ) (n : ℕ) → padded 0 (Option·getD (carried (w .board)) []) ≡ at → length (Option·getD (carried (w .board)) []) ≡ n
+pub replied-found : (w : Written) (a : Answer) (at : List ℕ) (n : ℕ) → padded 0 (Option·getD (carried (w .board)) []) ≡ at
+    → length (Option·getD (carried (w .board)) []) ≡ n
     → _≡_ {A = Reply} (record { board = w .board; answer = a; lines = w .lines; count = w .count; order = at; placed = n }) (replied w a)
 replied-found w a at n e k = rw (e, k)
 
@@ -204,7 +206,8 @@ sets-one z l ls h =
 pub done-ready : (w : Written) (b : Board) (l : Line) → w ≡ wrote b (l ∷ []) → Loose b → DoneFits b → Loose (w .board) × Fits w (settle (w .board))
 done-ready w b l e k h = subst (λ (x : Written). Loose (x .board) × Fits x (settle (x .board))) (sym e) (k, omega (arith, h))
 
-pub done-is : (w s : Written) (b : Board) (p f : ℕ) → w ≡ wrote b (line Word.Done p f ∷ []) → s ≡ after w (settle (w .board)) → DoneFits b → replied s Answer.Done ≡ done b p f
+pub done-is : (w s : Written) (b : Board) (p f : ℕ) → w ≡ wrote b (line Word.Done p f ∷ [])
+    → s ≡ after w (settle (w .board)) → DoneFits b → replied s Answer.Done ≡ done b p f
 unfolding done reply
 done-is w s b p f e k h =
     let n : 1 + length (settle b .lines) ≡ suc (length (settle b .lines)) = omega arith in
@@ -216,16 +219,19 @@ done-is w s b p f e k h =
 sound-of : (b : Board) → Good b → sound b ≡ true
 sound-of b g = sound-iff b .1 (good-sound b g)
 
-pub entry-free : (b : Board) (p : ℕ) (v q : FileSet) → Good b → enterCheck b p v q ≡ Check.Passed → (b .entry ≡ padded 0 (names (b .entry))) × (length (names (b .entry)) < 32)
+pub entry-free : (b : Board) (p : ℕ) (v q : FileSet) → Good b → enterCheck b p v q ≡ Check.Passed
+    → (b .entry ≡ padded 0 (names (b .entry))) × (length (names (b .entry)) < 32)
 entry-free b p v q g e = (g .loose .helds .form, entry-room b (g .loose .base .size) (sound-of b g) p v q e)
 
-pub waiting-free : (b : Board) (p f : ℕ) → Good b → openCheck b p f ≡ Check.Passed → (b .waiting ≡ padded 0 (names (b .waiting))) × (length (names (b .waiting)) < 32)
+pub waiting-free : (b : Board) (p f : ℕ) → Good b → openCheck b p f ≡ Check.Passed
+    → (b .waiting ≡ padded 0 (names (b .waiting))) × (length (names (b .waiting)) < 32)
 waiting-free b p f g e = (g .loose .waits .form, waiting-room b (g .loose .base .size) (sound-of b g) p f e)
 
 settles : (b c : Board) → b ≡ c → Ready c → Loose b × DoneFits b
 settles b c k r = subst (λ (x : Board). Loose x × DoneFits x) (sym k) (r .loose, r .room)
 
-pub close-settles : (b c : Board) (p f : ℕ) → c ≡ setProgram b p (closing (at b p) f) → Good b → closeCheck b p f ≡ Check.Passed → Loose c × DoneFits c
+pub close-settles : (b c : Board) (p f : ℕ) → c ≡ setProgram b p (closing (at b p) f) → Good b
+    → closeCheck b p f ≡ Check.Passed → Loose c × DoneFits c
 close-settles b c p f k g e = settles c (setProgram b p (closing (at b p) f)) k (close-ready b (g .loose .base .size) (sound-of b g) p f e)
 
 pub drop-settles : (b c : Board) (p f : ℕ) → c ≡ setProgram b p (dropping (at b p) f) → Good b → openCheck b p f ≡ Check.Passed → Loose c × DoneFits c
@@ -243,11 +249,13 @@ pub not-safe : (b g : Board) (p f : ℕ) (r : Order) → g ≡ withGiven b p f �
 unfolding safe
 not-safe b g p f r e o k = ap (λ (x : Board). found (carried x)) (sym e) ∙ ap found (order-none (carried g) r o k)
 
-pub is-safe : (b g : Board) (p f : ℕ) (r : Order) (n : ℕ) → g ≡ withGiven b p f → r ≡ asOrder (carried g) → r .kind ≡ Search.Found n → safe b p f ≡ true
+pub is-safe : (b g : Board) (p f : ℕ) (r : Order) (n : ℕ) → g ≡ withGiven b p f → r ≡ asOrder (carried g)
+    → r .kind ≡ Search.Found n → safe b p f ≡ true
 unfolding safe
 is-safe b g p f r n e o k = ap (λ (x : Board). found (carried x)) (sym e) ∙ order-found (carried g) r n o k
 
-pub given-is : (b g : Board) (p f : ℕ) (r : Order) (n : ℕ) (w : Written) → inUse b p f ≡ false → g ≡ withGiven b p f → r ≡ asOrder (carried g) → r .kind ≡ Search.Found n
+pub given-is : (b g : Board) (p f : ℕ) (r : Order) (n : ℕ) (w : Written) → inUse b p f ≡ false → g ≡ withGiven b p f
+    → r ≡ asOrder (carried g) → r .kind ≡ Search.Found n
     → w ≡ wrote g (line Word.Given p f ∷ [])
     → _≡_ {A = Reply} (record { board = g; answer = Answer.Given; lines = w .lines; count = 1; order = r .at; placed = n }) (openFile b p f)
 unfolding openFile

@@ -19,7 +19,8 @@ ghost use Rattle.rules.specs.declared.Check.{Check};
 ghost use Rattle.rules.specs.Lists.{names, padded};
 ghost use Rattle.rules.specs.Soundness.{sound};
 ghost use Rattle.rules.specs.Checks.{enterCheck, openCheck, closeCheck, leaveCheck};
-ghost use Rattle.rules.specs.Calls.{newcomer, enter, wait, openFile, closeFile, dropFile, countLeave, leave, apply, callOf, Enter, Open, Close, Drop, Leave};
+ghost use Rattle.rules.specs.Calls.{newcomer, enter, wait, openFile, closeFile, dropFile, countLeave, leave, apply, callOf, Enter, Open};
+ghost use Rattle.rules.specs.Calls.{Close, Drop, Leave};
 ghost use Rattle.theory.specs.Loose.{Good};
 
 mod checks;
@@ -49,13 +50,13 @@ fn do_enter(b: Board, p: u8, writable: FileSet, readable: FileSet) -> Reply
     let favoured = b.favoured;
     if favoured == 0 {
         let runs = new_program(writable, readable, Standing::Running);
-        let c = b.put(p, runs);
+        let c = search::put(b, p, runs);
         return replies::reply_with(replies::one_line(c, Word::Admit, p, 0), Answer::Admit);
     }
     let held = new_program(writable, readable, Standing::Held);
     let line = b.entry;
     let longer = lines::append(line, p);
-    let mut c = b.put(p, held);
+    let mut c = search::put(b, p, held);
     c.entry = longer;
     replies::reply_with(replies::one_line(c, Word::Held, p, 0), Answer::Held)
 }
@@ -83,7 +84,7 @@ fn put_waiting(b: Board, p: u8, f: u8) -> Board
     let waits = q.at_standing(Standing::Waiting(f));
     let line = b.waiting;
     let longer = lines::append(line, p);
-    let mut c = b.put(p, waits);
+    let mut c = search::put(b, p, waits);
     c.waiting = longer;
     c
 }
@@ -141,7 +142,7 @@ fn do_close(b: Board, p: u8, f: u8) -> Reply
 {
     let i = (p - 1) as usize;
     let q = b.programs[i];
-    let c = b.put(p, q.closing(f));
+    let c = search::put(b, p, q.closing(f));
     replies::done_reply(c, p, f)
 }
 
@@ -169,7 +170,7 @@ fn do_drop(b: Board, p: u8, f: u8) -> Reply
 {
     let i = (p - 1) as usize;
     let q = b.programs[i];
-    let c = b.put(p, q.dropping(f));
+    let c = search::put(b, p, q.dropping(f));
     replies::done_reply(c, p, f)
 }
 
@@ -211,7 +212,7 @@ fn do_leave(b: Board, p: u8) -> Reply
     ensures { λ r. ⌜ r ≡ leave b p ⌝ }
 {
     let gone = Program::ABSENT;
-    let c = counted(b.put(p, gone));
+    let c = counted(search::put(b, p, gone));
     replies::done_reply(c, p, 0)
 }
 

@@ -12,7 +12,8 @@ use Rattle.files.specs.Bits.{hasBit}
 use Rattle.files.specs.Sets.{isFile, noFiles, member, adding, removing, meets, within, OfFiles}
 use Rattle.files.proofs.Tests.{by-test, never, and-both, no-true}
 use Rattle.files.proofs.Bits.{zero-has, with-more, with-only, without-other, without-less, share-of, of-share, of-covers, covers-of}
-use Rattle.files.proofs.Bits.{has-number, has-bit, with-number-same, with-number-other, without-number-same, without-number-other, share-iff, covers-iff, numbers-same}
+use Rattle.files.proofs.Bits.{has-number, has-bit, with-number-same, with-number-other, without-number-same, without-number-other}
+use Rattle.files.proofs.Bits.{share-iff, covers-iff, numbers-same}
 
 -- ---- by files
 

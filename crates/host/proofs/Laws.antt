@@ -23,11 +23,12 @@ use Rattle.request.specs.declared.Reading.{Reading}
 use Rattle.request.specs.Requests.{requestOf, requestCall}
 use Rattle.image.specs.Image.{imageOf, loadedOf, refusedImage}
 use Rattle.image.specs.declared.Loaded.{Loaded}
-use Rattle.image.proofs.RoundTrip.{Fits, loaded-back, accepted}
+use Rattle.image.proofs.RoundTrip.{accepted}
 use Rattle.request.specs.declared.Request.{Request}
 use Rattle.journal.specs.Journal.{lineBytes, written}
 use Rattle.journal.proofs.Laws.{line-length}
-use Rattle.host.specs.Host.{journalFull, refuseLine, linesFor, replyBy, replyTo, stopped, posted, lineCall, hostAnswer, hostImage, hostedBy, hostCall, readImage}
+use Rattle.host.specs.Host.{journalFull, refuseLine, linesFor, replyBy, replyTo, stopped, posted, lineCall, hostAnswer, hostImage}
+use Rattle.host.specs.Host.{hostedBy, hostCall, readImage}
 
 -- check 2
 pub full-far : (room place : ℕ) → 1000000000 < place → journalFull room place ≡ true
@@ -74,11 +75,13 @@ reply-fits b q z s = by-reading (q .reading)
     by-reading (Reading.Refused r) = refuse-count b r
 
 -- the line call's results, check by check
-pub call-unsound : (b : Board) (line journal : List ℕ) (place : ℕ) → sound b ≡ false → lineCall b line journal place ≡ stopped (refuseUnsound b) journal place
+pub call-unsound : (b : Board) (line journal : List ℕ) (place : ℕ) → sound b ≡ false
+    → lineCall b line journal place ≡ stopped (refuseUnsound b) journal place
 unfolding lineCall
 call-unsound b line journal place s = rw s
 
-pub call-full : (b : Board) (line journal : List ℕ) (place : ℕ) → sound b ≡ true → journalFull (length journal) place ≡ true → lineCall b line journal place ≡ stopped (refuse b Refusal.JournalFull) journal place
+pub call-full : (b : Board) (line journal : List ℕ) (place : ℕ) → sound b ≡ true → journalFull (length journal) place ≡ true
+    → lineCall b line journal place ≡ stopped (refuse b Refusal.JournalFull) journal place
 unfolding lineCall
 call-full b line journal place s f = rw (s, f)
 
@@ -131,7 +134,8 @@ pub record Hosts (image line journal : List ℕ) (place n p : ℕ) (r : Reply) (
   pub journal-after : hostCall image line journal place .journal ≡ j
 
 pub host-by : (image line journal : List ℕ) (place n p : ℕ) (r : Reply) (j : List ℕ) (k : Loaded) → k ≡ loadedOf image → k .ok ≡ true
-    → r ≡ lineCall (k .board) line journal place .reply → p ≡ lineCall (k .board) line journal place .place → j ≡ lineCall (k .board) line journal place .journal
+    → r ≡ lineCall (k .board) line journal place .reply → p ≡ lineCall (k .board) line journal place .place
+    → j ≡ lineCall (k .board) line journal place .journal
     → n ≡ refusalOf (r .answer) → Hosts image line journal place n p r j
 host-by image line journal place n p r j k ek ok er ep ej en =
     let h = host-called image line journal place (ap (λ (x : Loaded). x .ok) (sym ek) ∙ ok) in
@@ -173,7 +177,3 @@ image-unsound image k e h s = rw (← e, h, s)
 pub image-sound : (image : List ℕ) (k : Loaded) → k ≡ loadedOf image → k .ok ≡ true → sound (k .board) ≡ true → readImage image ≡ k
 unfolding readImage
 image-sound image k e h s = rw (← e, h, s)
-
--- a sound board that is written is read back, whole
-pub image-back : (b : Board) → Fits b → sound b ≡ true → readImage (imageOf b) ≡ record { ok = true; board = b }
-image-back b f s = image-sound (imageOf b) (record { ok = true; board = b }) (sym (loaded-back b f)) refl s

@@ -10,17 +10,15 @@ use borrow.Author.Tests.{lt-leb, eqb-true}
 use Rattle.files.proofs.Tests.{by-test}
 use Rattle.columns.specs.Columns.{flat}
 use Rattle.columns.proofs.Rows.{flat-length}
-use Rattle.image.specs.Image.{bytesN, valueOf, kindOf, rowBytes, imageOf, standingOf, kindFits, rowIs, rowOf, rowsFit, rowsOf, loadedOf, boardOf}
+use Rattle.image.specs.Image.{bytesN, valueOf, kindOf, rowBytes, imageOf, standingOf, kindFits, rowIs, rowOf, rowsFit, rowsOf}
+use Rattle.image.specs.Image.{loadedOf, boardOf}
 use Rattle.rules.specs.Boards.{awaitedOf}
 use lib.Dec.{eqb}
 use Rattle.rules.specs.declared.Standing.{Standing}
 use Rattle.rules.specs.declared.Program.{Program}
 use Rattle.rules.specs.declared.Board.{Board}
+use Rattle.image.specs.Law.{SetsOfFiles, AllOfFiles, BoardOfCode, Bytes}
 use Rattle.image.proofs.Laws.{row-length, cond-both, load-good}
-
--- a list of bytes
-abbrev pub Bytes : List ℕ → Type 0
-Bytes l = (i : ℕ) → getD l i 0 < 256
 
 word-bytes : (n x : ℕ) → x < 256 ^ n → valueOf (bytesN n x) ≡ x
 unfolding valueOf bytesN
@@ -62,40 +60,48 @@ standing-fits Standing.Running = refl
 standing-fits (Standing.Waiting f) = refl
 standing-fits Standing.Held = refl
 
-pub record Ranged (p : Program) : Type 0 where
-  pub writable : p .writable .bits < 2 ^ 64
-  pub readable : p .readable .bits < 2 ^ 64
-  pub writing : p .writing .bits < 2 ^ 64
-  pub reading : p .reading .bits < 2 ^ 64
-
-abbrev pub All : List Program → Type 0
-All [] = Unit {0}
-All (p ∷ ps) = Ranged p × All ps
-
-row-back : (p : Program) → Ranged p → rowOf (rowBytes p) ≡ p
+row-back : (p : Program) → SetsOfFiles p → rowOf (rowBytes p) ≡ p
 unfolding rowOf rowBytes bytesN
-row-back p g = rw (word-bytes 8 (p .writable .bits) (g .writable), word-bytes 8 (p .readable .bits) (g .readable), word-bytes 8 (p .writing .bits) (g .writing), word-bytes 8 (p .reading .bits) (g .reading), standing-back (p .standing))
+row-back p g = rw (
+  word-bytes 8 (p .writable .bits) (g .writable),
+  word-bytes 8 (p .readable .bits) (g .readable),
+  word-bytes 8 (p .writing .bits) (g .writing),
+  word-bytes 8 (p .reading .bits) (g .reading),
+  standing-back (p .standing),
+)
 
 row-fits-back : (p : Program) → rowIs (rowBytes p) ≡ true
 unfolding rowIs rowBytes bytesN
 row-fits-back p = standing-fits (p .standing)
 
-rows-back : (ps : List Program) (t : List ℕ) → All ps → rowsOf (length ps) (flat rowBytes ps ++ t) ≡ ps
+rows-back : (ps : List Program) (t : List ℕ) → AllOfFiles ps → rowsOf (length ps) (flat rowBytes ps ++ t) ≡ ps
 unfolding rowsOf flat
 rows-back [] t g = refl
 rows-back (p ∷ ps) t g =
     let R : List ℕ = flat rowBytes ps ++ t in
-    rw (append-assoc (rowBytes p) (flat rowBytes ps) t, take-at (rowBytes p) R 34 (row-length p), drop-at (rowBytes p) R 34 (row-length p), row-back p (g .0), rows-back ps t (g .1))
+    rw (
+      append-assoc (rowBytes p) (flat rowBytes ps) t,
+      take-at (rowBytes p) R 34 (row-length p),
+      drop-at (rowBytes p) R 34 (row-length p),
+      row-back p (g .0),
+      rows-back ps t (g .1),
+    )
 
 rows-fit-back : (ps : List Program) (t : List ℕ) → rowsFit (length ps) (flat rowBytes ps ++ t) ≡ true
 unfolding rowsFit flat
 rows-fit-back [] t = refl
 rows-fit-back (p ∷ ps) t =
     let R : List ℕ = flat rowBytes ps ++ t in
-    rw (append-assoc (rowBytes p) (flat rowBytes ps) t, take-at (rowBytes p) R 34 (row-length p), drop-at (rowBytes p) R 34 (row-length p), row-fits-back p, rows-fit-back ps t)
+    rw (
+      append-assoc (rowBytes p) (flat rowBytes ps) t,
+      take-at (rowBytes p) R 34 (row-length p),
+      drop-at (rowBytes p) R 34 (row-length p),
+      row-fits-back p,
+      rows-fit-back ps t,
+    )
 
 -- reading what was written
-pub image-back : (b : Board) → length (b .programs) ≡ 32 → length (b .waiting) ≡ 32 → length (b .entry) ≡ 32 → All (b .programs)
+pub image-back : (b : Board) → length (b .programs) ≡ 32 → length (b .waiting) ≡ 32 → length (b .entry) ≡ 32 → AllOfFiles (b .programs)
     → loadedOf (imageOf b) ≡ record { ok = true; board = b }
 unfolding imageOf boardOf
 image-back b lp lw le g =
@@ -134,7 +140,9 @@ row-again l h b f =
     let c : (n : ℕ) → n + 8 ≤ 34 → bytesN 8 (valueOf (take 8 (drop n l))) ≡ take 8 (drop n l) =
     λ n m. eight-back (take 8 (drop n l)) (omega (arith, length-take 8 (drop n l), length-drop n l)) (bytes-take 8 (drop n l) (bytes-drop n l b)) in
     let d : (n : ℕ) → take 8 (drop n l) ++ drop (n + 8) l ≡ drop n l = λ n. rw (← drop-drop 8 n l) (take-append-drop 8 (drop n l)) in
-    let z : getD l 32 0 ∷ getD l 33 0 ∷ [] ≡ drop 32 l = sym (drop-cons l 32 0 (omega arith) ∙ ap (λ (r : List ℕ). getD l 32 0 ∷ r) (drop-cons l 33 0 (omega arith) ∙ ap (λ (r : List ℕ). getD l 33 0 ∷ r) (drop-of-length-le l {i = 34} (omega arith)))) in
+    let z : getD l 32 0 ∷ getD l 33 0 ∷ [] ≡ drop 32 l = sym (drop-cons l 32 0 (omega arith)
+    ∙ ap (λ (r : List ℕ). getD l 32 0 ∷ r) (drop-cons l 33 0 (omega arith) ∙ ap (λ (r : List ℕ). getD l 33 0 ∷ r)
+    (drop-of-length-le l {i = 34} (omega arith)))) in
     rw (c 0 (omega arith), c 8 (omega arith), c 16 (omega arith), c 24 (omega arith), k .0, k .1, z, d 24, d 16, d 8, d 0)
 
 rows-again : (n : ℕ) (l : List ℕ) → 34 * n ≤ length l → Bytes l → rowsFit n l ≡ true → flat rowBytes (rowsOf n l) ≡ take (34 * n) l
@@ -143,13 +151,20 @@ rows-again zero l h b f = refl
 rows-again (suc n) l h b f =
     let p = cond-both (rowIs (take 34 l)) (rowsFit n (drop 34 l)) f in
     let e : 34 * suc n ≡ 34 + 34 * n = omega arith in
-    rw (row-again (take 34 l) (length-take-le 34 l (omega arith)) (bytes-take 34 l b) (p .0), rows-again n (drop 34 l) (omega (arith, length-drop 34 l)) (bytes-drop 34 l b) (p .1), e, take-add 34 (34 * n) l)
+    rw (
+      row-again (take 34 l) (length-take-le 34 l (omega arith)) (bytes-take 34 l b) (p .0),
+      rows-again n (drop 34 l)
+          (omega (arith, length-drop 34 l)) (bytes-drop 34 l b) (p .1),
+      e,
+      take-add 34 (34 * n) l,
+    )
 
 -- an accepted image is the one that writing gives
 pub image-again : (l : List ℕ) → length l ≡ 1155 → Bytes l → rowsFit 32 l ≡ true → imageOf (boardOf l) ≡ l
 unfolding imageOf boardOf
 image-again l h b f =
-    let z : getD l 1152 0 ∷ getD l 1153 0 ∷ getD l 1154 0 ∷ [] ≡ drop 1152 l = sym (drop-cons l 1152 0 (omega arith) ∙ ap (λ (r : List ℕ). getD l 1152 0 ∷ r)
+    let z : getD l 1152 0 ∷ getD l 1153 0 ∷ getD l 1154 0 ∷ [] ≡ drop 1152 l = sym (drop-cons l 1152 0 (omega arith)
+    ∙ ap (λ (r : List ℕ). getD l 1152 0 ∷ r)
     (drop-cons l 1153 0 (omega arith) ∙ ap (λ (r : List ℕ). getD l 1153 0 ∷ r)
     (drop-cons l 1154 0 (omega arith) ∙ ap (λ (r : List ℕ). getD l 1154 0 ∷ r) (drop-of-length-le l {i = 1155} (omega arith))))) in
     let d : (n : ℕ) → take 32 (drop n l) ++ drop (n + 32) l ≡ drop n l = λ n. rw (← drop-drop 32 n l) (take-append-drop 32 (drop n l)) in
@@ -157,12 +172,8 @@ image-again l h b f =
 
 -- ---- by what reading finds
 
--- a board that fits its image: 32 places in each list, sets of 64 bits
-abbrev pub Fits : Board → Type 0
-Fits b = (length (b .programs) ≡ 32) × (length (b .waiting) ≡ 32) × (length (b .entry) ≡ 32) × All (b .programs)
-
 -- reading what was written gives the board back
-pub loaded-back : (b : Board) → Fits b → loadedOf (imageOf b) ≡ record { ok = true; board = b }
+pub loaded-back : (b : Board) → BoardOfCode b → loadedOf (imageOf b) ≡ record { ok = true; board = b }
 loaded-back b f = image-back b (f .0) (f .1) (f .2) (f .3)
 
 -- an accepted image has 1,155 bytes, is of the layout, and gives its board

@@ -9,7 +9,8 @@ ghost use mathlib.Core.Bool.{true};
 ghost use Prim.Native.Nat.{_+_, _*_, _≤_, _<_};
 ghost use lib.ListN.{length, take, drop};
 ghost use Rattle.rules.specs.Boards.{awaitedOf};
-ghost use Rattle.image.specs.Image.{bytesOf, valueOf, kindOf, rowBytes, rowsBytes, imageOf, standingOf, rowIs, rowOf, rowsFit, rowsOf, loadedOf, kindFits, putAt, imageFits, imageIn};
+ghost use Rattle.image.specs.Image.{bytesOf, valueOf, kindOf, rowBytes, rowsBytes, imageOf, standingOf, rowIs, rowOf, rowsFit, rowsOf};
+ghost use Rattle.image.specs.Image.{loadedOf, kindFits, putAt, imageFits, imageIn};
 
 // What reading an image finds: whether it is of the layout, and the board, empty if not.
 pub struct Loaded {

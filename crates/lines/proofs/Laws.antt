@@ -122,7 +122,8 @@ names-padded k e = names-of k (32 - length k) e
 
 pub names-without : (p : ℕ) (l : List ℕ) → names (padded 0 (without p (names l))) ≡ without p (names l)
 unfolding without
-names-without p l = names-padded (keep (λ x. not (eqb x p)) (names l)) (all-keep (λ x. not (eqb x p)) (λ x. not (eqb x 0)) (names l) (names-nonzero l))
+names-without p l = names-padded (keep (λ x. not (eqb x p)) (names l)) (all-keep (λ x. not (eqb x p))
+    (λ x. not (eqb x 0)) (names l) (names-nonzero l))
 
 -- ---- a line without a name
 
@@ -141,7 +142,8 @@ module _ (p : ℕ) where
   unfolding keepOthers
   keep-on a l k h ne = rw (names-on l k h ne)
 
-  pub kept-stop : (a : Kept) (l : List ℕ) (k : ℕ) → length l ≡ 32 → keepOthers p (keptAs []) (names l) ≡ keepOthers p a (names (drop k l)) → names (drop k l) ≡ []
+  pub kept-stop : (a : Kept) (l : List ℕ) (k : ℕ) → length l ≡ 32 → keepOthers p (keptAs []) (names l) ≡ keepOthers p a
+      (names (drop k l)) → names (drop k l) ≡ []
       → a .line ≡ padded 0 (without p (names l))
   unfolding keepOthers
   kept-stop a l k h e z =
@@ -165,7 +167,8 @@ module _ (l : List ℕ) (k : ℕ) where
   unfolding listed any
   listed-end p h = rw (names-end l k h)
 
-  pub distinct-on : k < length l → getD l k 0 ≢ 0 → distinct (names (drop k l)) ≡ (not (listed (getD l k 0) (names (drop (suc k) l))) && distinct (names (drop (suc k) l)))
+  pub distinct-on : k < length l → getD l k 0 ≢ 0 → distinct (names (drop k l)) ≡
+      (not (listed (getD l k 0) (names (drop (suc k) l))) && distinct (names (drop (suc k) l)))
   unfolding distinct
   distinct-on h ne = rw (names-on l k h ne)
 
@@ -200,8 +203,10 @@ program-range p e = (leb-true 1 p (and-left (leb 1 p) (leb p 32) e), leb-true p 
 
 -- the first name of what is left of a line is a program
 pub name-range : (l : List ℕ) (k : ℕ) → k < length l → getD l k 0 ≢ 0 → all isProgram (names (drop k l)) ≡ true → (1 ≤ getD l k 0) × (getD l k 0 ≤ 32)
-name-range l k h ne e = program-range (getD l k 0) (and-left (isProgram (getD l k 0)) (all isProgram (names (drop (suc k) l))) (sym (all-names-on l k isProgram h ne) ∙ e))
+name-range l k h ne e = program-range (getD l k 0) (and-left (isProgram (getD l k 0))
+    (all isProgram (names (drop (suc k) l))) (sym (all-names-on l k isProgram h ne) ∙ e))
 
 -- and so are the others
-pub names-left : (t : ℕ → Bool) (l : List ℕ) (k : ℕ) → k < length l → getD l k 0 ≢ 0 → all t (names (drop k l)) ≡ true → all t (names (drop (suc k) l)) ≡ true
+pub names-left : (t : ℕ → Bool) (l : List ℕ) (k : ℕ) → k < length l → getD l k 0 ≢ 0 → all t (names (drop k l)) ≡ true
+    → all t (names (drop (suc k) l)) ≡ true
 names-left t l k h ne e = and-right (t (getD l k 0)) (all t (names (drop (suc k) l))) (sym (all-names-on l k t h ne) ∙ e)

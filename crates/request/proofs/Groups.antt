@@ -118,7 +118,8 @@ keep-listed : (n k m : ℕ) (fs : List ℕ) → k + n ≡ m → risesFrom k fs �
 unfolding keep rising
 keep-listed zero k m [] e h u = refl
 keep-listed zero k m (f ∷ fs) e h u = let b = rises-head k f fs h in absurd (omega (arith, b .0, u .0))
-keep-listed (suc n) k m [] e h u = rw (not-listed (suc k) (suc k) [] (rises-nil (suc k)) (omega arith)) (keep-listed n (suc k) m [] (omega arith) (rises-nil (suc k)) u)
+keep-listed (suc n) k m [] e h u = rw (not-listed (suc k) (suc k) [] (rises-nil (suc k)) (omega arith))
+    (keep-listed n (suc k) m [] (omega arith) (rises-nil (suc k)) u)
 keep-listed (suc n) k m (f ∷ fs) e h u =
     let b = rises-head k f fs h in
     by-test (eqb (suc k) f)
@@ -154,7 +155,8 @@ listed-keep t g (x ∷ l) =
 listed-rising : (n k g : ℕ) → k ≤ g → g < k + n → listed g (rising n k) ≡ true
 unfolding listed any rising
 listed-rising zero k g h i = absurd (omega arith)
-listed-rising (suc n) k g h i = by-test (eqb g k) (λ e. rw e) (λ e. let d = eqb-false g k e in rw e (listed-rising n (suc k) g (omega arith) (omega arith)))
+listed-rising (suc n) k g h i = by-test (eqb g k) (λ e. rw e) (λ e. let d = eqb-false g k e in
+    rw e (listed-rising n (suc k) g (omega arith) (omega arith)))
 
 listed-above : (n k g : ℕ) → k + n ≤ g → listed g (rising n k) ≡ false
 unfolding listed any rising

@@ -29,7 +29,8 @@ use Rattle.request.specs.Groups.{noGroup, joined, groupFrom}
 
 -- ---- two lists compared place by place
 
-same-next : (a b : List ℕ) (i : ℕ) → i < length a → i < length b → same (drop i a) (drop i b) ≡ (eqb (getD a i 0) (getD b i 0) && same (drop (suc i) a) (drop (suc i) b))
+same-next : (a b : List ℕ) (i : ℕ) → i < length a → i < length b → same (drop i a) (drop i b) ≡
+    (eqb (getD a i 0) (getD b i 0) && same (drop (suc i) a) (drop (suc i) b))
 unfolding same
 same-next a b i h k = rw (drop-cons a i 0 h, drop-cons b i 0 k)
 
@@ -41,7 +42,8 @@ verb-length Verb.Drop = refl
 verb-length Verb.Leave = refl
 
 -- columns 1 to 6 from the column after i on
-verb-next : (w l : List ℕ) (i : ℕ) → length w ≡ 6 → 6 ≤ length l → i < 6 → same (drop i (take 6 l)) (drop i w) ≡ (eqb (getD l i 0) (getD w i 0) && same (drop (suc i) (take 6 l)) (drop (suc i) w))
+verb-next : (w l : List ℕ) (i : ℕ) → length w ≡ 6 → 6 ≤ length l → i < 6 → same (drop i (take 6 l)) (drop i w) ≡
+    (eqb (getD l i 0) (getD w i 0) && same (drop (suc i) (take 6 l)) (drop (suc i) w))
 verb-next w l i m h k =
     let n : length (take 6 l) ≡ 6 = omega (arith, length-take 6 l) in
     rw (← getD-take 6 l i 0 k) (same-next (take 6 l) w i (omega arith) (omega arith))
@@ -50,7 +52,8 @@ pub verb-more : (w l : List ℕ) (i : ℕ) → length w ≡ 6 → 6 ≤ length l
     → same (drop i (take 6 l)) (drop i w) ≡ same (drop (i + 1) (take 6 l)) (drop (i + 1) w)
 verb-more w l i m h k e = verb-next w l i m h k ∙ rw (eq-eqb (getD l i 0) (getD w i 0) e, add-one i)
 
-pub verb-differs : (w l : List ℕ) (i : ℕ) → length w ≡ 6 → 6 ≤ length l → i < 6 → (getD l i 0 ≡ getD w i 0 → ⊥) → same (drop i (take 6 l)) (drop i w) ≡ false
+pub verb-differs : (w l : List ℕ) (i : ℕ) → length w ≡ 6 → 6 ≤ length l → i < 6 → (getD l i 0 ≡ getD w i 0 → ⊥)
+    → same (drop i (take 6 l)) (drop i w) ≡ false
 verb-differs w l i m h k n = verb-next w l i m h k ∙ rw (ne-eqb (getD l i 0) (getD w i 0) n)
 
 pub verb-ends : (w l : List ℕ) (i : ℕ) → length w ≡ 6 → 6 ≤ i → same (drop i (take 6 l)) (drop i w) ≡ true
@@ -176,7 +179,8 @@ both false b x y = refl
 
 abbrev pub enterBy : Group → Group → ℕ → Request
 enterBy v q p =
-    cond (v .good) (cond (q .good) (cond (v .rising) (cond (q .rising) (taken Verb.Enter p 0 (v .files) (q .files)) (refused Refusal.NotRising)) (refused Refusal.NotRising)) (refused Refusal.BadNumber))
+    cond (v .good) (cond (q .good) (cond (v .rising) (cond (q .rising) (taken Verb.Enter p 0 (v .files) (q .files))
+    (refused Refusal.NotRising)) (refused Refusal.NotRising)) (refused Refusal.BadNumber))
     (refused Refusal.BadNumber)
 
 pub enter-by : (l : List ℕ) (p w r : ℕ) → enterFiles l p w r ≡ enterBy (groupFrom w (drop 23 l) noGroup) (groupFrom r (drop (23 + 3 * w) l) noGroup) p
@@ -188,7 +192,18 @@ enter-by l p w r =
     by-option (filesIn r (drop (23 + 3 * w) l)) (λ d. rw (e, d, v .good, group-none r (drop (23 + 3 * w) l) noGroup d))
     (λ qs d.
     let q = group-some r (drop (23 + 3 * w) l) noGroup qs d in
-    rw (e, d, v .good, q .good, v .rising, q .rising, v .files, q .files, and-true (risesFrom 0 vs), and-true (risesFrom 0 qs)) (both (risesFrom 0 vs) (risesFrom 0 qs) _ _)))
+    rw (
+      e,
+      d,
+      v .good,
+      q .good,
+      v .rising,
+      q .rising,
+      v .files,
+      q .files,
+      and-true (risesFrom 0 vs),
+      and-true (risesFrom 0 qs),
+    ) (both (risesFrom 0 vs) (risesFrom 0 qs) _ _)))
 
 -- ---- each result of the readers
 
@@ -196,11 +211,13 @@ pub counts-w : (l : List ℕ) (p : ℕ) → numberOf 0 64 (take 3 (drop 17 l)) �
 unfolding enterCounts numberAt
 counts-w l p e = rw e
 
-pub counts-r : (l : List ℕ) (p w : ℕ) → numberOf 0 64 (take 3 (drop 17 l)) ≡ Field.Number w → numberOf 0 64 (take 3 (drop 20 l)) ≡ Field.Bad → enterCounts l p ≡ refused Refusal.BadNumber
+pub counts-r : (l : List ℕ) (p w : ℕ) → numberOf 0 64 (take 3 (drop 17 l)) ≡ Field.Number w
+    → numberOf 0 64 (take 3 (drop 20 l)) ≡ Field.Bad → enterCounts l p ≡ refused Refusal.BadNumber
 unfolding enterCounts numberAt
 counts-r l p w e d = rw (e, d)
 
-pub counts-length : (l : List ℕ) (p w r : ℕ) → numberOf 0 64 (take 3 (drop 17 l)) ≡ Field.Number w → numberOf 0 64 (take 3 (drop 20 l)) ≡ Field.Number r
+pub counts-length : (l : List ℕ) (p w r : ℕ) → numberOf 0 64 (take 3 (drop 17 l)) ≡ Field.Number w
+    → numberOf 0 64 (take 3 (drop 20 l)) ≡ Field.Number r
     → (length l ≡ 23 + 3 * (w + r) → ⊥) → enterCounts l p ≡ refused Refusal.BadLength
 unfolding enterCounts numberAt
 counts-length l p w r e d n = rw (e, d, ne-eqb (length l) (23 + 3 * (w + r)) n)
@@ -218,11 +235,13 @@ pub enter-program : (l : List ℕ) → 23 ≤ length l → numberOf 1 32 (take 3
 unfolding enterOf programAt numberAt
 enter-program l h e = rw (le-ltb (length l) 23 h, e)
 
-pub enter-label : (l : List ℕ) (p : ℕ) → 23 ≤ length l → numberOf 1 32 (take 3 (drop 6 l)) ≡ Field.Number p → all labelByte (take 8 (drop 9 l)) ≡ false → enterOf l ≡ refused Refusal.BadLabel
+pub enter-label : (l : List ℕ) (p : ℕ) → 23 ≤ length l → numberOf 1 32 (take 3 (drop 6 l)) ≡ Field.Number p
+    → all labelByte (take 8 (drop 9 l)) ≡ false → enterOf l ≡ refused Refusal.BadLabel
 unfolding enterOf programAt numberAt labelPart
 enter-label l p h e d = rw (le-ltb (length l) 23 h, e, d)
 
-pub enter-good : (l : List ℕ) (p : ℕ) → 23 ≤ length l → numberOf 1 32 (take 3 (drop 6 l)) ≡ Field.Number p → all labelByte (take 8 (drop 9 l)) ≡ true → enterOf l ≡ enterCounts l p
+pub enter-good : (l : List ℕ) (p : ℕ) → 23 ≤ length l → numberOf 1 32 (take 3 (drop 6 l)) ≡ Field.Number p
+    → all labelByte (take 8 (drop 9 l)) ≡ true → enterOf l ≡ enterCounts l p
 unfolding enterOf programAt numberAt labelPart
 enter-good l p h e d = rw (le-ltb (length l) 23 h, e, d)
 
@@ -234,11 +253,13 @@ pub file-program : (v : Verb) (l : List ℕ) → length l ≡ 12 → numberOf 1 
 unfolding fileOf programAt numberAt
 file-program v l n e = rw (eq-eqb (length l) 12 n, e)
 
-pub file-file : (v : Verb) (l : List ℕ) (p : ℕ) → length l ≡ 12 → numberOf 1 32 (take 3 (drop 6 l)) ≡ Field.Number p → numberOf 1 64 (take 3 (drop 9 l)) ≡ Field.Bad → fileOf v l ≡ refused Refusal.BadNumber
+pub file-file : (v : Verb) (l : List ℕ) (p : ℕ) → length l ≡ 12 → numberOf 1 32 (take 3 (drop 6 l)) ≡ Field.Number p
+    → numberOf 1 64 (take 3 (drop 9 l)) ≡ Field.Bad → fileOf v l ≡ refused Refusal.BadNumber
 unfolding fileOf programAt numberAt
 file-file v l p n e d = rw (eq-eqb (length l) 12 n, e, d)
 
-pub file-good : (v : Verb) (l : List ℕ) (p f : ℕ) → length l ≡ 12 → numberOf 1 32 (take 3 (drop 6 l)) ≡ Field.Number p → numberOf 1 64 (take 3 (drop 9 l)) ≡ Field.Number f → fileOf v l ≡ taken v p f noFiles noFiles
+pub file-good : (v : Verb) (l : List ℕ) (p f : ℕ) → length l ≡ 12 → numberOf 1 32 (take 3 (drop 6 l)) ≡ Field.Number p
+    → numberOf 1 64 (take 3 (drop 9 l)) ≡ Field.Number f → fileOf v l ≡ taken v p f noFiles noFiles
 unfolding fileOf programAt numberAt
 file-good v l p f n e d = rw (eq-eqb (length l) 12 n, e, d)
 
@@ -250,7 +271,8 @@ pub leave-program : (l : List ℕ) → length l ≡ 9 → numberOf 1 32 (take 3 
 unfolding leaveOf programAt numberAt
 leave-program l n e = rw (eq-eqb (length l) 9 n, e)
 
-pub leave-good : (l : List ℕ) (p : ℕ) → length l ≡ 9 → numberOf 1 32 (take 3 (drop 6 l)) ≡ Field.Number p → leaveOf l ≡ taken Verb.Leave p 0 noFiles noFiles
+pub leave-good : (l : List ℕ) (p : ℕ) → length l ≡ 9 → numberOf 1 32 (take 3 (drop 6 l)) ≡ Field.Number p
+    → leaveOf l ≡ taken Verb.Leave p 0 noFiles noFiles
 unfolding leaveOf programAt numberAt
 leave-good l p n e = rw (eq-eqb (length l) 9 n, e)
 

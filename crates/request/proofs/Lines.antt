@@ -41,17 +41,20 @@ past n k l x y e h = (rw e (take-at x y k h), sym (drop-drop k n l) ∙ rw e (dr
 open-read : (p f : ℕ) (label : List ℕ) → InRange (Open p f) → requestOf (lineOf (Open p f) label) ≡ saying (Open p f)
 unfolding requestOf begins same lineOf columnsOf
 open-read p f label h =
-    file-good Verb.Open (lineOf (Open p f) label) p f refl (number-columns 1 32 p (omega (arith, h .1)) (h .0) (h .1)) (number-columns 1 64 f (omega (arith, h .3)) (h .2) (h .3))
+    file-good Verb.Open (lineOf (Open p f) label) p f refl (number-columns 1 32 p (omega (arith, h .1)) (h .0) (h .1))
+    (number-columns 1 64 f (omega (arith, h .3)) (h .2) (h .3))
 
 close-read : (p f : ℕ) (label : List ℕ) → InRange (Close p f) → requestOf (lineOf (Close p f) label) ≡ saying (Close p f)
 unfolding requestOf begins same lineOf columnsOf
 close-read p f label h =
-    file-good Verb.Close (lineOf (Close p f) label) p f refl (number-columns 1 32 p (omega (arith, h .1)) (h .0) (h .1)) (number-columns 1 64 f (omega (arith, h .3)) (h .2) (h .3))
+    file-good Verb.Close (lineOf (Close p f) label) p f refl (number-columns 1 32 p (omega (arith, h .1)) (h .0) (h .1))
+    (number-columns 1 64 f (omega (arith, h .3)) (h .2) (h .3))
 
 drop-read : (p f : ℕ) (label : List ℕ) → InRange (Drop p f) → requestOf (lineOf (Drop p f) label) ≡ saying (Drop p f)
 unfolding requestOf begins same lineOf columnsOf
 drop-read p f label h =
-    file-good Verb.Drop (lineOf (Drop p f) label) p f refl (number-columns 1 32 p (omega (arith, h .1)) (h .0) (h .1)) (number-columns 1 64 f (omega (arith, h .3)) (h .2) (h .3))
+    file-good Verb.Drop (lineOf (Drop p f) label) p f refl (number-columns 1 32 p (omega (arith, h .1)) (h .0) (h .1))
+    (number-columns 1 64 f (omega (arith, h .3)) (h .2) (h .3))
 
 leave-read : (p : ℕ) (label : List ℕ) → InRange (Leave p) → requestOf (lineOf (Leave p) label) ≡ saying (Leave p)
 unfolding requestOf begins same lineOf columnsOf
@@ -95,7 +98,8 @@ parts p v q label h =
     ) in
     record { verb = refl; program = a .0; label = b .0; w = c .0; r = d .0; vs = d .1; qs = e .1; long = n }
 
-enter-read : (p : ℕ) (v q : FileSet) (label : List ℕ) → InRange (Enter p v q) → IsLabel label → requestOf (lineOf (Enter p v q) label) ≡ saying (Enter p v q)
+enter-read : (p : ℕ) (v q : FileSet) (label : List ℕ) → InRange (Enter p v q) → IsLabel label
+    → requestOf (lineOf (Enter p v q) label) ≡ saying (Enter p v q)
 unfolding requestOf enterFiles
 enter-read p v q label h k =
     let l = lineOf (Enter p v q) label in
@@ -109,9 +113,11 @@ enter-read p v q label h k =
     let nr = ap (numberOf 0 64) (m .r) ∙ number-columns 0 64 (length qs) (omega arith) (omega arith) lq in
     let lab = ap (all labelByte) (m .label) ∙ k .1 in
     let fv : filesIn (length vs) (drop 23 l) ≡ some vs = ap (filesIn (length vs)) (m .vs) ∙ columns-back vs (filesColumns qs) (files-files v) in
-    let fq : filesIn (length qs) (drop (23 + 3 * length vs) l) ≡ some qs = ap (filesIn (length qs)) (m .qs ∙ sym (append-nil (filesColumns qs))) ∙ columns-back qs [] (files-files q) in
+    let fq : filesIn (length qs) (drop (23 + 3 * length vs) l) ≡ some qs =
+    ap (filesIn (length qs)) (m .qs ∙ sym (append-nil (filesColumns qs))) ∙ columns-back qs [] (files-files q) in
     let room : 23 ≤ length l = omega (arith, m .long) in
-    let e : enterFiles l p (length vs) (length qs) ≡ saying (Enter p v q) = rw (fv, fq, files-rise v, files-rise q, set-back v (h .2), set-back q (h .3)) in
+    let e : enterFiles l p (length vs) (length qs) ≡ saying (Enter p v q) =
+    rw (fv, fq, files-rise v, files-rise q, set-back v (h .2), set-back q (h .3)) in
     rw (m .verb) (enter-good l p room np lab ∙ counts-good l p (length vs) (length qs) nw nr (m .long) ∙ e)
 
 -- THE LAW, one way: the line that asks for a call within range is taken, and says this call
@@ -169,7 +175,12 @@ leave-says l b h =
     let n = number-is 1 32 (take 3 (drop 6 l)) p d in
     let i = cut 0 6 l (verbColumns Verb.Leave) (verb-is Verb.Leave l b) in
     let j = cut-last 6 3 l (columnsOf p) (eqb-true (length l) 9 e) (n .2) in
-    rw (e, d) (record { call = refl; range = (n .0, n .1); line = i ∙ ap (λ (x : List ℕ). verbColumns Verb.Leave ++ x) j; label = λ z. never z refl })))
+    rw (e, d) (record {
+      call = refl;
+      range = (n .0, n .1);
+      line = i ∙ ap (λ (x : List ℕ). verbColumns Verb.Leave ++ x) j;
+      label = λ z. never z refl;
+    })))
     (λ e. not-taken Refusal.BadLength (rw e at h))
 
 -- OPEN, CLOSE, DROP: the numbers
@@ -290,7 +301,9 @@ entry-says l b t =
     let d23 = cut 23 (3 * t .w) l (filesColumns vs) (rv .columns) in
     let last = cut-last (23 + 3 * t .w) (3 * t .r) l (filesColumns qs) long (rq .columns) in
     let size : length (take 8 (drop 9 l)) ≡ 8 = omega (arith, length-take 8 (drop 9 l), length-drop 9 l, long) in
-    let line : l ≡ verbColumns Verb.Enter ++ (columnsOf (t .p) ++ (take 8 (drop 9 l) ++ (columnsOf (length vs) ++ (columnsOf (length qs) ++ (filesColumns vs ++ filesColumns qs))))) =
+    let line : l ≡ verbColumns Verb.Enter ++
+    (columnsOf (t .p) ++ (take 8 (drop 9 l) ++ (columnsOf (length vs) ++ (columnsOf (length qs) ++
+    (filesColumns vs ++ filesColumns qs))))) =
     d0 ∙ ap (λ (x : List ℕ). verbColumns Verb.Enter ++ x) (d6 ∙ ap (λ (x : List ℕ). columnsOf (t .p) ++ x)
     (d9 ∙ ap (λ (x : List ℕ). take 8 (drop 9 l) ++ x) (d17 ∙ ap (λ (x : List ℕ). columnsOf (length vs) ++ x)
     (d20 ∙ ap (λ (x : List ℕ). columnsOf (length qs) ++ x) (d23 ∙ ap (λ (x : List ℕ). filesColumns vs ++ x) last))))) in

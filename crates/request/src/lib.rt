@@ -9,7 +9,8 @@ ghost use lib.ListN.{length, drop};
 ghost use Rattle.columns.specs.Columns.{numberOf};
 ghost use Rattle.rules.specs.Lists.{all};
 ghost use Rattle.request.specs.Groups.{noGroup, joined, groupFrom};
-ghost use Rattle.request.specs.Requests.{refused, taken, verbColumns, begins, labelByte, enterFiles, enterCounts, enterOf, fileOf, leaveOf, requestOf, isEntry, labelOf};
+ghost use Rattle.request.specs.Requests.{refused, taken, verbColumns, begins, labelByte, enterFiles, enterCounts, enterOf, fileOf};
+ghost use Rattle.request.specs.Requests.{leaveOf, requestOf, isEntry, labelOf};
 
 // Whether a line is taken.
 pub enum Reading {

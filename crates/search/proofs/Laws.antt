@@ -16,7 +16,8 @@ use lib.Seq.{take-suc-set, drop-set-lt, getD-set-same, getD-set-other}
 use borrow.Author.Tests.{eq-eqb, ne-eqb, eqb-true, eqb-false, leb-true, leb-false}
 use Rattle.files.proofs.Tests.{by-test, never, and-left, and-right, and-both, no-true, same-test}
 use Rattle.files.specs.Bits.{hasBit, isNumber}
-use Rattle.files.proofs.Bits.{zero-has, with-only, share-of, of-share, is-number, has-bit, with-number-same, with-number-other, without-number-same, without-number-other}
+use Rattle.files.proofs.Bits.{zero-has, with-only, share-of, of-share, is-number, has-bit, with-number-same, with-number-other}
+use Rattle.files.proofs.Bits.{without-number-same, without-number-other}
 use Rattle.rules.specs.declared.Board.{Board}
 use Rattle.rules.specs.Lists.{rising, any, all, keep, first, found, withFound, without, padded}
 use Rattle.rules.specs.Boards.{everyone, at, admitted, isAdmitted}
@@ -121,7 +122,8 @@ packed-has t (suc n) i m l h =
     last : hasProgram (joined (packed t n) (suc n) (t (suc n))) (suc n) ≡ t (suc n)
     last =
         by-test (t (suc n)) (λ y. rw y (with-number-same 32 (packed t n .bits) (suc n) is))
-        (λ y. rw y (no-true (hasProgram (packed t n) (suc n)) (λ d. let k : suc n - 1 ≡ n = omega arith in let r = packed-bit t n n (omega arith) (rw k at (has-bit 32 (packed t n .bits) (suc n) d)) .0 in omega arith)))
+        (λ y. rw y (no-true (hasProgram (packed t n) (suc n)) (λ d. let k : suc n - 1 ≡ n = omega arith in
+        let r = packed-bit t n n (omega arith) (rw k at (has-bit 32 (packed t n .bits) (suc n) d)) .0 in omega arith)))
 
 -- ---- tests over a range of numbers
 
@@ -207,7 +209,8 @@ any-meets l t = same-test (any (λ x. hasProgram l x && t x) (rising 32 1)) (pro
     (λ m. let (i, a, d) = of-share (l .bits) (packed t 32 .bits) m in
     let (h, e) = packed-bit t 32 i (omega arith) d in
     any-of (λ x. hasProgram l x && t x) 32 1 (suc i) (omega arith) (omega arith)
-    (and-both (hasProgram l (suc i)) (t (suc i)) (and-both (isNumber 32 (suc i)) (hasBit (l .bits) (suc i - 1)) (is-number 32 (suc i) (omega arith) (omega arith)) (let k : suc i - 1 ≡ i = omega arith in rw k a)) e))
+    (and-both (hasProgram l (suc i)) (t (suc i)) (and-both (isNumber 32 (suc i)) (hasBit (l .bits) (suc i - 1))
+    (is-number 32 (suc i) (omega arith) (omega arith)) (let k : suc i - 1 ≡ i = omega arith in rw k a)) e))
 
 pub held-is : (b : Board) (l : ProgramSet) (p : ℕ) → heldBack b (keep (hasProgram l) everyone) p ≡ programsMeet l (holders b p)
 unfolding heldBack holders
@@ -223,7 +226,8 @@ left-without l p h =
   where
     each : (x : ℕ) → 1 ≤ x → (hasProgram l x && not (eqb x p)) ≡ hasProgram (withoutProgram l p) x
     each x k = by-test (eqb x p)
-        (λ y. let z : x ≡ p = eqb-true x p y in rw y (and-false (hasProgram l x) ∙ sym (ap (hasProgram (withoutProgram l p)) z ∙ without-number-same 32 (l .bits) p)))
+        (λ y. let z : x ≡ p = eqb-true x p y in rw y (and-false (hasProgram l x)
+        ∙ sym (ap (hasProgram (withoutProgram l p)) z ∙ without-number-same 32 (l .bits) p)))
         (λ y. let z : x ≢ p = eqb-false x p y in rw y (and-true (hasProgram l x) ∙ sym (without-number-other 32 (l .bits) p x z)))
       where
         and-false : (s : Bool) → (s && false) ≡ false
@@ -257,7 +261,8 @@ order-is b rows f (suc n) l =
 
 pub admitted-is : (b : Board) → admitted b ≡ keep (hasProgram (admittedSet b)) everyone
 unfolding admitted admittedSet everyone
-admitted-is b = keep-same (admits b) (hasProgram (packed (admits b) 32)) 32 1 (λ p k h. sym (packed-has (admits b) 32 p (omega arith) k (omega arith)))
+admitted-is b = keep-same (admits b) (hasProgram (packed (admits b) 32)) 32 1
+    (λ p k h. sym (packed-has (admits b) 32 p (omega arith) k (omega arith)))
 
 -- the search from the admitted programs is the carried order
 pub carried-is : (b : Board) (rows : List ProgramSet) → RowsOf b rows → orderFrom (length (admitted b)) rows (admittedSet b) ≡ carried b
@@ -295,7 +300,8 @@ placed-start (some l) = rw (zero-add (length l), drop-replicate {A = ℕ} 0 (len
 placed-none : (at : List ℕ) (k : ℕ) → _≡_ {A = Order} (record { kind = Search.Found k; at = at }) (placed at k (some []))
 placed-none at k = rw (add-zero k, take-append-drop k at)
 
-placed-more : (at : List ℕ) (k p : ℕ) (x : Option (List ℕ)) → k < length at → placed (set at k p) (k + 1) x ≡ placed at k (withFound x none (λ l. some (p ∷ l)))
+placed-more : (at : List ℕ) (k p : ℕ) (x : Option (List ℕ)) → k < length at → placed (set at k p) (k + 1) x ≡ placed at k
+    (withFound x none (λ l. some (p ∷ l)))
 placed-more at k p none h = refl
 placed-more at k p (some l) h =
     rw (
@@ -333,7 +339,8 @@ module _ (rows : List ProgramSet) (l : ProgramSet) (at : List ℕ) where
 abbrev pub RowsTo : Board → ℕ → List ProgramSet → Type 0
 RowsTo b p rows = (i : ℕ) → 1 ≤ i → i < p → getD rows (i - 1) noPrograms ≡ holders b i
 
-pub rows-more : (b : Board) (p : ℕ) (rows : List ProgramSet) (r : ProgramSet) → 1 ≤ p → p - 1 < length rows → r ≡ holders b p → RowsTo b p rows → RowsTo b (p + 1) (set rows (p - 1) r)
+pub rows-more : (b : Board) (p : ℕ) (rows : List ProgramSet) (r : ProgramSet) → 1 ≤ p → p - 1 < length rows
+    → r ≡ holders b p → RowsTo b p rows → RowsTo b (p + 1) (set rows (p - 1) r)
 rows-more b p rows r l h e f i k m =
     by-test (eqb i p)
     (λ y. let z : i ≡ p = eqb-true i p y in rw z (getD-set-same rows (p - 1) r noPrograms h ∙ e))

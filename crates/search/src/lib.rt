@@ -7,7 +7,7 @@ ghost use Prim.Native.Nat.{_+_, _≤_};
 ghost use lib.Dec.{eqb};
 ghost use lib.ListN.{length};
 ghost use Rattle.rules.specs.Lists.{found};
-ghost use Rattle.rules.specs.Boards.{admitted};
+ghost use Rattle.rules.specs.Boards.{admitted, awaited, setProgram};
 ghost use Rattle.rules.specs.Orders.{conflict, holdsBack, carried, withGiven, inUse, canGive};
 ghost use Rattle.search.specs.Rows.{joined, holders, RowsOf, admittedSet, free, lowest, orderFrom, placed, asOrder};
 
@@ -28,6 +28,30 @@ pub enum Search {
 pub struct Order {
     pub kind: Search,
     pub at: [u8; 32],
+}
+
+// ---- programs by their numbers
+
+// The file that p waits for, and 0 unless it waits.
+pub fn awaited(b: Board, p: u8) -> u8
+    requires { ⌜ (1 ≤ p) × (p ≤ 32) ⌝ }
+    ensures { λ r. ⌜ r ≡ awaited b p ⌝ }
+{
+    let i = (p - 1) as usize;
+    let q = b.programs[i];
+    let s = q.standing;
+    s.awaited()
+}
+
+// The board with q as program p.
+pub fn put(b: Board, p: u8, q: Program) -> Board
+    requires { ⌜ (1 ≤ p) × (p ≤ 32) ⌝ }
+    ensures { λ r. ⌜ r ≡ setProgram b p q ⌝ }
+{
+    let i = (p - 1) as usize;
+    let mut c = b;
+    c.programs[i] = q;
+    c
 }
 
 // ---- who holds back whom
@@ -239,7 +263,7 @@ pub fn with_given(b: Board, p: u8, f: u8) -> Board
 {
     let k = (p - 1) as usize;
     let q = b.programs[k];
-    b.put(p, q.opening(f))
+    put(b, p, q.opening(f))
 }
 
 // Whether an open would give f to p.

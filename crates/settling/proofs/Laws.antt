@@ -41,7 +41,11 @@ sets-append l i (x ∷ xs) ys =
 
 pub after-then : (w : Written) (s t : Step) → after (after w s) t ≡ after w (andThen (s .lines) t)
 after-then w s t =
-    rw (sets-append (w .lines) (w .count) (s .lines) (t .lines), length-append (s .lines) (t .lines), add-assoc (w .count) (length (s .lines)) (length (t .lines)))
+    rw (
+      sets-append (w .lines) (w .count) (s .lines) (t .lines),
+      length-append (s .lines) (t .lines),
+      add-assoc (w .count) (length (s .lines)) (length (t .lines)),
+    )
 
 pub after-still : (w : Written) → w ≡ after w (still (w .board))
 after-still w = rw (add-zero (w .count))
@@ -57,7 +61,12 @@ unfolding tryGive
 give-none w p f e = rw e (after-still w)
 
 pub give-some : (w : Written) (b : Board) (p f : ℕ) → canGive b p f ≡ true
-    → _≡_ {A = Written} (record { board = unfavour (resume (withGiven b p f) p) p; lines = set (w .lines) (w .count) (line Word.Given p f); count = w .count + 1 }) (after w (tryGive b p f))
+    → _≡_ {A = Written} (record {
+      board = unfavour (resume (withGiven b p f) p) p;
+      lines = set (w .lines) (w .count)
+          (line Word.Given p f);
+      count = w .count + 1;
+    }) (after w (tryGive b p f))
 unfolding tryGive
 give-some w b p f e = rw e
 
@@ -138,22 +147,27 @@ pub held-over : (w s : Written) (l : List ℕ) (k : ℕ) → HeldAt w l k s → 
 unfolding runHeld
 held-over w s l k i e = after-still s ∙ sym (i .2 ∙ ap (λ (ps : List ℕ). after s (runHeld ps (s .board))) e)
 
-pub held-next : (w s u : Written) (l : List ℕ) (k : ℕ) → k < length l → getD l k 0 ≢ 0 → HeldAt w l k s → u ≡ after s (admitOne (s .board) (getD l k 0)) → HeldAt w l (k + 1) u
+pub held-next : (w s u : Written) (l : List ℕ) (k : ℕ) → k < length l → getD l k 0 ≢ 0 → HeldAt w l k s
+    → u ≡ after s (admitOne (s .board) (getD l k 0)) → HeldAt w l (k + 1) u
 unfolding runHeld
 held-next w s u l k h ne i e =
     let n : length (names (drop k l)) ≡ suc (length (names (drop (suc k) l))) = ap length (names-on l k h ne) in
     rw (add-one k) (subst (HeldAt w l (suc k)) (sym e) (
       names-left isProgram l k h ne (i .0),
       omega (arith, i .1, n),
-      i .2 ∙ ap (λ (x : List ℕ). after s (runHeld x (s .board))) (names-on l k h ne) ∙ sym (after-then s (admitOne (s .board) (getD l k 0)) (runHeld (names (drop (suc k) l)) (admitOne (s .board) (getD l k 0) .board))),
+      i .2 ∙ ap (λ (x : List ℕ). after s (runHeld x (s .board))) (names-on l k h ne)
+          ∙ sym (after-then s (admitOne (s .board) (getD l k 0)) (runHeld (names (drop (suc k) l))
+          (admitOne (s .board) (getD l k 0) .board))),
     ))
 
 pub held-room : (s : Written) (l : List ℕ) (k : ℕ) → k < length l → getD l k 0 ≢ 0 → s .count + length (names (drop k l)) ≤ 32 → s .count < 32
-held-room s l k h ne f = let n : length (names (drop k l)) ≡ suc (length (names (drop (suc k) l))) = ap length (names-on l k h ne) in omega (arith, f, n)
+held-room s l k h ne f = let n : length (names (drop k l)) ≡ suc (length (names (drop (suc k) l))) =
+    ap length (names-on l k h ne) in omega (arith, f, n)
 
 -- ---- the waiter to be favoured
 
-pub first-names-on : (t : ℕ → Bool) (l : List ℕ) (k : ℕ) → k < length l → getD l k 0 ≢ 0 → first t (names (drop k l)) ≡ cond (t (getD l k 0)) (some (getD l k 0)) (first t (names (drop (suc k) l)))
+pub first-names-on : (t : ℕ → Bool) (l : List ℕ) (k : ℕ) → k < length l → getD l k 0 ≢ 0
+    → first t (names (drop k l)) ≡ cond (t (getD l k 0)) (some (getD l k 0)) (first t (names (drop (suc k) l)))
 unfolding first
 first-names-on t l k h ne = rw (names-on l k h ne)
 
@@ -178,7 +192,8 @@ candidate-none b n k e z =
 pub candidate-some : (b : Board) (n : ℕ) → Loose b → n ≡ Option·getD (candidate b) 0 → n ≢ 0 → (candidate b ≡ some n) × ((1 ≤ n) × (n ≤ 32))
 candidate-some b n k e z =
     by-option (candidate b) (λ y. let q : n ≡ 0 = rw y at e in absurd (z q))
-    (λ p y. let q : n ≡ p = rw y at e in let i = candidate-is b p k y in let l = i .least in let m = i .most in (y ∙ ap some (sym q), (omega arith, omega arith)))
+    (λ p y. let q : n ≡ p = rw y at e in let i = candidate-is b p k y in let l = i .least in let m = i .most in
+    (y ∙ ap some (sym q), (omega arith, omega arith)))
 
 -- ---- choosing
 
@@ -195,7 +210,8 @@ module _ (w : Written) where
   unfolding choose
   choose-favour p e c = rw (eq-eqb (w .board .favoured) 0 e, c)
 
-  pub run-held-is : w .board .favoured ≡ 0 → candidate (w .board) ≡ none → after w (runHeld (names (w .board .entry)) (setEntry (w .board) [])) ≡ after w (choose (w .board))
+  pub run-held-is : w .board .favoured ≡ 0 → candidate (w .board) ≡ none
+      → after w (runHeld (names (w .board .entry)) (setEntry (w .board) [])) ≡ after w (choose (w .board))
   run-held-is e c = ap (after w) (sym (choose-held e c))
 
   pub favour-is : (p : ℕ) → w .board .favoured ≡ 0 → candidate (w .board) ≡ some p → after w (favour (w .board) p) ≡ after w (choose (w .board))
@@ -213,18 +229,24 @@ module _ (w : Written) where
   -- ---- settling
 
   pub settle-loose : (s : Written) → s ≡ after w (pass (names (w .board .waiting)) (w .board)) → Loose (w .board) → Loose (s .board)
-  settle-loose s e k = subst (λ (x : Written). Loose (x .board)) (sym e) (pass-passed (names (w .board .waiting)) (w .board) k (k .waits .once) (k .waits .of) .loose)
+  settle-loose s e k = subst (λ (x : Written). Loose (x .board)) (sym e) (pass-passed (names (w .board .waiting))
+      (w .board) k (k .waits .once) (k .waits .of) .loose)
 
-  settle-lines : length (settle (w .board) .lines) ≡ length (pass (names (w .board .waiting)) (w .board) .lines) + length (choose (pass (names (w .board .waiting)) (w .board) .board) .lines)
+  settle-lines : length (settle (w .board) .lines) ≡ length (pass (names (w .board .waiting)) (w .board) .lines) + length
+      (choose (pass (names (w .board .waiting)) (w .board) .board) .lines)
   unfolding settle
-  settle-lines = length-append (pass (names (w .board .waiting)) (w .board) .lines) (choose (pass (names (w .board .waiting)) (w .board) .board) .lines)
+  settle-lines = length-append (pass (names (w .board .waiting)) (w .board) .lines)
+      (choose (pass (names (w .board .waiting)) (w .board) .board) .lines)
 
   pub settle-fits-pass : Fits w (settle (w .board)) → Fits w (pass (names (w .board .waiting)) (w .board))
   settle-fits-pass f = omega (arith, f, settle-lines)
 
-  pub settle-fits-choose : (s : Written) → s ≡ after w (pass (names (w .board .waiting)) (w .board)) → Fits w (settle (w .board)) → Fits s (choose (s .board))
+  pub settle-fits-choose : (s : Written) → s ≡ after w (pass (names (w .board .waiting)) (w .board))
+      → Fits w (settle (w .board)) → Fits s (choose (s .board))
   settle-fits-choose s e f = subst (λ (x : Written). Fits x (choose (x .board))) (sym e) (omega (arith, f, settle-lines))
 
-  pub settle-is : (s : Written) → s ≡ after w (pass (names (w .board .waiting)) (w .board)) → after s (choose (s .board)) ≡ after w (settle (w .board))
+  pub settle-is : (s : Written) → s ≡ after w (pass (names (w .board .waiting)) (w .board))
+      → after s (choose (s .board)) ≡ after w (settle (w .board))
   unfolding settle
-  settle-is s e = ap (λ (x : Written). after x (choose (x .board))) e ∙ after-then w (pass (names (w .board .waiting)) (w .board)) (choose (pass (names (w .board .waiting)) (w .board) .board))
+  settle-is s e = ap (λ (x : Written). after x (choose (x .board))) e ∙ after-then w (pass (names (w .board .waiting))
+      (w .board)) (choose (pass (names (w .board .waiting)) (w .board) .board))

@@ -43,7 +43,7 @@ fn resumed(b: Board, p: u8) -> Board
     let runs = q.at_standing(Standing::Running);
     let line = b.waiting;
     let rest = lines::remove(line, p);
-    let mut c = b.put(p, runs);
+    let mut c = search::put(b, p, runs);
     c.waiting = rest;
     c
 }
@@ -69,7 +69,7 @@ fn give_waiter(w: Written, p: u8) -> Written
     ensures { λ r. ⌜ r ≡ after w (tryGive (w .board) p (awaited (w .board) p)) ⌝ }
 {
     let b = w.board;
-    let f = b.awaited(p);
+    let f = search::awaited(b, p);
     if !search::can_give(b, p, f) {
         return w;
     }
@@ -127,7 +127,7 @@ fn oldest_unused(b: Board) -> u8
         if p == 0 {
             return 0;
         }
-        let f = b.awaited(p);
+        let f = search::awaited(b, p);
         if !search::in_use(b, p, f) {
             return p;
         }
@@ -142,7 +142,7 @@ fn favour_waiter(w: Written, p: u8) -> Written
     ensures { λ r. ⌜ r ≡ after w (favour (w .board) p) ⌝ }
 {
     let b = w.board;
-    let f = b.awaited(p);
+    let f = search::awaited(b, p);
     let admitted = search::admitted_count(b);
     let mut c = b;
     c.favoured = p;
@@ -176,7 +176,7 @@ fn admit_held(w: Written, p: u8) -> Written
     let i = (p - 1) as usize;
     let q = b.programs[i];
     let runs = q.at_standing(Standing::Running);
-    let c = b.put(p, runs);
+    let c = search::put(b, p, runs);
     let n = w.count;
     let lines = w.lines;
     let more = add_line(

@@ -10,7 +10,8 @@ ghost use Rattle.files.specs.Sets.{isEmpty};
 ghost use Rattle.rules.specs.Lists.{any, all, names, listed};
 ghost use Rattle.rules.specs.Boards.{everyone, isProgram};
 ghost use Rattle.rules.specs.Orders.{conflict};
-ghost use Rattle.rules.specs.Soundness.{setsSound, standingSound, programSound, noConflict, lineSound, waiterSound, noneFavoured, someFavoured, sound};
+ghost use Rattle.rules.specs.Soundness.{setsSound, standingSound, programSound, noConflict, lineSound, waiterSound, noneFavoured};
+ghost use Rattle.rules.specs.Soundness.{someFavoured, sound};
 ghost use Rattle.sound.specs.Parts.{stands, standsAt, rightName, inLine, isSoundAt, apart, apartAll, waiterAt, heldAt};
 
 // W is within V, R within Q, V and Q share nothing.
@@ -255,7 +256,7 @@ fn waiters_sound(b: Board, line: [u8; 32]) -> bool
         if p == 0 {
             return true;
         }
-        let f = b.awaited(p);
+        let f = search::awaited(b, p);
         if !waiter_sound(b, p, f) {
             return false;
         }

@@ -76,7 +76,8 @@ pub record LastOrder (cs : List Call) : Type 0 where
   pub last : Reply
   pub last-answer : directFrom emptyBoard cs ≡ earlier ++ (last ∷ [])
   pub names-each-once : Names (admitted (worked cs)) (orderOf last)
-  pub none-held-back : (before after : List ℕ) (i j : ℕ) → orderOf last ≡ before ++ (i ∷ after) → j ∈ after → holdsBack (at (worked cs) j) (at (worked cs) i) ≡ false
+  pub none-held-back : (before after : List ℕ) (i j : ℕ) → orderOf last ≡ before ++ (i ∷ after) → j ∈ after
+      → holdsBack (at (worked cs) j) (at (worked cs) i) ≡ false
   pub first-not-waiting : (p : ℕ) (rest : List ℕ) → orderOf last ≡ p ∷ rest → isWaiting (at (worked cs) p .standing) ≡ false
 
 -- "While a program is favoured, the accepted leaves after the call that favoured it and the programs now admitted add up to the number

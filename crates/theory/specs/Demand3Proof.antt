@@ -26,8 +26,10 @@ use Rattle.theory.specs.Loose.{stands}
 use Rattle.theory.specs.Settling.{Newly}
 use Rattle.theory.specs.Calls.{stepOf, by-check, FavourMore, EndedIn, Stepped, countIf, none-counted, leavesBy, apply-accepted, apply-stepped}
 use Rattle.theory.specs.Carried.{holdsOn, EveryOrderHeld, unsafe-iff}
-use Rattle.theory.specs.Worked.{append-nil, append-assoc, worked-good, worked-snoc, direct-worked, replies-split, passed-of, order-of-reply, first-runs, favoured-bound}
-use Rattle.theory.specs.Demand3.{replyAfter, Accepted, Waits, ConflictingUse, admittedAfter, acceptedLeave, leavesIn, Favours, StandsAt, LastOrder, FavouredBy, GetsFile, Demand3}
+use Rattle.theory.specs.Worked.{append-nil, append-assoc, worked-good, worked-snoc, direct-worked, replies-split, passed-of}
+use Rattle.theory.specs.Worked.{order-of-reply, first-runs, favoured-bound}
+use Rattle.theory.specs.Demand3.{replyAfter, Accepted, Waits, ConflictingUse, admittedAfter, acceptedLeave, leavesIn, Favours}
+use Rattle.theory.specs.Demand3.{StandsAt, LastOrder, FavouredBy, GetsFile, Demand3}
 
 step : (xs : List Call) (c : Call) → Stepped (worked xs) (leavesBy (worked xs) c) (stepOf (replyAfter xs c))
 step xs c = apply-stepped (worked xs) c (worked-good xs)
@@ -42,7 +44,8 @@ by-end D z s xs = go [] xs z
     go done (c ∷ left) h = subst D (append-assoc done (c ∷ []) left) (go (done ++ (c ∷ [])) left (s done c h))
 
 -- Where a list with one more at its end is split, the split is at the end, or before it.
-snoc-split : (xs us vs : List Call) (c d : Call) → xs ++ (c ∷ []) ≡ us ++ (d ∷ vs) → ((us ≡ xs) × (d ≡ c)) ⊎ ((ws : List Call) × (xs ≡ us ++ (d ∷ ws)))
+snoc-split : (xs us vs : List Call) (c d : Call) → xs ++ (c ∷ []) ≡ us ++ (d ∷ vs) → ((us ≡ xs) × (d ≡ c)) ⊎
+    ((ws : List Call) × (xs ≡ us ++ (d ∷ ws)))
 snoc-split [] [] vs c d e = inl (refl, let k : d ≡ c = cc in k)
 snoc-split [] (u ∷ us) vs c d e = absurd (let k = ap length e in let j = lib.ListN.length-append us (d ∷ vs) in omega arith)
 snoc-split (x ∷ xs) [] vs c d e = inr (xs, let k : x ≡ d = cc in ap (_∷ xs) k)
@@ -101,8 +104,12 @@ at-end xs c = record {
   last = replyAfter xs c;
   last-answer = direct-worked (xs ++ (c ∷ [])) ∙ replies-split xs [] c;
   names-each-once = subst (λ b. Names (admitted b) o) (sym e) (record { all = i .all; only = i .only; once = i .once });
-  none-held-back = λ before after k j d m. subst (λ b. holdsBack (at b j) (at b k) ≡ false) (sym e) (Pairs-split (λ x y. holdsOn (replyAfter xs c .board) y x ≡ false) before after k j (subst (λ l. Pairs (λ x y. holdsOn (replyAfter xs c .board) y x ≡ false) l) d (i .clear)) m);
-  first-not-waiting = λ p rest d. subst (λ b. isWaiting (at b p .standing) ≡ false) (sym e) (first-runs (replyAfter xs c .board) p rest (step xs c .good) (subst (IsOrder (holdsOn (replyAfter xs c .board)) (admitted (replyAfter xs c .board))) d i));
+  none-held-back = λ before after k j d m. subst (λ b. holdsBack (at b j) (at b k) ≡ false) (sym e) (Pairs-split
+      (λ x y. holdsOn (replyAfter xs c .board) y x ≡ false) before after k j
+      (subst (λ l. Pairs (λ x y. holdsOn (replyAfter xs c .board) y x ≡ false) l) d (i .clear)) m);
+  first-not-waiting = λ p rest d. subst (λ b. isWaiting (at b p .standing) ≡ false) (sym e)
+      (first-runs (replyAfter xs c .board) p rest (step xs c .good) (subst (IsOrder (holdsOn (replyAfter xs c .board))
+      (admitted (replyAfter xs c .board))) d i));
 }
   where
     o : List ℕ
@@ -120,7 +127,11 @@ last-order cs n = by-end (λ l. l ≢ [] → LastOrder l) (λ z. absurd (z refl)
 -- ── Opens ──
 
 used-iff : (b : Board) (p f : ℕ) → (inUse b p f ≡ true) ↔ ConflictingUse b p f
-used-iff b p f = (λ e. used-by (b .programs) p f (sym (inUse-is b p f) ∙ e), λ u. inUse-is b p f ∙ by-used (b .programs) p f (u .0) (u .1) (u .2) (u .3))
+used-iff b p f = (
+  λ e. used-by (b .programs) p f (sym (inUse-is b p f) ∙ e),
+  λ u. inUse-is b p f
+      ∙ by-used (b .programs) p f (u .0) (u .1) (u .2) (u .3),
+)
 
 open-answer : (b : Board) (p f : ℕ) → Waits (openFile b p f .answer) ↔ (ConflictingUse b p f ⊎ EveryOrderHeld (withGiven b p f))
 unfolding openFile reply
@@ -137,8 +148,11 @@ open-answer b p f = by-test (inUse b p f)
     given-waits (inl e) = let z : _≡_ {A = ℕ} 0 1 = cc in omega arith
     given-waits (inr e) = let z : _≡_ {A = ℕ} 0 1 = cc in omega arith
 
-open-waits : (xs : List Call) (p f : ℕ) → Accepted xs (Open p f) → Waits (replyAfter xs (Open p f) .answer) ↔ (ConflictingUse (worked xs) p f ⊎ EveryOrderHeld (withGiven (worked xs) p f))
-open-waits xs p f a = subst (λ (r : Reply). Waits (r .answer) ↔ (ConflictingUse (worked xs) p f ⊎ EveryOrderHeld (withGiven (worked xs) p f))) (sym (apply-accepted (worked xs) (Open p f) (passed-of (worked xs) (Open p f) a))) (open-answer (worked xs) p f)
+open-waits : (xs : List Call) (p f : ℕ) → Accepted xs (Open p f) → Waits (replyAfter xs (Open p f) .answer) ↔
+    (ConflictingUse (worked xs) p f ⊎ EveryOrderHeld (withGiven (worked xs) p f))
+open-waits xs p f a = subst (λ (r : Reply). Waits (r .answer) ↔ (ConflictingUse (worked xs) p f ⊎ EveryOrderHeld
+    (withGiven (worked xs) p f))) (sym (apply-accepted (worked xs) (Open p f) (passed-of (worked xs) (Open p f) a)))
+    (open-answer (worked xs) p f)
 
 -- ── The favoured program ──
 
@@ -151,7 +165,8 @@ coming : (xs : List Call) (p n l : ℕ) → p ≢ 0 → worked xs .favoured ≡ 
 coming xs p n l z e i j = let k = favoured-bound (worked xs) (worked-good xs) (λ d. z (sym e ∙ d)) in omega arith
 
 -- The call that favours.
-favoured-now : (xs : List Call) (c : Call) (p : ℕ) → p ≢ 0 → worked (xs ++ (c ∷ [])) .favoured ≡ p → Newly (stepOf (replyAfter xs c)) p → FavouredBy (xs ++ (c ∷ [])) p
+favoured-now : (xs : List Call) (c : Call) (p : ℕ) → p ≢ 0 → worked (xs ++ (c ∷ [])) .favoured ≡ p
+    → Newly (stepOf (replyAfter xs c)) p → FavouredBy (xs ++ (c ∷ [])) p
 unfolding leavesIn
 favoured-now xs c p z e w = record {
   before = xs;
@@ -171,10 +186,13 @@ favoured-now xs c p z e w = record {
     count = ap (λ (b : Board). b .leaves) (worked-snoc xs c) ∙ w .none-left
 
     number : worked (xs ++ (c ∷ [])) .initial ≡ admittedAfter (xs ++ (c ∷ []))
-    number = ap (λ (b : Board). b .initial) (worked-snoc xs c) ∙ w .counted ∙ sym (ap length (admitted-is (replyAfter xs c .board))) ∙ ap (λ b. length (admitted b)) (sym (worked-snoc xs c))
+    number = ap (λ (b : Board). b .initial) (worked-snoc xs c) ∙ w .counted
+        ∙ sym (ap length (admitted-is (replyAfter xs c .board))) ∙ ap (λ b. length (admitted b)) (sym (worked-snoc xs c))
 
 -- A later call that leaves the program favoured.
-favoured-still : (xs : List Call) (c : Call) (p : ℕ) → p ≢ 0 → worked (xs ++ (c ∷ [])) .favoured ≡ p → FavourMore (worked xs) (replyAfter xs c .board) (leavesBy (worked xs) c) → ((f : ℕ) → Favours xs c p f → ⊥) → FavouredBy xs p → FavouredBy (xs ++ (c ∷ [])) p
+favoured-still : (xs : List Call) (c : Call) (p : ℕ) → p ≢ 0 → worked (xs ++ (c ∷ [])) .favoured ≡ p
+    → FavourMore (worked xs) (replyAfter xs c .board) (leavesBy (worked xs) c) → ((f : ℕ) → Favours xs c p f → ⊥)
+    → FavouredBy xs p → FavouredBy (xs ++ (c ∷ [])) p
 favoured-still xs c p z e m quiet r = record {
   before = r .before;
   call = r .call;
@@ -183,7 +201,9 @@ favoured-still xs c p z e m quiet r = record {
   file = r .file;
   favours = r .favours;
   latest = λ us vs d f k w. ⊎-elim
-      (λ q. quiet f (subst (λ l. Favours l c p f) (sym (r .split)) (subst (λ l. Favours (r .before ++ (r .call ∷ l)) c p f) (q .0) (subst (λ h. Favours (r .before ++ (r .call ∷ us)) h p f) (q .1) w))))
+      (λ q. quiet f (subst (λ l. Favours l c p f) (sym (r .split))
+      (subst (λ l. Favours (r .before ++ (r .call ∷ l)) c p f) (q .0)
+      (subst (λ h. Favours (r .before ++ (r .call ∷ us)) h p f) (q .1) w))))
       (λ q. r .latest us (q .0) d f (q .1) w)
       (snoc-split (r .after) us vs c d k);
   adds-up = sum-of (xs ++ (c ∷ [])) p _ _ z e number count;
@@ -205,7 +225,8 @@ favoured-still xs c p z e m quiet r = record {
     here-now = append-assoc (r .before) (r .call ∷ []) (r .after) ∙ sym (r .split)
 
     count : worked (xs ++ (c ∷ [])) .leaves ≡ leavesIn start (r .after ++ (c ∷ []))
-    count = let a = ap (λ (b : Board). b .leaves) (worked-snoc xs c) ∙ m .left fav in let b = leaves-same xs c in let d = r .count in let g = leavesIn-snoc start (r .after) c in
+    count = let a = ap (λ (b : Board). b .leaves) (worked-snoc xs c) ∙ m .left fav in let b = leaves-same xs c in
+        let d = r .count in let g = leavesIn-snoc start (r .after) c in
         let h : acceptedLeave (start ++ r .after) c ≡ acceptedLeave xs c = ap (λ l. acceptedLeave l c) here-now in omega arith
 
 favoured-by : (xs : List Call) (p : ℕ) → p ≢ 0 → worked xs .favoured ≡ p → FavouredBy xs p
@@ -215,24 +236,29 @@ favoured-by xs = by-end (λ l. (p : ℕ) → p ≢ 0 → worked l .favoured ≡ 
     start : (p : ℕ) → p ≢ 0 → worked [] .favoured ≡ p → FavouredBy [] p
     start p z e = absurd (z (sym e))
 
-    next : (l : List Call) (c : Call) → ((p : ℕ) → p ≢ 0 → worked l .favoured ≡ p → FavouredBy l p) → (p : ℕ) → p ≢ 0 → worked (l ++ (c ∷ [])) .favoured ≡ p → FavouredBy (l ++ (c ∷ [])) p
+    next : (l : List Call) (c : Call) → ((p : ℕ) → p ≢ 0 → worked l .favoured ≡ p → FavouredBy l p) → (p : ℕ) → p ≢ 0
+        → worked (l ++ (c ∷ [])) .favoured ≡ p → FavouredBy (l ++ (c ∷ [])) p
     next l c ih p z e =
         let now : replyAfter l c .board .favoured ≡ p = ap (λ (b : Board). b .favoured) (sym (worked-snoc l c)) ∙ e in
         ⊎-elim
         (λ w. favoured-now l c p z e (subst (Newly (stepOf (replyAfter l c))) (sym (w .1 .now) ∙ now) (w .1)))
-        (λ w. ⊎-elim (λ k. absurd (z (sym now ∙ k))) (λ (k : FavourMore (worked l) (replyAfter l c .board) (leavesBy (worked l) c)). favoured-still l c p z e k (λ f m. w .1 (line Word.Favour p f) m refl) (ih p z (sym (k .who) ∙ now))) (w .0))
+        (λ w. ⊎-elim (λ k. absurd (z (sym now ∙ k)))
+        (λ (k : FavourMore (worked l) (replyAfter l c .board) (leavesBy (worked l) c)). favoured-still l c p z e k
+        (λ f m. w .1 (line Word.Favour p f) m refl) (ih p z (sym (k .who) ∙ now))) (w .0))
         (step l c .fav)
 
 -- ── The favoured program gets its file ──
 
-gets-file : (xs es : List Call) (p f : ℕ) → p ≢ 0 → worked xs .favoured ≡ p → awaited (worked xs) p ≡ f → worked xs .initial ≤ worked xs .leaves + leavesIn xs es + 1 → GetsFile xs es p f
+gets-file : (xs es : List Call) (p f : ℕ) → p ≢ 0 → worked xs .favoured ≡ p → awaited (worked xs) p ≡ f
+    → worked xs .initial ≤ worked xs .leaves + leavesIn xs es + 1 → GetsFile xs es p f
 unfolding leavesIn
 gets-file xs [] p f z e a k = absurd (let b = favoured-bound (worked xs) (worked-good xs) (λ d. z (sym e ∙ d)) in omega arith)
 gets-file xs (c ∷ es) p f z e a k = ⊎-elim
     (λ (m : FavourMore (worked xs) (replyAfter xs c .board) (leavesBy (worked xs) c)).
     let s = worked-snoc xs c in
     let now : replyAfter xs c .board .favoured ≡ worked xs .favoured = m .who in
-    let w : awaited (replyAfter xs c .board) p ≡ f = ap (awaited (replyAfter xs c .board)) (sym e) ∙ step xs c .file-stays fav now ∙ ap (awaited (worked xs)) e ∙ a in
+    let w : awaited (replyAfter xs c .board) p ≡ f = ap (awaited (replyAfter xs c .board)) (sym e)
+    ∙ step xs c .file-stays fav now ∙ ap (awaited (worked xs)) e ∙ a in
     let i = ap (λ (b : Board). b .initial) s ∙ m .number in
     let l = ap (λ (b : Board). b .leaves) s ∙ m .left fav in
     let q = leaves-same xs c in
@@ -250,15 +276,18 @@ gets-file xs (c ∷ es) p f z e a k = ⊎-elim
       call = c;
       after = es;
       split = refl;
-      given = subst (λ h. line Word.Given p f ∈ settlingLines (replyAfter h c)) (sym (append-nil xs)) (subst (λ h. h ∈ settlingLines (replyAfter xs c)) (ap₂ (line Word.Given) e (ap (awaited (worked xs)) e ∙ a)) (m .line-there));
-      wait-over = ap (λ b. isWaiting (at b p .standing)) (worked-snoc xs c) ∙ ap isWaiting (ap (stands (replyAfter xs c .board .programs)) (sym e) ∙ m .runs);
+      given = subst (λ h. line Word.Given p f ∈ settlingLines (replyAfter h c)) (sym (append-nil xs))
+          (subst (λ h. h ∈ settlingLines (replyAfter xs c)) (ap₂ (line Word.Given) e (ap (awaited (worked xs)) e ∙ a)) (m .line-there));
+      wait-over = ap (λ b. isWaiting (at b p .standing)) (worked-snoc xs c)
+          ∙ ap isWaiting (ap (stands (replyAfter xs c .board .programs)) (sym e) ∙ m .runs);
     })
     (step xs c .ended fav)
   where
     fav : worked xs .favoured ≢ 0
     fav d = z (sym e ∙ d)
 
-favoured-gets : (xs es : List Call) (c : Call) (p f : ℕ) → Favours xs c p f → leavesIn (xs ++ (c ∷ [])) es + 1 ≡ admittedAfter (xs ++ (c ∷ [])) → GetsFile (xs ++ (c ∷ [])) es p f
+favoured-gets : (xs es : List Call) (c : Call) (p f : ℕ) → Favours xs c p f
+    → leavesIn (xs ++ (c ∷ [])) es + 1 ≡ admittedAfter (xs ++ (c ∷ [])) → GetsFile (xs ++ (c ∷ [])) es p f
 favoured-gets xs es c p f h k = ⊎-elim
     (λ w. let n = w .1 in
     let d : line Word.Favour p f ≡ line Word.Favour (w .0) (n .file) = n .no-other (line Word.Favour p f) h refl in

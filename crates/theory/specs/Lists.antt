@@ -6,7 +6,8 @@ use mathlib.Core.Path.{_≡_, refl, sym, _∙_, ap, ap₂}
 use mathlib.Core.Logic.{_≢_, ⊎-elim}
 use mathlib.Core.Bool.{Bool, true, false, not, _&&_, _||_}
 use mathlib.Core.Option.{Option, none, some}
-use mathlib.Core.List.{List, [], _∷_, _++_, List·Memᴰ, List·Memᴰ·head, List·Memᴰ·tail, List·Memᴰ·not-nil, List·Memᴰ·append-cases, List·Memᴰ·eq-of-singleton, Memᴰ·cast}
+use mathlib.Core.List.{List, [], _∷_, _++_, List·Memᴰ, List·Memᴰ·head, List·Memᴰ·tail, List·Memᴰ·not-nil, List·Memᴰ·append-cases}
+use mathlib.Core.List.{List·Memᴰ·eq-of-singleton, Memᴰ·cast}
 use lib.Dec.{eqb}
 use lib.ListN.{length, replicate}
 use borrow.Author.Tests.{eqb-true, eqb-false, eq-eqb, ne-eqb}
@@ -73,7 +74,8 @@ module _ {A : Type 0} where
   pub first-some : (t : A → Bool) (l : List A) (p : A) → first t l ≡ some p → (p ∈ l) × (t p ≡ true)
   unfolding first
   first-some t [] p e = no-some e
-  first-some t (q ∷ l) p e = by-test (t q) (λ u. let d : p ≡ q = sym (some-same (rw u at e)) in (List·Memᴰ·head d, ap t d ∙ u)) (λ u. let r = first-some t l p (rw u at e) in (List·Memᴰ·tail (r .0), r .1))
+  first-some t (q ∷ l) p e = by-test (t q) (λ u. let d : p ≡ q = sym (some-same (rw u at e)) in
+      (List·Memᴰ·head d, ap t d ∙ u)) (λ u. let r = first-some t l p (rw u at e) in (List·Memᴰ·tail (r .0), r .1))
 
   pub first-none : (t : A → Bool) (l : List A) → first t l ≡ none → (p : A) → p ∈ l → t p ≡ false
   unfolding first
@@ -109,7 +111,8 @@ keep-same t t′ (x ∷ l) f = let r = keep-same t t′ l (λ a m. f a (List·Me
 pub Pairs-keep : (R : ℕ → ℕ → Type 0) (t : ℕ → Bool) (l : List ℕ) → Pairs R l → Pairs R (keep t l)
 unfolding keep Pairs
 Pairs-keep R t [] p = tt
-Pairs-keep R t (x ∷ l) p = by-test (t x) (λ u. rw u (λ b m. p .0 b ((keep-mem t l b m) .0), Pairs-keep R t l (p .1))) (λ u. rw u (Pairs-keep R t l (p .1)))
+Pairs-keep R t (x ∷ l) p = by-test (t x) (λ u. rw u (λ b m. p .0 b ((keep-mem t l b m) .0), Pairs-keep R t l (p .1)))
+    (λ u. rw u (Pairs-keep R t l (p .1)))
 
 pub length-keep : (t : ℕ → Bool) (l : List ℕ) → length (keep t l) ≤ length l
 unfolding keep
@@ -160,7 +163,8 @@ rising-mem (suc n) k a m = by-mem m (λ d. (omega arith, omega arith)) (λ u. le
 pub mem-rising : (n k a : ℕ) → k ≤ a → a < k + n → a ∈ rising n k
 unfolding rising
 mem-rising zero k a u v = absurd (omega arith)
-mem-rising (suc n) k a u v = by-test (eqb a k) (λ e. List·Memᴰ·head (eqb-true a k e)) (λ e. let d : a ≢ k = eqb-false a k e in List·Memᴰ·tail (mem-rising n (suc k) a (omega arith) (omega arith)))
+mem-rising (suc n) k a u v = by-test (eqb a k) (λ e. List·Memᴰ·head (eqb-true a k e))
+    (λ e. let d : a ≢ k = eqb-false a k e in List·Memᴰ·tail (mem-rising n (suc k) a (omega arith) (omega arith)))
 
 pub rising-pairs : (n k : ℕ) → Pairs (λ a b. a < b) (rising n k)
 unfolding rising Pairs
@@ -182,12 +186,19 @@ Pairs-map (x ∷ l) f p = (λ b m. f x b here (List·Memᴰ·tail m) (p .0 b m),
 pub Pairs-map₂ : (R S T : ℕ → ℕ → Type 0) (l : List ℕ) → ((a b : ℕ) → a ∈ l → b ∈ l → R a b → S a b → T a b) → Pairs R l → Pairs S l → Pairs T l
 unfolding Pairs
 Pairs-map₂ R S T [] f p q = tt
-Pairs-map₂ R S T (x ∷ l) f p q = (λ b m. f x b here (List·Memᴰ·tail m) (p .0 b m) (q .0 b m), Pairs-map₂ R S T l (λ a b m k. f a b (List·Memᴰ·tail m) (List·Memᴰ·tail k)) (p .1) (q .1))
+Pairs-map₂ R S T (x ∷ l) f p q = (
+  λ b m. f x b here (List·Memᴰ·tail m) (p .0 b m) (q .0 b m),
+  Pairs-map₂ R S T l
+      (λ a b m k. f a b (List·Memᴰ·tail m) (List·Memᴰ·tail k)) (p .1) (q .1),
+)
 
 pub Pairs-append : (R : ℕ → ℕ → Type 0) (xs ys : List ℕ) → Pairs R xs → Pairs R ys → ((a b : ℕ) → a ∈ xs → b ∈ ys → R a b) → Pairs R (xs ++ ys)
 unfolding Pairs
 Pairs-append R [] ys p q f = q
-Pairs-append R (x ∷ xs) ys p q f = (λ b m. ⊎-elim (p .0 b) (f x b here) (List·Memᴰ·append-cases xs m), Pairs-append R xs ys (p .1) q (λ a b m. f a b (List·Memᴰ·tail m)))
+Pairs-append R (x ∷ xs) ys p q f = (
+  λ b m. ⊎-elim (p .0 b) (f x b here) (List·Memᴰ·append-cases xs m),
+  Pairs-append R xs ys (p .1) q (λ a b m. f a b (List·Memᴰ·tail m)),
+)
 
 pub Pairs-split : (R : ℕ → ℕ → Type 0) (xs ys : List ℕ) (a b : ℕ) → Pairs R (xs ++ (a ∷ ys)) → b ∈ ys → R a b
 unfolding Pairs
@@ -196,7 +207,8 @@ Pairs-split R (x ∷ xs) ys a b p m = Pairs-split R xs ys a b (p .1) m
 
 pub once-snoc : (l : List ℕ) (p : ℕ) → NoRepeat l → (p ∈ l → ⊥) → NoRepeat (l ++ (p ∷ []))
 unfolding Pairs
-once-snoc l p c n = Pairs-append _ l (p ∷ []) c (λ b m. absurd (List·Memᴰ·not-nil m), tt) (λ a b m k d. n (Memᴰ·cast (sym (d ∙ List·Memᴰ·eq-of-singleton k)) m))
+once-snoc l p c n = Pairs-append _ l (p ∷ []) c (λ b m. absurd (List·Memᴰ·not-nil m), tt)
+    (λ a b m k d. n (Memᴰ·cast (sym (d ∙ List·Memᴰ·eq-of-singleton k)) m))
 
 pub by-snoc : {C : Type 0} (l : List ℕ) (p a : ℕ) → a ∈ l ++ (p ∷ []) → (a ∈ l → C) → (a ≡ p → C) → C
 by-snoc l p a m f g = ⊎-elim f (λ k. g (List·Memᴰ·eq-of-singleton k)) (List·Memᴰ·append-cases l m)
@@ -206,13 +218,15 @@ by-snoc l p a m f g = ⊎-elim f (λ k. g (List·Memᴰ·eq-of-singleton k)) (Li
 without-shorter : (x : ℕ) (m : List ℕ) → x ∈ m → length (without x m) < length m
 unfolding without keep
 without-shorter x [] k = absurd (List·Memᴰ·not-nil k)
-without-shorter x (y ∷ m) k = let i = length-keep (λ z. not (eqb z x)) m in by-test (eqb y x) (λ u. rw u (omega arith)) (λ u. rw u (by-mem k (λ d. absurd (eqb-false y x u (sym d))) (λ q. let j = without-shorter x m q in omega arith)))
+without-shorter x (y ∷ m) k = let i = length-keep (λ z. not (eqb z x)) m in by-test (eqb y x) (λ u. rw u (omega arith))
+    (λ u. rw u (by-mem k (λ d. absurd (eqb-false y x u (sym d))) (λ q. let j = without-shorter x m q in omega arith)))
 
 -- A list without repeats whose members are all in another is no longer than it.
 pub no-longer : (l m : List ℕ) → NoRepeat l → ((a : ℕ) → a ∈ l → a ∈ m) → length l ≤ length m
 unfolding Pairs
 no-longer [] m n f = omega arith
-no-longer (x ∷ l) m n f = let i = no-longer l (without x m) (n .1) (λ a k. mem-without x m a (f a (List·Memᴰ·tail k)) (λ d. n .0 a k (sym d))) in let j = without-shorter x m (f x here) in omega arith
+no-longer (x ∷ l) m n f = let i = no-longer l (without x m) (n .1) (λ a k. mem-without x m a (f a (List·Memᴰ·tail k))
+    (λ d. n .0 a k (sym d))) in let j = without-shorter x m (f x here) in omega arith
 
 -- ── Lines: names, then 0 ──
 
@@ -227,12 +241,16 @@ mem-listed p l m = some-any (eqb p) l p m (eq-eqb p p refl)
 pub distinct-once : (l : List ℕ) → distinct l ≡ true → NoRepeat l
 unfolding distinct Pairs
 distinct-once [] e = tt
-distinct-once (x ∷ l) e = (λ b m d. never (mem-listed x l (Memᴰ·cast d m)) (not-true (listed x l) (and-left (not (listed x l)) (distinct l) e)), distinct-once l (and-right (not (listed x l)) (distinct l) e))
+distinct-once (x ∷ l) e = (
+  λ b m d. never (mem-listed x l (Memᴰ·cast d m)) (not-true (listed x l) (and-left (not (listed x l)) (distinct l) e)),
+  distinct-once l (and-right (not (listed x l)) (distinct l) e),
+)
 
 pub once-distinct : (l : List ℕ) → NoRepeat l → distinct l ≡ true
 unfolding distinct Pairs
 once-distinct [] n = refl
-once-distinct (x ∷ l) n = and-both (not (listed x l)) (distinct l) (true-not (listed x l) (no-true (listed x l) (λ e. n .0 x (listed-mem x l e) refl))) (once-distinct l (n .1))
+once-distinct (x ∷ l) n = and-both (not (listed x l)) (distinct l) (true-not (listed x l) (no-true (listed x l)
+    (λ e. n .0 x (listed-mem x l e) refl))) (once-distinct l (n .1))
 
 pub same-eq : (l m : List ℕ) → same l m ≡ true → l ≡ m
 unfolding same
@@ -252,7 +270,8 @@ eq-same (x ∷ xs) (y ∷ ys) e = let a : x ≡ y = cc in let b : xs ≡ ys = cc
 pub names-some : (l : List ℕ) (p : ℕ) → p ∈ names l → p ≢ 0
 unfolding names
 names-some [] p m = absurd (List·Memᴰ·not-nil m)
-names-some (x ∷ l) p m = by-test (eqb x 0) (λ u. absurd (List·Memᴰ·not-nil (rw u at m))) (λ u. by-mem (rw u at m) (λ d z. eqb-false x 0 u (sym d ∙ z)) (names-some l p))
+names-some (x ∷ l) p m = by-test (eqb x 0) (λ u. absurd (List·Memᴰ·not-nil (rw u at m))) (λ u. by-mem (rw u at m)
+    (λ d z. eqb-false x 0 u (sym d ∙ z)) (names-some l p))
 
 names-zeros : (n : ℕ) → names (replicate n 0) ≡ []
 unfolding names

@@ -21,7 +21,10 @@ use Rattle.rules.specs.Boards.{noProgram, isAbsent, isHeld, isWaiting, isAdmitt
 use Rattle.rules.specs.Orders.{conflict, holdsBack}
 use Rattle.theory.specs.Lists.{_∈_, NoRepeat, names-padded, without-mem, mem-without, Pairs-without, once-snoc, by-snoc, length-without}
 use Rattle.theory.specs.Order.{IsOrder, order-below, order-without}
-use Rattle.theory.specs.Programs.{Is, Within, idle-conflict, conflict-idle, Progs, prog, put, Sized, sized-put, put-same, put-other, put-case, holds, isIn, ins, give, can, mem-ins, ins-mem, ins-once, ins-same, ins-out, ins-before, Own, Base, put-less, base-shrink, base-leave, base-enter, opening-standing, opening-v, opening-more, Claims, base-give, ins-give, can-mono}
+use Rattle.theory.specs.Programs.{Is, Within, idle-conflict, conflict-idle, Progs, prog, put, Sized, sized-put, put-same, put-other}
+use Rattle.theory.specs.Programs.{put-case, holds, isIn, ins, give, can, mem-ins, ins-mem, ins-once, ins-same, ins-out, ins-before}
+use Rattle.theory.specs.Programs.{Own, Base, put-less, base-shrink, base-leave, base-enter, opening-standing, opening-v, opening-more}
+use Rattle.theory.specs.Programs.{Claims, base-give, ins-give, can-mono}
 
 -- ── Standings ──
 
@@ -68,7 +71,8 @@ pub record OnLine (l : List ℕ) (t : ℕ → Bool) : Type 0 where
   pub of : (p : ℕ) → p ∈ names l → Is p × (t p ≡ true)
   pub on : (p : ℕ) → Is p → t p ≡ true → p ∈ names l
 
-pub line-make : (m : List ℕ) (t : ℕ → Bool) → NoRepeat m → ((p : ℕ) → p ∈ m → Is p × (t p ≡ true)) → ((p : ℕ) → Is p → t p ≡ true → p ∈ m) → OnLine (padded 0 m) t
+pub line-make : (m : List ℕ) (t : ℕ → Bool) → NoRepeat m → ((p : ℕ) → p ∈ m → Is p × (t p ≡ true))
+    → ((p : ℕ) → Is p → t p ≡ true → p ∈ m) → OnLine (padded 0 m) t
 line-make m t n f g = record {
   form = ap (padded 0) (sym e);
   once = subst NoRepeat (sym e) n;
@@ -80,15 +84,25 @@ line-make m t n f g = record {
     e = names-padded m (λ p k d. let c = f p k .0 .least in omega arith)
 
 pub line-same : (l : List ℕ) (t t′ : ℕ → Bool) → ((p : ℕ) → Is p → t′ p ≡ t p) → OnLine l t → OnLine l t′
-line-same l t t′ f c = record { form = c .form; once = c .once; of = λ p m. let r = c .of p m in (r .0, f p (r .0) ∙ r .1); on = λ p i e. c .on p i (sym (f p i) ∙ e) }
+line-same l t t′ f c = record {
+  form = c .form;
+  once = c .once;
+  of = λ p m. let r = c .of p m in
+      (r .0, f p (r .0) ∙ r .1);
+  on = λ p i e. c .on p i (sym (f p i) ∙ e);
+}
 
-pub line-more : (l : List ℕ) (t t′ : ℕ → Bool) (p : ℕ) → Is p → t p ≡ false → t′ p ≡ true → ((i : ℕ) → Is i → i ≢ p → t′ i ≡ t i) → OnLine l t → OnLine (padded 0 (names l ++ (p ∷ []))) t′
+pub line-more : (l : List ℕ) (t t′ : ℕ → Bool) (p : ℕ) → Is p → t p ≡ false → t′ p ≡ true → ((i : ℕ) → Is i → i ≢ p
+    → t′ i ≡ t i) → OnLine l t → OnLine (padded 0 (names l ++ (p ∷ []))) t′
 line-more l t t′ p c a b f k = line-make (names l ++ (p ∷ [])) t′
     (once-snoc (names l) p (k .once) (λ m. never (k .of p m .1) a))
-    (λ i m. by-snoc (names l) p i m (λ q. let r = k .of i q in (r .0, f i (r .0) (λ d. never (r .1) (ap t d ∙ a)) ∙ r .1)) (λ d. (subst Is (sym d) c, ap t′ d ∙ b)))
-    (λ i j u. by-test (eqb i p) (λ e. Memᴰ·append-right (names l) (List·Memᴰ·head (eqb-true i p e))) (λ e. Memᴰ·append-left (p ∷ []) (k .on i j (sym (f i j (eqb-false i p e)) ∙ u))))
+    (λ i m. by-snoc (names l) p i m (λ q. let r = k .of i q in (r .0, f i (r .0) (λ d. never (r .1) (ap t d ∙ a)) ∙ r .1))
+    (λ d. (subst Is (sym d) c, ap t′ d ∙ b)))
+    (λ i j u. by-test (eqb i p) (λ e. Memᴰ·append-right (names l) (List·Memᴰ·head (eqb-true i p e)))
+    (λ e. Memᴰ·append-left (p ∷ []) (k .on i j (sym (f i j (eqb-false i p e)) ∙ u))))
 
-pub line-less : (l : List ℕ) (t t′ : ℕ → Bool) (p : ℕ) → t′ p ≡ false → ((i : ℕ) → Is i → i ≢ p → t′ i ≡ t i) → OnLine l t → OnLine (padded 0 (without p (names l))) t′
+pub line-less : (l : List ℕ) (t t′ : ℕ → Bool) (p : ℕ) → t′ p ≡ false → ((i : ℕ) → Is i → i ≢ p → t′ i ≡ t i)
+    → OnLine l t → OnLine (padded 0 (without p (names l))) t′
 line-less l t t′ p a f k = line-make (without p (names l)) t′
     (Pairs-without _ p (names l) (k .once))
     (λ i m. let (q, n) = without-mem p (names l) i m in let r = k .of i q in (r .0, f i (r .0) n ∙ r .1))
@@ -129,7 +143,8 @@ pub record Good (b : Board) : Type 0 where
 -- ── One program is put anew ──
 
 -- A standing that p has neither before nor after.
-pub test-put : (T : Standing → Bool) (P : Progs) (p : ℕ) (x : Program) → Sized P → Is p → T (x .standing) ≡ T (stands P p) → (i : ℕ) → Is i → T (stands (put P p x) i) ≡ T (stands P i)
+pub test-put : (T : Standing → Bool) (P : Progs) (p : ℕ) (x : Program) → Sized P → Is p → T (x .standing) ≡ T (stands P p)
+    → (i : ℕ) → Is i → T (stands (put P p x) i) ≡ T (stands P i)
 test-put T P p x z c e i k = put-case (λ y. T (y .standing) ≡ T (stands P i)) P p x z c i k (λ d. e ∙ ap (λ j. T (stands P j)) (sym d)) (λ n. refl)
 
 pub test-other : (T : Standing → Bool) (P : Progs) (p : ℕ) (x : Program) → Is p → (i : ℕ) → Is i → i ≢ p → T (stands (put P p x) i) ≡ T (stands P i)
@@ -139,12 +154,14 @@ pub test-same : (T : Standing → Bool) (P : Progs) (p : ℕ) (x : Program) → 
 test-same T P p x z c = ap (λ (y : Program). T (y .standing)) (put-same P p x z c)
 
 -- A running program is put anew, running, with no more than it had: close and drop.
-pub loose-shrink : (P : Progs) (w e : List ℕ) (fav n l p : ℕ) (x : Program) → Is p → stands P p ≡ Standing.Running → x .standing ≡ Standing.Running → Within x (prog P p) → Own x → LooseIn P w e fav n l → LooseIn (put P p x) w e fav n l
+pub loose-shrink : (P : Progs) (w e : List ℕ) (fav n l p : ℕ) (x : Program) → Is p → stands P p ≡ Standing.Running
+    → x .standing ≡ Standing.Running → Within x (prog P p) → Own x → LooseIn P w e fav n l → LooseIn (put P p x) w e fav n l
 loose-shrink P w e fav n l p x c r s d o k = record {
   base = base-shrink P p x c d o (ap isAdmitted s ∙ sym (ap isAdmitted r)) (k .base);
   waits = line-same w _ _ (test-put isWaiting P p x z c (ap isWaiting s ∙ sym (ap isWaiting r))) (k .waits);
   helds = line-same e _ _ (test-put isHeld P p x z c (ap isHeld s ∙ sym (ap isHeld r))) (k .helds);
-  asked = λ y g i u. let m : y ≢ p = (λ q. never {t = false} (sym (ap isWaiting s) ∙ sym (test-same isWaiting P p x z c) ∙ ap (λ j. isWaiting (stands (put P p x) j)) (sym q) ∙ ap isWaiting u) refl) in
+  asked = λ y g i u. let m : y ≢ p = (λ q. never {t = false} (sym (ap isWaiting s) ∙ sym (test-same isWaiting P p x z c)
+      ∙ ap (λ j. isWaiting (stands (put P p x) j)) (sym q) ∙ ap isWaiting u) refl) in
       subst (λ q. Asked q g) (sym (put-other P p y x c i m)) (k .asked y g i (ap (λ (q : Program). q .standing) (sym (put-other P p y x c i m)) ∙ u));
   fav-waits = λ m. let (i, u) = k .fav-waits m in (i, test-put isWaiting P p x z c (ap isWaiting s ∙ sym (ap isWaiting r)) fav i ∙ u);
   count = λ m. let (i, u) = k .count m in (ap (λ q. l + length q) (ins-same P p x z c (ap isAdmitted s ∙ sym (ap isAdmitted r))) ∙ i, u);
@@ -160,11 +177,23 @@ closing-standing : (x : Program) (f : ℕ) → closing x f .standing ≡ x .stan
 unfolding closing
 closing-standing x f = refl
 
-pub loose-close : (P : Progs) (w e : List ℕ) (fav n l p f : ℕ) → Is p → stands P p ≡ Standing.Running → LooseIn P w e fav n l → LooseIn (put P p (closing (prog P p) f)) w e fav n l
+pub loose-close : (P : Progs) (w e : List ℕ) (fav n l p f : ℕ) → Is p → stands P p ≡ Standing.Running
+    → LooseIn P w e fav n l → LooseIn (put P p (closing (prog P p) f)) w e fav n l
 unfolding closing
 loose-close P w e fav n l p f c r k = let x = prog P p in let o = k .base .own p c in
-    loose-shrink P w e fav n l p (closing x f) c r r (record { in-v = λ g z. z; in-q = λ g z. z; in-w = removing-⊑ (x .writing) f; in-r = removing-⊑ (x .reading) f })
-    (record { wv = λ g z. o .wv g (removing-⊑ (x .writing) f g z); rq = λ g z. o .rq g (removing-⊑ (x .reading) f g z); vq = o .vq; idle = λ z. never {t = true} refl (sym (ap isAdmitted r) ∙ z); gone = o .gone }) k
+    loose-shrink P w e fav n l p (closing x f) c r r (record {
+      in-v = λ g z. z;
+      in-q = λ g z. z;
+      in-w = removing-⊑ (x .writing) f;
+      in-r = removing-⊑ (x .reading) f;
+    })
+    (record {
+      wv = λ g z. o .wv g (removing-⊑ (x .writing) f g z);
+      rq = λ g z. o .rq g (removing-⊑ (x .reading) f g z);
+      vq = o .vq;
+      idle = λ z. never {t = true} refl (sym (ap isAdmitted r) ∙ z);
+      gone = o .gone;
+    }) k
 
 -- ── Drop, of a file that is not open ──
 
@@ -176,10 +205,16 @@ or-false-right : (a b : Bool) → a || b ≡ false → b ≡ false
 or-false-right true b e = never {t = true} refl e
 or-false-right false b e = e
 
-pub loose-drop : (P : Progs) (w e : List ℕ) (fav n l p f : ℕ) → Is p → stands P p ≡ Standing.Running → hasOpen (prog P p) f ≡ false → LooseIn P w e fav n l → LooseIn (put P p (dropping (prog P p) f)) w e fav n l
+pub loose-drop : (P : Progs) (w e : List ℕ) (fav n l p f : ℕ) → Is p → stands P p ≡ Standing.Running
+    → hasOpen (prog P p) f ≡ false → LooseIn P w e fav n l → LooseIn (put P p (dropping (prog P p) f)) w e fav n l
 unfolding dropping
 loose-drop P w e fav n l p f c r h k = let x = prog P p in let o = k .base .own p c in
-    loose-shrink P w e fav n l p (dropping x f) c r r (record { in-v = removing-⊑ (x .writable) f; in-q = removing-⊑ (x .readable) f; in-w = λ g z. z; in-r = λ g z. z })
+    loose-shrink P w e fav n l p (dropping x f) c r r (record {
+      in-v = removing-⊑ (x .writable) f;
+      in-q = removing-⊑ (x .readable) f;
+      in-w = λ g z. z;
+      in-r = λ g z. z;
+    })
     (record {
       wv = ⊑-removing (x .writing) (x .writable) f (o .wv) (or-false-left (member (x .writing) f) (member (x .reading) f) h);
       rq = ⊑-removing (x .reading) (x .readable) f (o .rq) (or-false-right (member (x .writing) f) (member (x .reading) f) h);
@@ -193,15 +228,19 @@ loose-drop P w e fav n l p f c r h k = let x = prog P p in let o = k .base .own 
 pub none-own : Own noProgram
 none-own = record { wv = λ g z. z; rq = λ g z. z; vq = refl; idle = λ z. (refl, refl); gone = λ z. (refl, refl) }
 
-pub loose-leave : (P : Progs) (w e : List ℕ) (fav n l l′ p : ℕ) → Is p → stands P p ≡ Standing.Running → (fav ≢ 0 → l′ ≡ l + 1) → (fav ≡ 0 → l′ ≡ l) → LooseIn P w e fav n l → LooseIn (put P p noProgram) w e fav n l′
+pub loose-leave : (P : Progs) (w e : List ℕ) (fav n l l′ p : ℕ) → Is p → stands P p ≡ Standing.Running
+    → (fav ≢ 0 → l′ ≡ l + 1) → (fav ≡ 0 → l′ ≡ l) → LooseIn P w e fav n l → LooseIn (put P p noProgram) w e fav n l′
 loose-leave P w e fav n l l′ p c r up stay k = record {
   base = base-leave P p noProgram c (record { in-v = none-⊑ _; in-q = none-⊑ _; in-w = none-⊑ _; in-r = none-⊑ _ }) none-own refl (k .base);
   waits = line-same w _ _ (test-put isWaiting P p noProgram z c (sym (ap isWaiting r))) (k .waits);
   helds = line-same e _ _ (test-put isHeld P p noProgram z c (sym (ap isHeld r))) (k .helds);
-  asked = λ y g i u. let m : y ≢ p = (λ q. never {t = false} (sym (test-same isWaiting P p noProgram z c) ∙ ap (λ j. isWaiting (stands (put P p noProgram) j)) (sym q) ∙ ap isWaiting u) refl) in
-      subst (λ q. Asked q g) (sym (put-other P p y noProgram c i m)) (k .asked y g i (ap (λ (q : Program). q .standing) (sym (put-other P p y noProgram c i m)) ∙ u));
+  asked = λ y g i u. let m : y ≢ p = (λ q. never {t = false} (sym (test-same isWaiting P p noProgram z c)
+      ∙ ap (λ j. isWaiting (stands (put P p noProgram) j)) (sym q) ∙ ap isWaiting u) refl) in
+      subst (λ q. Asked q g) (sym (put-other P p y noProgram c i m))
+      (k .asked y g i (ap (λ (q : Program). q .standing) (sym (put-other P p y noProgram c i m)) ∙ u));
   fav-waits = λ m. let (i, u) = k .fav-waits m in (i, test-put isWaiting P p noProgram z c (sym (ap isWaiting r)) fav i ∙ u);
-  count = λ m. let (i, u) = k .count m in let d = length-without p (ins P) (ins-once P) (mem-ins P p c (ap isAdmitted r)) in let q = ap length (ins-out P p noProgram z c refl) in let v = up m in (omega arith, u);
+  count = λ m. let (i, u) = k .count m in let d = length-without p (ins P) (ins-once P) (mem-ins P p c (ap isAdmitted r)) in
+      let q = ap length (ins-out P p noProgram z c refl) in let v = up m in (omega arith, u);
   nobody = λ m. let (i, u) = k .nobody m in (i, stay m ∙ u);
 }
   where
@@ -247,22 +286,35 @@ module _ (P : Progs) (p f : ℕ) (z : Sized P) (c : Is p) where
 
   pub served-other : (i : ℕ) → Is i → i ≢ p → prog (served P p f) i ≡ prog P i
   unfolding give
-  served-other i k n = put-other (give P p f) p i (setStanding (prog (give P p f) p) Standing.Running) c k n ∙ put-other P p i (opening (prog P p) f) c k n
+  served-other i k n = put-other (give P p f) p i (setStanding (prog (give P p f) p) Standing.Running) c k n
+      ∙ put-other P p i (opening (prog P p) f) c k n
 
   given-stands : stands (give P p f) p ≡ stands P p
   given-stands = ap (λ (q : Program). q .standing) given-prog ∙ opening-standing (prog P p) f
 
   pub served-ins : isIn P p ≡ true → ins (served P p f) ≡ ins P
-  served-ins a = ins-same (give P p f) p (setStanding (prog (give P p f) p) Standing.Running) given-size c (sym (ap isAdmitted given-stands ∙ a)) ∙ ins-give P p f z c
+  served-ins a = ins-same (give P p f) p (setStanding (prog (give P p f) p) Standing.Running) given-size c
+      (sym (ap isAdmitted given-stands ∙ a)) ∙ ins-give P p f z c
 
   pub served-stuck : isIn P p ≡ true → (y g : ℕ) → Is y → can P y g ≡ false → can (served P p f) y g ≡ false
   unfolding give
-  served-stuck a y g i n = stuck-put (give P p f) p (setStanding (prog (give P p f) p) Standing.Running) given-size c (record { in-v = λ _ u. u; in-q = λ _ u. u; in-w = λ _ u. u; in-r = λ _ u. u }) (sym (ap isAdmitted given-stands ∙ a)) y g i (λ _. refl)
-      (stuck-put P p (opening (prog P p) f) z c (opening-more (prog P p) f) (ap isAdmitted (opening-standing (prog P p) f)) y g i (λ _. sym (opening-v (prog P p) f)) n)
+  served-stuck a y g i n = stuck-put (give P p f) p (setStanding (prog (give P p f) p) Standing.Running) given-size c
+      (record { in-v = λ _ u. u; in-q = λ _ u. u; in-w = λ _ u. u; in-r = λ _ u. u }) (sym (ap isAdmitted given-stands
+      ∙ a)) y g i (λ _. refl)
+      (stuck-put P p (opening (prog P p) f) z c (opening-more (prog P p) f)
+      (ap isAdmitted (opening-standing (prog P p) f)) y g i (λ _. sym (opening-v (prog P p) f)) n)
 
   pub served-base : Claims (prog P p) f → isIn P p ≡ true → can P p f ≡ true → Base P → Base (served P p f)
-  served-base m a e b = base-shrink (give P p f) p (setStanding (prog (give P p f) p) Standing.Running) c (record { in-v = λ _ u. u; in-q = λ _ u. u; in-w = λ _ u. u; in-r = λ _ u. u })
-      (record { wv = o .wv; rq = o .rq; vq = o .vq; idle = λ u. never {t = true} refl u; gone = λ u. never {t = false} (ap isAbsent u) refl }) (sym (ap isAdmitted given-stands ∙ a)) g
+  served-base m a e b = base-shrink (give P p f) p (setStanding (prog (give P p f) p) Standing.Running) c
+      (record { in-v = λ _ u. u; in-q = λ _ u. u; in-w = λ _ u. u; in-r = λ _ u. u })
+      (record {
+        wv = o .wv;
+        rq = o .rq;
+        vq = o .vq;
+        idle = λ u. never {t = true} refl u;
+        gone = λ u. never {t = false}
+            (ap isAbsent u) refl;
+      }) (sym (ap isAdmitted given-stands ∙ a)) g
     where
       g : Base (give P p f)
       g = base-give P p f c m a e b
@@ -276,13 +328,21 @@ pub loose-serve : (P : Progs) (w e : List ℕ) (fav n l fav′ n′ l′ p f : �
     → LooseIn P w e fav n l → LooseIn (served P p f) (padded 0 (without p (names w))) e fav′ n′ l′
 loose-serve P w e fav n l fav′ n′ l′ p f c s u keep stop k = record {
   base = served-base P p f z c (k .asked p f c s .claimed) a u (k .base);
-  waits = line-less w _ _ p (ap isWaiting (served-runs P p f z c)) (λ i j m. ap (λ (q : Program). isWaiting (q .standing)) (served-other P p f z c i j m)) (k .waits);
+  waits = line-less w _ _ p (ap isWaiting (served-runs P p f z c))
+      (λ i j m. ap (λ (q : Program). isWaiting (q .standing)) (served-other P p f z c i j m)) (k .waits);
   helds = line-same e _ _ still (k .helds);
-  asked = λ y g i v. let m : y ≢ p = (λ q. never {t = false} (sym (ap isWaiting (served-runs P p f z c)) ∙ ap (λ j. isWaiting (stands (served P p f) j)) (sym q) ∙ ap isWaiting v) refl) in
-      subst (λ q. Asked q g) (sym (served-other P p f z c y i m)) (k .asked y g i (ap (λ (q : Program). q .standing) (sym (served-other P p f z c y i m)) ∙ v));
+  asked = λ y g i v. let m : y ≢ p = (λ q. never {t = false} (sym (ap isWaiting (served-runs P p f z c))
+      ∙ ap (λ j. isWaiting (stands (served P p f) j)) (sym q) ∙ ap isWaiting v) refl) in
+      subst (λ q. Asked q g) (sym (served-other P p f z c y i m)) (k .asked y g i (ap (λ (q : Program). q .standing)
+      (sym (served-other P p f z c y i m)) ∙ v));
   fav-waits = λ m. let (d, x, _, _) = keep m in let (i, v) = k .fav-waits (λ q. m (d ∙ q)) in
-      subst (λ j. Is j × (waitsIn (served P p f) j ≡ true)) (sym d) (i, ap (λ (q : Program). isWaiting (q .standing)) (served-other P p f z c fav i x) ∙ v);
-  count = λ m. let (d, _, x, y) = keep m in let (i, v) = k .count (λ q. m (d ∙ q)) in let q = ap length (served-ins P p f z c a) in (omega arith, omega arith);
+      subst (λ j. Is j × (waitsIn (served P p f) j ≡ true)) (sym d) (
+        i,
+        ap (λ (q : Program). isWaiting (q .standing))
+            (served-other P p f z c fav i x) ∙ v,
+      );
+  count = λ m. let (d, _, x, y) = keep m in let (i, v) = k .count (λ q. m (d ∙ q)) in let q =
+      ap length (served-ins P p f z c a) in (omega arith, omega arith);
   nobody = stop;
 }
   where
@@ -294,18 +354,22 @@ loose-serve P w e fav n l fav′ n′ l′ p f c s u keep stop k = record {
 
     still : (i : ℕ) → Is i → heldAt (served P p f) i ≡ heldAt P i
     still i j = by-test (eqb i p)
-        (λ t. ap (heldAt (served P p f)) (eqb-true i p t) ∙ ap isHeld (served-runs P p f z c) ∙ sym (ap isHeld s) ∙ ap (heldAt P) (sym (eqb-true i p t)))
+        (λ t. ap (heldAt (served P p f)) (eqb-true i p t) ∙ ap isHeld (served-runs P p f z c) ∙ sym (ap isHeld s)
+        ∙ ap (heldAt P) (sym (eqb-true i p t)))
         (λ t. ap (λ (q : Program). isHeld (q .standing)) (served-other P p f z c i j (eqb-false i p t)))
 
 -- ── Open: the file is given ──
 
-pub loose-open : (P : Progs) (w e : List ℕ) (fav n l p f : ℕ) → Is p → stands P p ≡ Standing.Running → Claims (prog P p) f → can P p f ≡ true → LooseIn P w e fav n l → LooseIn (give P p f) w e fav n l
+pub loose-open : (P : Progs) (w e : List ℕ) (fav n l p f : ℕ) → Is p → stands P p ≡ Standing.Running
+    → Claims (prog P p) f → can P p f ≡ true → LooseIn P w e fav n l → LooseIn (give P p f) w e fav n l
 unfolding give
 loose-open P w e fav n l p f c r m u k = record {
   base = base-give P p f c m (ap isAdmitted r) u (k .base);
   waits = line-same w _ _ (test-put isWaiting P p x z c (ap isWaiting o)) (k .waits);
   helds = line-same e _ _ (test-put isHeld P p x z c (ap isHeld o)) (k .helds);
-  asked = λ y g i v. let m : y ≢ p = (λ q. never {t = false} (sym (ap isWaiting (o ∙ r)) ∙ sym (test-same isWaiting P p x z c) ∙ ap (λ j. isWaiting (stands (put P p x) j)) (sym q) ∙ ap isWaiting v) refl) in
+  asked = λ y g i v. let m : y ≢ p =
+      (λ q. never {t = false} (sym (ap isWaiting (o ∙ r)) ∙ sym (test-same isWaiting P p x z c)
+      ∙ ap (λ j. isWaiting (stands (put P p x) j)) (sym q) ∙ ap isWaiting v) refl) in
       subst (λ q. Asked q g) (sym (put-other P p y x c i m)) (k .asked y g i (ap (λ (q : Program). q .standing) (sym (put-other P p y x c i m)) ∙ v));
   fav-waits = λ m. let (i, v) = k .fav-waits m in (i, test-put isWaiting P p x z c (ap isWaiting o) fav i ∙ v);
   count = λ m. let (i, v) = k .count m in (ap (λ q. l + length q) (ins-same P p x z c (ap isAdmitted o)) ∙ i, v);
@@ -324,7 +388,8 @@ loose-open P w e fav n l p f c r m u k = record {
 pub stuck-open : (P : Progs) (p f : ℕ) → Sized P → Is p → stands P p ≡ Standing.Running → Stuck P → Stuck (give P p f)
 unfolding give
 stuck-open P p f z c r s y g i v =
-    stuck-put P p x z c (opening-more (prog P p) f) (ap isAdmitted (opening-standing (prog P p) f)) y g i (λ _. sym (opening-v (prog P p) f)) (s y g i (sym same ∙ v))
+    stuck-put P p x z c (opening-more (prog P p) f) (ap isAdmitted (opening-standing (prog P p) f)) y g i
+    (λ _. sym (opening-v (prog P p) f)) (s y g i (sym same ∙ v))
   where
     x : Program
     x = opening (prog P p) f
@@ -337,13 +402,23 @@ stuck-open P p f z c r s y g i v =
 pub loose-wait : (P : Progs) (w e : List ℕ) (fav n l p f : ℕ) → Is p → stands P p ≡ Standing.Running → Asked (prog P p) f → LooseIn P w e fav n l
     → LooseIn (put P p (setStanding (prog P p) (Standing.Waiting f))) (padded 0 (names w ++ (p ∷ []))) e fav n l
 loose-wait P w e fav n l p f c r m k = record {
-  base = base-shrink P p x c (record { in-v = λ _ u. u; in-q = λ _ u. u; in-w = λ _ u. u; in-r = λ _ u. u }) (record { wv = o .wv; rq = o .rq; vq = o .vq; idle = λ u. never {t = true} refl u; gone = λ u. never {t = false} (ap isAbsent u) refl }) (sym (ap isAdmitted r)) (k .base);
+  base = base-shrink P p x c (record { in-v = λ _ u. u; in-q = λ _ u. u; in-w = λ _ u. u; in-r = λ _ u. u })
+      (record {
+        wv = o .wv;
+        rq = o .rq;
+        vq = o .vq;
+        idle = λ u. never {t = true} refl u;
+        gone = λ u. never {t = false}
+            (ap isAbsent u) refl;
+      }) (sym (ap isAdmitted r)) (k .base);
   waits = line-more w _ _ p c (ap isWaiting r) (test-same isWaiting P p x z c) (test-other isWaiting P p x c) (k .waits);
   helds = line-same e _ _ (test-put isHeld P p x z c (sym (ap isHeld r))) (k .helds);
   asked = λ y g i u. by-test (eqb y p)
-      (λ t. let d = eqb-true y p t in let q : f ≡ g = same-file f g (sym (ap (λ (q : Program). q .standing) (put-same P p x z c)) ∙ ap (stands (put P p x)) (sym d) ∙ u) in
+      (λ t. let d = eqb-true y p t in let q : f ≡ g = same-file f g
+      (sym (ap (λ (q : Program). q .standing) (put-same P p x z c)) ∙ ap (stands (put P p x)) (sym d) ∙ u) in
       put-case (λ q. Asked q g) P p x z c y i (λ _. subst (Asked x) q (record { claimed = m .claimed; shut = m .shut })) (λ v. absurd (v d)))
-      (λ t. let v = eqb-false y p t in subst (λ q. Asked q g) (sym (put-other P p y x c i v)) (k .asked y g i (ap (λ (q : Program). q .standing) (sym (put-other P p y x c i v)) ∙ u)));
+      (λ t. let v = eqb-false y p t in subst (λ q. Asked q g) (sym (put-other P p y x c i v))
+      (k .asked y g i (ap (λ (q : Program). q .standing) (sym (put-other P p y x c i v)) ∙ u)));
   fav-waits = λ v. let (i, u) = k .fav-waits v in (i, test-other isWaiting P p x c fav i (λ d. never u (ap (waitsIn P) d ∙ ap isWaiting r)) ∙ u);
   count = λ v. let (i, u) = k .count v in (ap (λ q. l + length q) (ins-same P p x z c (sym (ap isAdmitted r))) ∙ i, u);
   nobody = k .nobody;
@@ -358,10 +433,17 @@ loose-wait P w e fav n l p f c r m k = record {
     x : Program
     x = setStanding (prog P p) (Standing.Waiting f)
 
-pub stuck-wait : (P : Progs) (p f : ℕ) → Sized P → Is p → stands P p ≡ Standing.Running → can P p f ≡ false → Stuck P → Stuck (put P p (setStanding (prog P p) (Standing.Waiting f)))
-stuck-wait P p f z c r n s y g i u = stuck-put P p x z c (record { in-v = λ _ v. v; in-q = λ _ v. v; in-w = λ _ v. v; in-r = λ _ v. v }) (sym (ap isAdmitted r)) y g i (λ _. refl)
+pub stuck-wait : (P : Progs) (p f : ℕ) → Sized P → Is p → stands P p ≡ Standing.Running → can P p f ≡ false → Stuck P
+    → Stuck (put P p (setStanding (prog P p) (Standing.Waiting f)))
+stuck-wait P p f z c r n s y g i u = stuck-put P p x z c (record {
+  in-v = λ _ v. v;
+  in-q = λ _ v. v;
+  in-w = λ _ v. v;
+  in-r = λ _ v. v;
+}) (sym (ap isAdmitted r)) y g i (λ _. refl)
     (by-test (eqb y p)
-    (λ t. let d = eqb-true y p t in let q : f ≡ g = same-file f g (sym (ap (λ (q : Program). q .standing) (put-same P p x z c)) ∙ ap (stands (put P p x)) (sym d) ∙ u) in ap₂ (can P) d (sym q) ∙ n)
+    (λ t. let d = eqb-true y p t in let q : f ≡ g = same-file f g
+    (sym (ap (λ (q : Program). q .standing) (put-same P p x z c)) ∙ ap (stands (put P p x)) (sym d) ∙ u) in ap₂ (can P) d (sym q) ∙ n)
     (λ t. s y g i (ap (λ (q : Program). q .standing) (sym (put-other P p y x c i (eqb-false y p t))) ∙ u)))
   where
     x : Program
@@ -371,19 +453,26 @@ stuck-wait P p f z c r n s y g i u = stuck-put P p x z c (record { in-v = λ _ v
 
 absent-within : (x y : Program) → Own x → x .standing ≡ Standing.Absent → Within x y
 absent-within x y o e = let (a, b) = o .gone e in let (c, d) = o .idle (ap isAdmitted e) in
-    record { in-v = sub (x .writable) (y .writable) a; in-q = sub (x .readable) (y .readable) b; in-w = sub (x .writing) (y .writing) c; in-r = sub (x .reading) (y .reading) d }
+    record {
+      in-v = sub (x .writable) (y .writable) a;
+      in-q = sub (x .readable) (y .readable) b;
+      in-w = sub (x .writing) (y .writing) c;
+      in-r = sub (x .reading) (y .reading) d;
+    }
   where
     sub : (s t : FileSet) → s ≡ noFiles → s ⊑ t
     sub s t k = rw k (none-⊑ t)
 
 -- A program with nothing open runs that was not admitted: one that enters, or one that was held.
-pub loose-admit : (P : Progs) (w e e′ : List ℕ) (n l p : ℕ) (x : Program) → Is p → isIn P p ≡ false → x .writing ≡ noFiles → x .reading ≡ noFiles → x .standing ≡ Standing.Running → Own x
+pub loose-admit : (P : Progs) (w e e′ : List ℕ) (n l p : ℕ) (x : Program) → Is p → isIn P p ≡ false
+    → x .writing ≡ noFiles → x .reading ≡ noFiles → x .standing ≡ Standing.Running → Own x
     → OnLine e′ (heldAt (put P p x)) → LooseIn P w e 0 n l → LooseIn (put P p x) w e′ 0 n l
 loose-admit P w e e′ n l p x c out a b s o h k = record {
   base = base-enter P p x c out a b o (ap isAdmitted s) (k .base);
   waits = line-same w _ _ (test-put isWaiting P p x z c (ap isWaiting s ∙ sym idle)) (k .waits);
   helds = h;
-  asked = λ y g i u. let m : y ≢ p = (λ q. never {t = false} (sym (ap isWaiting s) ∙ sym (test-same isWaiting P p x z c) ∙ ap (λ j. isWaiting (stands (put P p x) j)) (sym q) ∙ ap isWaiting u) refl) in
+  asked = λ y g i u. let m : y ≢ p = (λ q. never {t = false} (sym (ap isWaiting s) ∙ sym (test-same isWaiting P p x z c)
+      ∙ ap (λ j. isWaiting (stands (put P p x) j)) (sym q) ∙ ap isWaiting u) refl) in
       subst (λ q. Asked q g) (sym (put-other P p y x c i m)) (k .asked y g i (ap (λ (q : Program). q .standing) (sym (put-other P p y x c i m)) ∙ u));
   fav-waits = λ m. absurd (m refl);
   count = λ m. absurd (m refl);
@@ -396,39 +485,61 @@ loose-admit P w e e′ n l p x c out a b s o h k = record {
     idle : waitsIn P p ≡ false
     idle = no-true _ (λ u. never (waiting-in (stands P p) u) out)
 
-pub stuck-in : (P : Progs) (p : ℕ) (x : Program) → Sized P → Is p → isIn P p ≡ false → Within (prog P p) x → x .standing ≡ Standing.Running → Stuck P → Stuck (put P p x)
+pub stuck-in : (P : Progs) (p : ℕ) (x : Program) → Sized P → Is p → isIn P p ≡ false → Within (prog P p) x
+    → x .standing ≡ Standing.Running → Stuck P → Stuck (put P p x)
 stuck-in P p x z c out d s k y g i u =
-    let m : y ≢ p = (λ q. never {t = false} (sym (ap isWaiting s) ∙ sym (test-same isWaiting P p x z c) ∙ ap (λ j. isWaiting (stands (put P p x) j)) (sym q) ∙ ap isWaiting u) refl) in
+    let m : y ≢ p = (λ q. never {t = false} (sym (ap isWaiting s) ∙ sym (test-same isWaiting P p x z c)
+    ∙ ap (λ j. isWaiting (stands (put P p x) j)) (sym q) ∙ ap isWaiting u) refl) in
     stuck-admit P p x z c out d y g i m (k y g i (ap (λ (q : Program). q .standing) (sym (put-other P p y x c i m)) ∙ u))
 
 -- A newcomer's sets.
-pub newcomer-own : (s : Standing) (v q : FileSet) → meets v q ≡ false → isAbsent s ≡ false → Own (record { writable = v; readable = q; writing = noFiles; reading = noFiles; standing = s })
+pub newcomer-own : (s : Standing) (v q : FileSet) → meets v q ≡ false → isAbsent s ≡ false
+    → Own (record { writable = v; readable = q; writing = noFiles; reading = noFiles; standing = s })
 newcomer-own s v q m n = record { wv = none-⊑ v; rq = none-⊑ q; vq = m; idle = λ _. (refl, refl); gone = λ d. never (ap isAbsent d) n }
 
 -- Enter, with nobody favoured: the program runs.
-pub loose-enter : (P : Progs) (w e : List ℕ) (n l p : ℕ) (v q : FileSet) → Is p → stands P p ≡ Standing.Absent → meets v q ≡ false → LooseIn P w e 0 n l
+pub loose-enter : (P : Progs) (w e : List ℕ) (n l p : ℕ) (v q : FileSet) → Is p → stands P p ≡ Standing.Absent
+    → meets v q ≡ false → LooseIn P w e 0 n l
     → LooseIn (put P p (record { writable = v; readable = q; writing = noFiles; reading = noFiles; standing = Standing.Running })) w e 0 n l
-loose-enter P w e n l p v q c s m k = loose-admit P w e e n l p x c (ap isAdmitted s) refl refl refl (newcomer-own Standing.Running v q m refl) (line-same e _ _ (test-put isHeld P p x (k .base .size) c (sym (ap isHeld s))) (k .helds)) k
+loose-enter P w e n l p v q c s m k = loose-admit P w e e n l p x c (ap isAdmitted s) refl refl refl
+    (newcomer-own Standing.Running v q m refl) (line-same e _ _ (test-put isHeld P p x (k .base .size) c (sym (ap isHeld s))) (k .helds)) k
   where
     x : Program
     x = record { writable = v; readable = q; writing = noFiles; reading = noFiles; standing = Standing.Running }
 
-pub stuck-enter : (P : Progs) (p : ℕ) (x : Program) → Base P → Is p → stands P p ≡ Standing.Absent → x .standing ≡ Standing.Running → Stuck P → Stuck (put P p x)
+pub stuck-enter : (P : Progs) (p : ℕ) (x : Program) → Base P → Is p → stands P p ≡ Standing.Absent
+    → x .standing ≡ Standing.Running → Stuck P → Stuck (put P p x)
 stuck-enter P p x b c s r k = stuck-in P p x (b .size) c (ap isAdmitted s) (absent-within (prog P p) x (b .own p c) s) r k
 
 -- Enter, with somebody favoured: the program is held.
-pub loose-hold : (P : Progs) (w e : List ℕ) (fav n l p : ℕ) (v q : FileSet) → Is p → stands P p ≡ Standing.Absent → meets v q ≡ false → fav ≢ 0 → LooseIn P w e fav n l
-    → LooseIn (put P p (record { writable = v; readable = q; writing = noFiles; reading = noFiles; standing = Standing.Held })) w (padded 0 (names e ++ (p ∷ []))) fav n l
+pub loose-hold : (P : Progs) (w e : List ℕ) (fav n l p : ℕ) (v q : FileSet) → Is p → stands P p ≡ Standing.Absent
+    → meets v q ≡ false → fav ≢ 0 → LooseIn P w e fav n l
+    → LooseIn (put P p (record {
+      writable = v;
+      readable = q;
+      writing = noFiles;
+      reading = noFiles;
+      standing = Standing.Held;
+    })) w (padded 0 (names e ++ (p ∷ []))) fav n l
 loose-hold P w e fav n l p v q c s m t k = record {
   base = record {
     size = sized-put P p x z;
     own = λ i j. put-case Own P p x z c i j (λ _. newcomer-own Standing.Held v q m refl) (λ _. k .base .own i j);
-    apart = λ i j a b d. put-case (λ y. conflict y (prog (put P p x) j) ≡ false) P p x z c i a (λ _. idle-conflict x (prog (put P p x) j) refl refl) (λ _. put-case (λ y. conflict (prog P i) y ≡ false) P p x z c j b (λ _. conflict-idle (prog P i) x refl refl) (λ _. k .base .apart i j a b d));
-    order = (k .base .order .0, subst (λ h. IsOrder (holds (put P p x)) h (k .base .order .0)) (sym (ins-same P p x z c adm)) (order-below (holds P) (holds (put P p x)) (ins P) (k .base .order .0) (λ i j a b d u. sym (ap₂ holdsBack (same i a) (same j b)) ∙ u) (k .base .order .1)));
+    apart = λ i j a b d. put-case (λ y. conflict y (prog (put P p x) j) ≡ false) P p x z c i a
+        (λ _. idle-conflict x (prog (put P p x) j) refl refl)
+        (λ _. put-case (λ y. conflict (prog P i) y ≡ false) P p x z c j b (λ _. conflict-idle (prog P i) x refl refl)
+        (λ _. k .base .apart i j a b d));
+    order = (
+      k .base .order .0,
+      subst (λ h. IsOrder (holds (put P p x)) h (k .base .order .0))
+          (sym (ins-same P p x z c adm)) (order-below (holds P) (holds (put P p x)) (ins P) (k .base .order .0)
+          (λ i j a b d u. sym (ap₂ holdsBack (same i a) (same j b)) ∙ u) (k .base .order .1)),
+    );
   };
   waits = line-same w _ _ (test-put isWaiting P p x z c (sym (ap isWaiting s))) (k .waits);
   helds = line-more e _ _ p c (ap isHeld s) (test-same isHeld P p x z c) (test-other isHeld P p x c) (k .helds);
-  asked = λ y g i u. let d : y ≢ p = (λ r. never {t = false} (sym (test-same isWaiting P p x z c) ∙ ap (λ j. isWaiting (stands (put P p x) j)) (sym r) ∙ ap isWaiting u) refl) in
+  asked = λ y g i u. let d : y ≢ p = (λ r. never {t = false} (sym (test-same isWaiting P p x z c)
+      ∙ ap (λ j. isWaiting (stands (put P p x) j)) (sym r) ∙ ap isWaiting u) refl) in
       subst (λ r. Asked r g) (sym (put-other P p y x c i d)) (k .asked y g i (ap (λ (r : Program). r .standing) (sym (put-other P p y x c i d)) ∙ u));
   fav-waits = λ d. let (i, u) = k .fav-waits d in (i, test-put isWaiting P p x z c (sym (ap isWaiting s)) fav i ∙ u);
   count = λ d. let (i, u) = k .count d in (ap (λ h. l + length h) (ins-same P p x z c adm) ∙ i, u);
@@ -447,7 +558,10 @@ loose-hold P w e fav n l p v q c s m t k = record {
     same : (i : ℕ) → i ∈ ins P → prog (put P p x) i ≡ prog P i
     same i a = put-other P p i x c (ins-mem P i a .0) (λ d. never (ins-mem P i a .1) (ap (isIn P) d ∙ ap isAdmitted s))
 
-pub stuck-hold : (P : Progs) (p : ℕ) (x : Program) → Base P → Is p → stands P p ≡ Standing.Absent → x .standing ≡ Standing.Held → Stuck P → Stuck (put P p x)
+pub stuck-hold : (P : Progs) (p : ℕ) (x : Program) → Base P → Is p → stands P p ≡ Standing.Absent
+    → x .standing ≡ Standing.Held → Stuck P → Stuck (put P p x)
 stuck-hold P p x b c s r k y g i u =
-    let d : y ≢ p = (λ q. never {t = false} (sym (ap isWaiting r) ∙ sym (test-same isWaiting P p x (b .size) c) ∙ ap (λ j. isWaiting (stands (put P p x) j)) (sym q) ∙ ap isWaiting u) refl) in
-    stuck-put P p x (b .size) c (absent-within (prog P p) x (b .own p c) s) (ap isAdmitted r ∙ sym (ap isAdmitted s)) y g i (λ q. absurd (d q)) (k y g i (ap (λ (q : Program). q .standing) (sym (put-other P p y x c i d)) ∙ u))
+    let d : y ≢ p = (λ q. never {t = false} (sym (ap isWaiting r) ∙ sym (test-same isWaiting P p x (b .size) c)
+    ∙ ap (λ j. isWaiting (stands (put P p x) j)) (sym q) ∙ ap isWaiting u) refl) in
+    stuck-put P p x (b .size) c (absent-within (prog P p) x (b .own p c) s) (ap isAdmitted r ∙ sym (ap isAdmitted s)) y g i
+    (λ q. absurd (d q)) (k y g i (ap (λ (q : Program). q .standing) (sym (put-other P p y x c i d)) ∙ u))

@@ -1,4 +1,5 @@
--- The programs of a board: what keeps conflict away and a completion order there. Program p is `prog P p`, which is `at b p` where P is `b .programs`.
+-- The programs of a board: what keeps conflict away and a completion order there. Program p is `prog P p`, which is `at b p` where P is `b
+-- .programs`.
 -- Assumes nothing.
 use Prim.Native.Nat.{ℕ, zero, suc, _≤_, _-_}
 use native.Mathlib.Omega.{arith}
@@ -20,8 +21,11 @@ use Rattle.rules.specs.declared.Board.{Board}
 use Rattle.rules.specs.Lists.{any, keep, rising, without, found, first}
 use Rattle.rules.specs.Boards.{noProgram, isAdmitted, isProgram, everyone, at, admitted, opening}
 use Rattle.rules.specs.Orders.{conflict, holdsBack, heldBack, carriedFrom, carried, withGiven, inUse, safe, canGive}
-use Rattle.theory.specs.Lists.{_∈_, Pairs, NoRepeat, by-mem, by-option, any-some, some-any, found-some, keep-mem, mem-keep, keep-same, keep-but, Pairs-keep, length-keep, without-mem, mem-without, rising-mem, mem-rising, rising-pairs, length-rising, Pairs-map}
-use Rattle.theory.specs.Order.{Names, IsOrder, heldIn, search, orderIn, orderIn-iff, orderIn-none, HeldLater, held-not-clear, order-below, order-without, order-last, order-first}
+use Rattle.theory.specs.Lists.{_∈_, Pairs, NoRepeat, by-mem, by-option, any-some, some-any, found-some, keep-mem, mem-keep, keep-same}
+use Rattle.theory.specs.Lists.{keep-but, Pairs-keep, length-keep, without-mem, mem-without, rising-mem, mem-rising, rising-pairs}
+use Rattle.theory.specs.Lists.{length-rising, Pairs-map}
+use Rattle.theory.specs.Order.{Names, IsOrder, heldIn, search, orderIn, orderIn-iff, orderIn-none, HeldLater, held-not-clear}
+use Rattle.theory.specs.Order.{order-below, order-without, order-last, order-first}
 
 -- p is a program: 1 to 32.
 pub record Is (p : ℕ) : Type 0 where
@@ -65,16 +69,20 @@ map₃ f g h (any-3 e) = any-3 (h e)
 none₃ : (a b c : Bool) → a ≡ false → b ≡ false → c ≡ false → a || b || c ≡ false
 none₃ a b c x y z = rw (x, y, z)
 
-conflict-by : (i j : Program) → Any₃ (meets (i .writing) (j .writing)) (meets (i .writing) (j .reading)) (meets (j .writing) (i .reading)) → conflict i j ≡ true
+conflict-by : (i j : Program) → Any₃ (meets (i .writing) (j .writing)) (meets (i .writing) (j .reading))
+    (meets (j .writing) (i .reading)) → conflict i j ≡ true
 conflict-by i j = any₃ (meets (i .writing) (j .writing)) (meets (i .writing) (j .reading)) (meets (j .writing) (i .reading))
 
-by-conflict : (i j : Program) → conflict i j ≡ true → Any₃ (meets (i .writing) (j .writing)) (meets (i .writing) (j .reading)) (meets (j .writing) (i .reading))
+by-conflict : (i j : Program) → conflict i j ≡ true → Any₃ (meets (i .writing) (j .writing))
+    (meets (i .writing) (j .reading)) (meets (j .writing) (i .reading))
 by-conflict i j = which₃ (meets (i .writing) (j .writing)) (meets (i .writing) (j .reading)) (meets (j .writing) (i .reading))
 
-holdsBack-by : (i j : Program) → Any₃ (meets (i .writing) (j .writable)) (meets (i .writing) (j .readable)) (meets (i .reading) (j .writable)) → holdsBack i j ≡ true
+holdsBack-by : (i j : Program) → Any₃ (meets (i .writing) (j .writable)) (meets (i .writing) (j .readable))
+    (meets (i .reading) (j .writable)) → holdsBack i j ≡ true
 holdsBack-by i j = any₃ (meets (i .writing) (j .writable)) (meets (i .writing) (j .readable)) (meets (i .reading) (j .writable))
 
-by-holdsBack : (i j : Program) → holdsBack i j ≡ true → Any₃ (meets (i .writing) (j .writable)) (meets (i .writing) (j .readable)) (meets (i .reading) (j .writable))
+by-holdsBack : (i j : Program) → holdsBack i j ≡ true → Any₃ (meets (i .writing) (j .writable))
+    (meets (i .writing) (j .readable)) (meets (i .reading) (j .writable))
 by-holdsBack i j = which₃ (meets (i .writing) (j .writable)) (meets (i .writing) (j .readable)) (meets (i .reading) (j .writable))
 
 -- ── More files, more claims ──
@@ -89,27 +97,33 @@ pub within-refl : (x : Program) → Within x x
 within-refl x = record { in-v = λ f e. e; in-q = λ f e. e; in-w = λ f e. e; in-r = λ f e. e }
 
 pub holdsBack-mono : (i j i′ j′ : Program) → Within i i′ → Within j j′ → holdsBack i j ≡ true → holdsBack i′ j′ ≡ true
-holdsBack-mono i j i′ j′ c d e = holdsBack-by i′ j′ (map₃ (meets-mono _ _ _ _ (c .in-w) (d .in-v)) (meets-mono _ _ _ _ (c .in-w) (d .in-q)) (meets-mono _ _ _ _ (c .in-r) (d .in-v)) (by-holdsBack i j e))
+holdsBack-mono i j i′ j′ c d e = holdsBack-by i′ j′ (map₃ (meets-mono _ _ _ _ (c .in-w) (d .in-v))
+    (meets-mono _ _ _ _ (c .in-w) (d .in-q)) (meets-mono _ _ _ _ (c .in-r) (d .in-v)) (by-holdsBack i j e))
 
 pub conflict-mono : (i j i′ j′ : Program) → Within i i′ → Within j j′ → conflict i j ≡ true → conflict i′ j′ ≡ true
-conflict-mono i j i′ j′ c d e = conflict-by i′ j′ (map₃ (meets-mono _ _ _ _ (c .in-w) (d .in-w)) (meets-mono _ _ _ _ (c .in-w) (d .in-r)) (meets-mono _ _ _ _ (d .in-w) (c .in-r)) (by-conflict i j e))
+conflict-mono i j i′ j′ c d e = conflict-by i′ j′ (map₃ (meets-mono _ _ _ _ (c .in-w) (d .in-w))
+    (meets-mono _ _ _ _ (c .in-w) (d .in-r)) (meets-mono _ _ _ _ (d .in-w) (c .in-r)) (by-conflict i j e))
 
 pub conflict-sym : (i j : Program) → conflict i j ≡ true → conflict j i ≡ true
 conflict-sym i j e = conflict-by j i (turn (by-conflict i j e))
   where
-    turn : Any₃ (meets (i .writing) (j .writing)) (meets (i .writing) (j .reading)) (meets (j .writing) (i .reading)) → Any₃ (meets (j .writing) (i .writing)) (meets (j .writing) (i .reading)) (meets (i .writing) (j .reading))
+    turn : Any₃ (meets (i .writing) (j .writing)) (meets (i .writing) (j .reading)) (meets (j .writing) (i .reading))
+        → Any₃ (meets (j .writing) (i .writing)) (meets (j .writing) (i .reading)) (meets (i .writing) (j .reading))
     turn (any-1 u) = any-1 (meets-sym (i .writing) (j .writing) u)
     turn (any-2 u) = any-3 u
     turn (any-3 u) = any-2 u
 
 pub idle-holds : (x y : Program) → x .writing ≡ noFiles → x .reading ≡ noFiles → holdsBack x y ≡ false
-idle-holds x y a b = none₃ _ _ _ (none-meets (x .writing) (y .writable) a) (none-meets (x .writing) (y .readable) a) (none-meets (x .reading) (y .writable) b)
+idle-holds x y a b = none₃ _ _ _ (none-meets (x .writing) (y .writable) a) (none-meets (x .writing) (y .readable) a)
+    (none-meets (x .reading) (y .writable) b)
 
 pub idle-conflict : (x y : Program) → x .writing ≡ noFiles → x .reading ≡ noFiles → conflict x y ≡ false
-idle-conflict x y a b = none₃ _ _ _ (none-meets (x .writing) (y .writing) a) (none-meets (x .writing) (y .reading) a) (meets-none (y .writing) (x .reading) b)
+idle-conflict x y a b = none₃ _ _ _ (none-meets (x .writing) (y .writing) a) (none-meets (x .writing) (y .reading) a)
+    (meets-none (y .writing) (x .reading) b)
 
 pub conflict-idle : (x y : Program) → y .writing ≡ noFiles → y .reading ≡ noFiles → conflict x y ≡ false
-conflict-idle x y a b = none₃ _ _ _ (meets-none (x .writing) (y .writing) a) (meets-none (x .writing) (y .reading) b) (none-meets (y .writing) (x .reading) a)
+conflict-idle x y a b = none₃ _ _ _ (meets-none (x .writing) (y .writing) a) (meets-none (x .writing) (y .reading) b)
+    (none-meets (y .writing) (x .reading) a)
 
 -- ── A list of programs, read and written by number ──
 
@@ -135,7 +149,8 @@ put-same P p x z c = getD-set-same P (p - 1) x noProgram (let a = c .least in le
 pub put-other : (P : Progs) (p i : ℕ) (x : Program) → Is p → Is i → i ≢ p → prog (put P p x) i ≡ prog P i
 put-other P p i x c d n = getD-set-other P (p - 1) (i - 1) x noProgram (let a = c .least in let b = d .least in λ e. n (omega arith))
 
-pub put-case : (D : Program → Type 0) (P : Progs) (p : ℕ) (x : Program) → Sized P → Is p → (i : ℕ) → Is i → (i ≡ p → D x) → (i ≢ p → D (prog P i)) → D (prog (put P p x) i)
+pub put-case : (D : Program → Type 0) (P : Progs) (p : ℕ) (x : Program) → Sized P → Is p → (i : ℕ) → Is i
+    → (i ≡ p → D x) → (i ≢ p → D (prog P i)) → D (prog (put P p x) i)
 put-case D P p x z c i d f g = by-test (eqb i p)
     (λ t. let e = eqb-true i p t in mathlib.Core.Path.subst D (sym (ap (prog (put P p x)) e ∙ put-same P p x z c)) (f e))
     (λ t. let n = eqb-false i p t in mathlib.Core.Path.subst D (sym (put-other P p i x c d n)) (g n))
@@ -177,7 +192,8 @@ admitted-is b = refl
 pub carriedFrom-is : (n : ℕ) (b : Board) (l : List ℕ) → carriedFrom n b l ≡ search (holds (b .programs)) n l
 unfolding carriedFrom search heldBack heldIn
 carriedFrom-is zero b l = refl
-carriedFrom-is (suc n) b l = by-option (first (λ p. not (heldIn (holds (b .programs)) l p)) l) (λ u. rw u) (λ p u. rw (u, carriedFrom-is n b (without p l)))
+carriedFrom-is (suc n) b l = by-option (first (λ p. not (heldIn (holds (b .programs)) l p)) l) (λ u. rw u)
+    (λ p u. rw (u, carriedFrom-is n b (without p l)))
 
 -- The carried order of the board is what the search finds.
 pub carried-is : (b : Board) → carried b ≡ orderIn (holds (b .programs)) (ins (b .programs))
@@ -220,15 +236,18 @@ length-ins P = let i = length-keep (isIn P) (rising 32 1) in let j = length-risi
 
 pub ins-same : (P : Progs) (p : ℕ) (x : Program) → Sized P → Is p → isAdmitted (x .standing) ≡ isIn P p → ins (put P p x) ≡ ins P
 unfolding ins
-ins-same P p x z c e = keep-same (isIn (put P p x)) (isIn P) everyone (λ i m. put-case (λ y. isAdmitted (y .standing) ≡ isIn P i) P p x z c i (everyone-is i m) (λ d. e ∙ ap (isIn P) (sym d)) (λ n. refl))
+ins-same P p x z c e = keep-same (isIn (put P p x)) (isIn P) everyone
+    (λ i m. put-case (λ y. isAdmitted (y .standing) ≡ isIn P i) P p x z c i (everyone-is i m) (λ d. e ∙ ap (isIn P) (sym d)) (λ n. refl))
 
 pub ins-out : (P : Progs) (p : ℕ) (x : Program) → Sized P → Is p → isAdmitted (x .standing) ≡ false → ins (put P p x) ≡ without p (ins P)
 unfolding ins
-ins-out P p x z c e = keep-but (isIn P) (isIn (put P p x)) p everyone (ap (λ (y : Program). isAdmitted (y .standing)) (put-same P p x z c) ∙ e) (λ i m n. ap (λ (y : Program). isAdmitted (y .standing)) (put-other P p i x c (everyone-is i m) n))
+ins-out P p x z c e = keep-but (isIn P) (isIn (put P p x)) p everyone (ap (λ (y : Program). isAdmitted (y .standing))
+    (put-same P p x z c) ∙ e) (λ i m n. ap (λ (y : Program). isAdmitted (y .standing)) (put-other P p i x c (everyone-is i m) n))
 
 pub ins-before : (P : Progs) (p : ℕ) (x : Program) → Is p → isIn P p ≡ false → ins P ≡ without p (ins (put P p x))
 unfolding ins
-ins-before P p x c e = keep-but (isIn (put P p x)) (isIn P) p everyone e (λ i m n. ap (λ (y : Program). isAdmitted (y .standing)) (sym (put-other P p i x c (everyone-is i m) n)))
+ins-before P p x c e = keep-but (isIn (put P p x)) (isIn P) p everyone e
+    (λ i m n. ap (λ (y : Program). isAdmitted (y .standing)) (sym (put-other P p i x c (everyone-is i m) n)))
 
 -- ── What holds of the programs of a sound board ──
 
@@ -250,15 +269,18 @@ abbrev pub Less : Progs → Progs → Type 0
 Less P′ P = (i : ℕ) → Is i → Within (prog P′ i) (prog P i)
 
 pub less-put : (P : Progs) (p : ℕ) (x : Program) → Sized P → Is p → Within x (prog P p) → Less (put P p x) P
-less-put P p x z c d i k = put-case (λ y. Within y (prog P i)) P p x z c i k (λ e. mathlib.Core.Path.subst (λ j. Within x (prog P j)) (sym e) d) (λ n. within-refl (prog P i))
+less-put P p x z c d i k = put-case (λ y. Within y (prog P i)) P p x z c i k (λ e. mathlib.Core.Path.subst
+    (λ j. Within x (prog P j)) (sym e) d) (λ n. within-refl (prog P i))
 
 pub put-less : (P : Progs) (p : ℕ) (x : Program) → Sized P → Is p → Within (prog P p) x → Less P (put P p x)
-put-less P p x z c d i k = put-case (λ y. Within (prog P i) y) P p x z c i k (λ e. mathlib.Core.Path.subst (λ j. Within (prog P j) x) (sym e) d) (λ n. within-refl (prog P i))
+put-less P p x z c d i k = put-case (λ y. Within (prog P i) y) P p x z c i k (λ e. mathlib.Core.Path.subst
+    (λ j. Within (prog P j) x) (sym e) d) (λ n. within-refl (prog P i))
 
 own-put : (P : Progs) (p : ℕ) (x : Program) → Sized P → Is p → ((i : ℕ) → Is i → Own (prog P i)) → Own x → (i : ℕ) → Is i → Own (prog (put P p x) i)
 own-put P p x z c f o i k = put-case Own P p x z c i k (λ e. o) (λ n. f i k)
 
-apart-less : (P′ P : Progs) → Less P′ P → ((i j : ℕ) → Is i → Is j → i ≢ j → conflict (prog P i) (prog P j) ≡ false) → (i j : ℕ) → Is i → Is j → i ≢ j → conflict (prog P′ i) (prog P′ j) ≡ false
+apart-less : (P′ P : Progs) → Less P′ P → ((i j : ℕ) → Is i → Is j → i ≢ j → conflict (prog P i) (prog P j) ≡ false)
+    → (i j : ℕ) → Is i → Is j → i ≢ j → conflict (prog P′ i) (prog P′ j) ≡ false
 apart-less P′ P l f i j a b n = no-true _ (λ t. never (conflict-mono _ _ _ _ (l i a) (l j b) t) (f i j a b n))
 
 apart-put : (P : Progs) (p : ℕ) (x : Program) → Sized P → Is p → ((i j : ℕ) → Is i → Is j → i ≢ j → conflict (prog P i) (prog P j) ≡ false)
@@ -270,12 +292,17 @@ apart-put P p x z c f g h i j a b n = put-case (λ y. conflict y (prog (put P p 
 
 -- ── Close and drop: fewer files, the same standing ──
 
-pub base-shrink : (P : Progs) (p : ℕ) (x : Program) → Is p → Within x (prog P p) → Own x → isAdmitted (x .standing) ≡ isIn P p → Base P → Base (put P p x)
+pub base-shrink : (P : Progs) (p : ℕ) (x : Program) → Is p → Within x (prog P p) → Own x
+    → isAdmitted (x .standing) ≡ isIn P p → Base P → Base (put P p x)
 base-shrink P p x c d o e b = record {
   size = sized-put P p x (b .size);
   own = own-put P p x (b .size) c (b .own) o;
   apart = apart-less (put P p x) P l (b .apart);
-  order = (b .order .0, rw (ins-same P p x (b .size) c e) (order-below (holds P) (holds (put P p x)) (ins P) (b .order .0) (λ i j m k n. holdsBack-mono _ _ _ _ (l i (ins-mem P i m .0)) (l j (ins-mem P j k .0))) (b .order .1)));
+  order = (
+    b .order .0,
+    rw (ins-same P p x (b .size) c e) (order-below (holds P) (holds (put P p x)) (ins P)
+        (b .order .0) (λ i j m k n. holdsBack-mono _ _ _ _ (l i (ins-mem P i m .0)) (l j (ins-mem P j k .0))) (b .order .1)),
+  );
 }
   where
     l : Less (put P p x) P
@@ -288,7 +315,11 @@ base-leave P p x c d o e b = record {
   size = sized-put P p x (b .size);
   own = own-put P p x (b .size) c (b .own) o;
   apart = apart-less (put P p x) P l (b .apart);
-  order = (without p (b .order .0), rw (ins-out P p x (b .size) c e) (order-below (holds P) (holds (put P p x)) _ _ (λ i j m k n. holdsBack-mono _ _ _ _ (l i (is i m)) (l j (is j k))) (order-without (holds P) (ins P) (b .order .0) p (b .order .1))));
+  order = (
+    without p (b .order .0),
+    rw (ins-out P p x (b .size) c e) (order-below (holds P) (holds (put P p x)) _ _
+        (λ i j m k n. holdsBack-mono _ _ _ _ (l i (is i m)) (l j (is j k))) (order-without (holds P) (ins P) (b .order .0) p (b .order .1))),
+  );
 }
   where
     l : Less (put P p x) P
@@ -299,14 +330,16 @@ base-leave P p x c d o e b = record {
 
 -- ── Enter: a program with nothing open ──
 
-pub base-enter : (P : Progs) (p : ℕ) (x : Program) → Is p → isIn P p ≡ false → x .writing ≡ noFiles → x .reading ≡ noFiles → Own x → isAdmitted (x .standing) ≡ true → Base P → Base (put P p x)
+pub base-enter : (P : Progs) (p : ℕ) (x : Program) → Is p → isIn P p ≡ false → x .writing ≡ noFiles
+    → x .reading ≡ noFiles → Own x → isAdmitted (x .standing) ≡ true → Base P → Base (put P p x)
 base-enter P p x c out a r o e b = record {
   size = sized-put P p x z;
   own = own-put P p x z c (b .own) o;
   apart = apart-put P p x z c (b .apart) (λ j k n. idle-conflict x (prog P j) a r) (λ j k n. conflict-idle (prog P j) x a r);
   order = (
     b .order .0 ++ (p ∷ []),
-    order-last (holds P′) (ins P) (ins P′) (b .order .0) p new old mine (λ m. never (ins-mem P p m .1) out) (λ i m. ap (λ y. holdsBack y (prog P′ i)) (put-same P p x z c) ∙ idle-holds x (prog P′ i) a r)
+    order-last (holds P′) (ins P) (ins P′) (b .order .0) p new old mine (λ m. never (ins-mem P p m .1) out)
+        (λ i m. ap (λ y. holdsBack y (prog P′ i)) (put-same P p x z c) ∙ idle-holds x (prog P′ i) a r)
         (order-below (holds P) (holds P′) (ins P) (b .order .0) (λ i j m k n u. sym (ap₂ holdsBack (same i m) (same j k)) ∙ u) (b .order .1)),
   );
 }
@@ -330,7 +363,8 @@ base-enter P p x c out a r o e b = record {
     old i m = (without-mem p (ins P′) i (mathlib.Core.Path.subst (λ l. i ∈ l) was m)) .0
 
     new : (i : ℕ) → i ∈ ins P′ → (i ≡ p) ⊎ (i ∈ ins P)
-    new i m = by-test (eqb i p) (λ t. inl (eqb-true i p t)) (λ t. inr (mathlib.Core.Path.subst (λ l. i ∈ l) (sym was) (mem-without p (ins P′) i m (eqb-false i p t))))
+    new i m = by-test (eqb i p) (λ t. inl (eqb-true i p t))
+        (λ t. inr (mathlib.Core.Path.subst (λ l. i ∈ l) (sym was) (mem-without p (ins P′) i m (eqb-false i p t))))
 
 -- ── Giving a file ──
 
@@ -360,7 +394,14 @@ pub opening-own : (x : Program) (f : ℕ) → Claims x f → isAdmitted (x .stan
 unfolding opening
 opening-own x f m a o = by-test (member (x .writable) f)
     (λ t. rw t (record { wv = adding-⊑ (x .writing) (x .writable) f (o .wv) t; rq = o .rq; vq = o .vq; idle = λ e. never a e; gone = o .gone }))
-    (λ t. rw t (record { wv = o .wv; rq = adding-⊑ (x .reading) (x .readable) f (o .rq) (⊎-elim (λ u. never u t) (λ u. u) m); vq = o .vq; idle = λ e. never a e; gone = o .gone }))
+    (λ t. rw t (record {
+      wv = o .wv;
+      rq = adding-⊑ (x .reading) (x .readable) f (o .rq) (⊎-elim (λ u. never u t)
+          (λ u. u) m);
+      vq = o .vq;
+      idle = λ e. never a e;
+      gone = o .gone;
+    }))
 
 pub give-put : (P : Progs) (p f : ℕ) → give P p f ≡ put P p (opening (prog P p) f)
 unfolding give
@@ -372,11 +413,19 @@ ins-give P p f z c = ins-same P p (opening (prog P p) f) z c (ap isAdmitted (ope
 
 pub unused : (P : Progs) (p f : ℕ) → used P p f ≡ false → (i : ℕ) → Is i → i ≢ p → conflict (prog P i) (opening (prog P p) f) ≡ false
 unfolding used
-unused P p f e i c n = no-true _ (λ t. never (some-any (clash P p f) everyone i (mem-everyone i c) (and-both (not (eqb i p)) _ (true-not (eqb i p) (ne-eqb i p n)) t)) e)
+unused P p f e i c n =
+    no-true _ (λ t. never (some-any (clash P p f) everyone i (mem-everyone i c) (and-both (not (eqb i p)) _
+    (true-not (eqb i p) (ne-eqb i p n)) t)) e)
 
 pub used-by : (P : Progs) (p f : ℕ) → used P p f ≡ true → (i : ℕ) × Is i × (i ≢ p) × (conflict (prog P i) (opening (prog P p) f) ≡ true)
 unfolding used
-used-by P p f e = let (i, m, u) = any-some (clash P p f) everyone e in (i, everyone-is i m, eqb-false i p (not-true (eqb i p) (and-left (not (eqb i p)) (conflict (prog P i) (opening (prog P p) f)) u)), and-right (not (eqb i p)) (conflict (prog P i) (opening (prog P p) f)) u)
+used-by P p f e = let (i, m, u) = any-some (clash P p f) everyone e in (
+  i,
+  everyone-is i m,
+  eqb-false i p
+      (not-true (eqb i p) (and-left (not (eqb i p)) (conflict (prog P i) (opening (prog P p) f)) u)),
+  and-right (not (eqb i p)) (conflict (prog P i) (opening (prog P p) f)) u,
+)
 
 pub by-used : (P : Progs) (p f i : ℕ) → Is i → i ≢ p → conflict (prog P i) (opening (prog P p) f) ≡ true → used P p f ≡ true
 by-used P p f i c n t = by-test (used P p f) (λ e. e) (λ e. never t (unused P p f e i c n))
@@ -406,7 +455,9 @@ unfolding give
 base-give P p f c m a e b = record {
   size = sized-put P p _ (b .size);
   own = own-put P p _ (b .size) c (b .own) (opening-own (prog P p) f m a (b .own p c));
-  apart = apart-put P p _ (b .size) c (b .apart) (λ j k n. no-true (conflict (opening (prog P p) f) (prog P j)) (λ t. never (conflict-sym (opening (prog P p) f) (prog P j) t) (unused P p f (can-unused P p f e) j k n))) (λ j k n. unused P p f (can-unused P p f e) j k n);
+  apart = apart-put P p _ (b .size) c (b .apart) (λ j k n. no-true (conflict (opening (prog P p) f) (prog P j))
+      (λ t. never (conflict-sym (opening (prog P p) f) (prog P j) t) (unused P p f (can-unused P p f e) j k n)))
+      (λ j k n. unused P p f (can-unused P p f e) j k n);
   order = can-order P p f e;
 }
 
@@ -415,17 +466,29 @@ base-give P p f c m a e b = record {
 pub opening-mono : (x y : Program) (f : ℕ) → Within x y → x .writable ≡ y .writable → Within (opening x f) (opening y f)
 unfolding opening
 opening-mono x y f d e = by-test (member (x .writable) f)
-    (λ t. rw (t, ap (λ s. member s f) (sym e) ∙ t) (record { in-v = d .in-v; in-q = d .in-q; in-w = adding-mono (x .writing) (y .writing) f (d .in-w); in-r = d .in-r }))
-    (λ t. rw (t, ap (λ s. member s f) (sym e) ∙ t) (record { in-v = d .in-v; in-q = d .in-q; in-w = d .in-w; in-r = adding-mono (x .reading) (y .reading) f (d .in-r) }))
+    (λ t. rw (t, ap (λ s. member s f) (sym e) ∙ t) (record {
+      in-v = d .in-v;
+      in-q = d .in-q;
+      in-w = adding-mono (x .writing) (y .writing) f (d .in-w);
+      in-r = d .in-r;
+    }))
+    (λ t. rw (t, ap (λ s. member s f) (sym e) ∙ t) (record {
+      in-v = d .in-v;
+      in-q = d .in-q;
+      in-w = d .in-w;
+      in-r = adding-mono (x .reading) (y .reading) f (d .in-r);
+    }))
 
-less-give : (P P′ : Progs) (y g : ℕ) → Sized P → Sized P′ → Is y → Less P P′ → prog P y .writable ≡ prog P′ y .writable → Less (give P y g) (give P′ y g)
+less-give : (P P′ : Progs) (y g : ℕ) → Sized P → Sized P′ → Is y → Less P P′ → prog P y .writable ≡ prog P′ y .writable
+    → Less (give P y g) (give P′ y g)
 unfolding give
 less-give P P′ y g z z′ c l e i k = put-case (λ w. Within w (prog (give P′ y g) i)) P y _ z c i k
     (λ d. put-case (λ w. Within (opening (prog P y) g) w) P′ y _ z′ c i k (λ _. opening-mono _ _ g (l y c) e) (λ n. absurd (n d)))
     (λ n. put-case (λ w. Within (prog P i) w) P′ y _ z′ c i k (λ d. absurd (n d)) (λ _. l i k))
 
 used-mono : (P P′ : Progs) (y g : ℕ) → Is y → Less P P′ → prog P y .writable ≡ prog P′ y .writable → used P y g ≡ true → used P′ y g ≡ true
-used-mono P P′ y g c l e u = let (i, k, n, t) = used-by P y g u in by-used P′ y g i k n (conflict-mono _ _ _ _ (l i k) (opening-mono _ _ g (l y c) e) t)
+used-mono P P′ y g c l e u = let (i, k, n, t) = used-by P y g u in by-used P′ y g i k n (conflict-mono _ _ _ _ (l i k)
+    (opening-mono _ _ g (l y c) e) t)
 
 -- More open files, more claims of others or more programs make nothing givable.
 pub can-mono : (P P′ : Progs) (y g : ℕ) → Sized P → Sized P′ → Is y → Less P P′ → prog P y .writable ≡ prog P′ y .writable
@@ -436,11 +499,13 @@ can-mono P P′ y g z z′ c l e f u =
     let t = f (holds (give P′ y g)) (s .0) (mathlib.Core.Path.subst (λ m. IsOrder (holds (give P′ y g)) m (s .0)) (ins-give P′ y g z′ c) (s .1)) in
     can-of P y g (no-true _ (λ w. never (used-mono P P′ y g c l e w) (can-unused P′ y g u))) (t .0)
     (mathlib.Core.Path.subst (λ m. IsOrder (holds (give P y g)) m (t .0)) (sym (ins-give P y g z c))
-    (order-below (holds (give P′ y g)) (holds (give P y g)) (ins P) (t .0) (λ i j m k n. holdsBack-mono _ _ _ _ (less-give P P′ y g z z′ c l e i (ins-mem P i m .0)) (less-give P P′ y g z z′ c l e j (ins-mem P j k .0))) (t .1)))
+    (order-below (holds (give P′ y g)) (holds (give P y g)) (ins P) (t .0) (λ i j m k n. holdsBack-mono _ _ _ _
+    (less-give P P′ y g z z′ c l e i (ins-mem P i m .0)) (less-give P P′ y g z z′ c l e j (ins-mem P j k .0))) (t .1)))
 
 -- ── The first of an order can be given what it claims ──
 
-conflict-cases : {C : Type 0} (i j : Program) → conflict i j ≡ true → (meets (i .writing) (j .writing) ≡ true → C) → (meets (i .writing) (j .reading) ≡ true → C) → (meets (j .writing) (i .reading) ≡ true → C) → C
+conflict-cases : {C : Type 0} (i j : Program) → conflict i j ≡ true → (meets (i .writing) (j .writing) ≡ true → C)
+    → (meets (i .writing) (j .reading) ≡ true → C) → (meets (j .writing) (i .reading) ≡ true → C) → C
 conflict-cases {C} i j e a b c = go (by-conflict i j e)
   where
     go : Any₃ (meets (i .writing) (j .writing)) (meets (i .writing) (j .reading)) (meets (j .writing) (i .reading)) → C
@@ -452,14 +517,30 @@ conflict-cases {C} i j e a b c = go (by-conflict i j e)
 claimed-use : (x y : Program) (f : ℕ) → Claims x f → conflict (opening x f) y ≡ true → (conflict x y ≡ true) ⊎ (holdsBack y x ≡ true)
 unfolding opening
 claimed-use x y f m e = by-test (member (x .writable) f)
-    (λ t. conflict-cases (record { writable = x .writable; readable = x .readable; writing = adding (x .writing) f; reading = x .reading; standing = x .standing }) y (rw t at e)
-    (λ u. adding-meets (x .writing) (y .writing) f u (λ z. inl (conflict-by x y (any-1 z))) (λ z. inr (holdsBack-by y x (any-1 (meets-at _ _ f z t)))))
-    (λ u. adding-meets (x .writing) (y .reading) f u (λ z. inl (conflict-by x y (any-2 z))) (λ z. inr (holdsBack-by y x (any-3 (meets-at _ _ f z t)))))
+    (λ t. conflict-cases (record {
+      writable = x .writable;
+      readable = x .readable;
+      writing = adding (x .writing) f;
+      reading = x .reading;
+      standing = x .standing;
+    }) y (rw t at e)
+    (λ u. adding-meets (x .writing) (y .writing) f u (λ z. inl (conflict-by x y (any-1 z)))
+    (λ z. inr (holdsBack-by y x (any-1 (meets-at _ _ f z t)))))
+    (λ u. adding-meets (x .writing) (y .reading) f u (λ z. inl (conflict-by x y (any-2 z)))
+    (λ z. inr (holdsBack-by y x (any-3 (meets-at _ _ f z t)))))
     (λ u. inl (conflict-by x y (any-3 u))))
-    (λ t. conflict-cases (record { writable = x .writable; readable = x .readable; writing = x .writing; reading = adding (x .reading) f; standing = x .standing }) y (rw t at e)
+    (λ t. conflict-cases (record {
+      writable = x .writable;
+      readable = x .readable;
+      writing = x .writing;
+      reading = adding (x .reading) f;
+      standing = x .standing;
+    }) y (rw t at e)
     (λ u. inl (conflict-by x y (any-1 u)))
     (λ u. inl (conflict-by x y (any-2 u)))
-    (λ u. adding-meets (x .reading) (y .writing) f (meets-sym (y .writing) (adding (x .reading) f) u) (λ z. inl (conflict-by x y (any-3 (meets-sym (x .reading) (y .writing) z)))) (λ z. inr (holdsBack-by y x (any-2 (meets-at _ _ f z (⊎-elim (λ k. never k t) (λ k. k) m)))))))
+    (λ u. adding-meets (x .reading) (y .writing) f (meets-sym (y .writing) (adding (x .reading) f) u)
+    (λ z. inl (conflict-by x y (any-3 (meets-sym (x .reading) (y .writing) z))))
+    (λ z. inr (holdsBack-by y x (any-2 (meets-at _ _ f z (⊎-elim (λ k. never k t) (λ k. k) m)))))))
 
 holdsBack-claims : (x y : Program) (f : ℕ) → holdsBack x (opening y f) ≡ holdsBack x y
 holdsBack-claims x y f = rw (opening-v y f, opening-q y f)
@@ -467,7 +548,8 @@ holdsBack-claims x y f = rw (opening-v y f, opening-q y f)
 pub first-can : (P : Progs) (p f : ℕ) (o : List ℕ) → Base P → Is p → IsOrder (holds P) (ins P) (p ∷ o) → Claims (prog P p) f → can P p f ≡ true
 unfolding Pairs give
 first-can P p f o b c r m = can-of P p f (no-true _ (λ t. let (i, k, n, u) = used-by P p f t in bad i k n u)) (p ∷ o)
-    (mathlib.Core.Path.subst (λ l. IsOrder (holds (give P p f)) l (p ∷ o)) (sym (ins-give P p f (b .size) c)) (order-first (holds P) (holds (give P p f)) (ins P) o p (λ i j k l n _ u. less i j (ins-mem P i k .0) (ins-mem P j l .0) n u) r))
+    (mathlib.Core.Path.subst (λ l. IsOrder (holds (give P p f)) l (p ∷ o)) (sym (ins-give P p f (b .size) c))
+    (order-first (holds P) (holds (give P p f)) (ins P) o p (λ i j k l n _ u. less i j (ins-mem P i k .0) (ins-mem P j l .0) n u) r))
   where
     bad : (i : ℕ) → Is i → i ≢ p → conflict (prog P i) (opening (prog P p) f) ≡ true → ⊥
     bad i k n u = ⊎-elim (λ z. never z (b .apart p i c k (λ d. n (sym d))))
@@ -476,7 +558,9 @@ first-can P p f o b c r m = can-of P p f (no-true _ (λ t. let (i, k, n, u) = us
         (claimed-use (prog P p) (prog P i) f m (conflict-sym (prog P i) (opening (prog P p) f) u))
 
     less : (i j : ℕ) → Is i → Is j → i ≢ p → holds (give P p f) i j ≡ true → holds P i j ≡ true
-    less i j k l n u = (put-case (λ w. holdsBack (prog P i) w ≡ true → holds P i j ≡ true) P p (opening (prog P p) f) (b .size) c j l (λ d v. ap (λ q. holds P i q) d ∙ sym (holdsBack-claims (prog P i) (prog P p) f) ∙ v) (λ _ v. v)) (ap (λ w. holdsBack w (prog (give P p f) j)) (sym (put-other P p i (opening (prog P p) f) c k n)) ∙ u)
+    less i j k l n u = (put-case (λ w. holdsBack (prog P i) w ≡ true → holds P i j ≡ true) P p (opening (prog P p) f)
+        (b .size) c j l (λ d v. ap (λ q. holds P i q) d ∙ sym (holdsBack-claims (prog P i) (prog P p) f) ∙ v) (λ _ v. v))
+        (ap (λ w. holdsBack w (prog (give P p f) j)) (sym (put-other P p i (opening (prog P p) f) c k n)) ∙ u)
 
 -- ── An open waits exactly if the file is in conflicting use, or no list of the admitted programs is an order with the file given ──
 
@@ -486,7 +570,9 @@ NoOrder P = (o : List ℕ) → Names (ins P) o → HeldLater (holds P) o
 
 pub unordered-none : (P : Progs) → ordered P ≡ false → NoOrder P
 unfolding ordered
-unordered-none P e o n = by-option (orderIn (holds P) (ins P)) (λ u. orderIn-none (holds P) (ins P) o (ins-once P) u n) (λ q u. never {t = true} refl (rw u at e))
+unordered-none P e o n = by-option (orderIn (holds P) (ins P)) (λ u. orderIn-none (holds P) (ins P) o (ins-once P) u n)
+    (λ q u. never {t = true} refl (rw u at e))
 
 pub none-unordered : (P : Progs) → NoOrder P → ordered P ≡ false
-none-unordered P n = no-true (ordered P) (λ e. let (o, c) = ordered-order P e in held-not-clear (holds P) o (c .clear) (n o (record { all = c .all; only = c .only; once = c .once })))
+none-unordered P n = no-true (ordered P) (λ e. let (o, c) = ordered-order P e in held-not-clear (holds P) o (c .clear)
+    (n o (record { all = c .all; only = c .only; once = c .once })))

@@ -39,29 +39,36 @@ module _ (b : Board) (z : Sized (b .programs)) (s : sound b ≡ true) where
 
   -- Enter: a program more fits in the entry line.
   pub entry-room : (p : ℕ) (v q : FileSet) → enterCheck b p v q ≡ Check.Passed → length (names (b .entry)) < 32
-  entry-room p v q e = let m = enter-may b p v q e in let n = crowd b p (good .loose) (m .is) (ap isWaiting (m .absent)) (ap isHeld (m .absent)) in omega arith
+  entry-room p v q e = let m = enter-may b p v q e in let n = crowd b p (good .loose) (m .is) (ap isWaiting (m .absent))
+      (ap isHeld (m .absent)) in omega arith
 
   -- Open: a program more fits in the waiting line.
   pub waiting-room : (p f : ℕ) → openCheck b p f ≡ Check.Passed → length (names (b .waiting)) < 32
-  waiting-room p f e = let m = open-may b p f e in let n = crowd b p (good .loose) (m .is) (ap isWaiting (m .runs)) (ap isHeld (m .runs)) in omega arith
+  waiting-room p f e = let m = open-may b p f e in let n = crowd b p (good .loose) (m .is) (ap isWaiting (m .runs))
+      (ap isHeld (m .runs)) in omega arith
 
   -- Close, drop and leave: the board before settling.
   pub close-ready : (p f : ℕ) → closeCheck b p f ≡ Check.Passed → Ready (setProgram b p (closing (at b p) f))
   unfolding closing
   close-ready p f e = let m = close-may b p f e in
-      ready (setProgram b p (closing (at b p) f)) p (loose-close (b .programs) (b .waiting) (b .entry) (b .favoured) (b .initial) (b .leaves) p f (m .is) (m .runs) (good .loose)) (m .is)
-      (test-same isWaiting (b .programs) p (closing (at b p) f) z (m .is) ∙ ap isWaiting (m .runs)) (test-same isHeld (b .programs) p (closing (at b p) f) z (m .is) ∙ ap isHeld (m .runs))
+      ready (setProgram b p (closing (at b p) f)) p (loose-close (b .programs) (b .waiting) (b .entry) (b .favoured)
+      (b .initial) (b .leaves) p f (m .is) (m .runs) (good .loose)) (m .is)
+      (test-same isWaiting (b .programs) p (closing (at b p) f) z (m .is) ∙ ap isWaiting (m .runs))
+      (test-same isHeld (b .programs) p (closing (at b p) f) z (m .is) ∙ ap isHeld (m .runs))
 
   pub drop-ready : (p f : ℕ) → openCheck b p f ≡ Check.Passed → Ready (setProgram b p (dropping (at b p) f))
   unfolding dropping
   drop-ready p f e = let m = open-may b p f e in
-      ready (setProgram b p (dropping (at b p) f)) p (loose-drop (b .programs) (b .waiting) (b .entry) (b .favoured) (b .initial) (b .leaves) p f (m .is) (m .runs) (m .asked .shut) (good .loose)) (m .is)
-      (test-same isWaiting (b .programs) p (dropping (at b p) f) z (m .is) ∙ ap isWaiting (m .runs)) (test-same isHeld (b .programs) p (dropping (at b p) f) z (m .is) ∙ ap isHeld (m .runs))
+      ready (setProgram b p (dropping (at b p) f)) p (loose-drop (b .programs) (b .waiting) (b .entry) (b .favoured)
+      (b .initial) (b .leaves) p f (m .is) (m .runs) (m .asked .shut) (good .loose)) (m .is)
+      (test-same isWaiting (b .programs) p (dropping (at b p) f) z (m .is) ∙ ap isWaiting (m .runs))
+      (test-same isHeld (b .programs) p (dropping (at b p) f) z (m .is) ∙ ap isHeld (m .runs))
 
   pub leave-ready : (p : ℕ) → leaveCheck b p ≡ Check.Passed → Ready (countLeave (setProgram b p noProgram))
   leave-ready p e = let m = leave-may b p e in let l = leave-left b p good m in
       ready (countLeave (setProgram b p noProgram)) p (l .l-loose) (m .is)
-      (ap (λ P. waitsIn P p) (l .l-programs) ∙ test-same isWaiting (b .programs) p noProgram z (m .is)) (ap (λ P. heldAt P p) (l .l-programs) ∙ test-same isHeld (b .programs) p noProgram z (m .is))
+      (ap (λ P. waitsIn P p) (l .l-programs) ∙ test-same isWaiting (b .programs) p noProgram z (m .is))
+      (ap (λ P. heldAt P p) (l .l-programs) ∙ test-same isHeld (b .programs) p noProgram z (m .is))
 
   -- Leave: the count of leaves does not overflow.
   pub leaves-room : b .leaves ≤ 32

@@ -20,7 +20,8 @@ use Rattle.rules.specs.Boards.{isAbsent, isHeld, isWaiting, isAdmitted, isProgr
 use Rattle.rules.specs.Orders.{conflict, carried, canGive}
 use Rattle.rules.specs.Soundness.{setsSound, standingSound, programSound, noConflict, lineSound, waiterSound, noneFavoured, someFavoured, sound}
 use Rattle.rules.specs.Calls.{Call, apply}
-use Rattle.theory.specs.Lists.{any-some, some-any, all-each, each-all, found-some, listed-mem, mem-listed, distinct-once, once-distinct, same-eq, eq-same}
+use Rattle.theory.specs.Lists.{any-some, some-any, all-each, each-all, found-some, listed-mem, mem-listed, distinct-once}
+use Rattle.theory.specs.Lists.{once-distinct, same-eq, eq-same}
 use Rattle.theory.specs.Order.{IsOrder}
 use Rattle.theory.specs.Programs.{Is, is-of, of-is, mem-everyone, everyone-is, Sized, canGive-is, admitted-is, Own}
 use Rattle.theory.specs.Carried.{holdsOn, CompletionOrder, carried-sound, carried-complete}
@@ -37,7 +38,8 @@ pub record Sound (b : Board) : Type 0 where
   -- "sets as above"
   pub sets : (p : ℕ) → Is p → SetsAsAbove (at b p)
   -- "absent programs have empty sets"
-  pub absent-empty : (p : ℕ) → Is p → at b p .standing ≡ Standing.Absent → (at b p .writable ≡ noFiles) × (at b p .readable ≡ noFiles) × (at b p .writing ≡ noFiles) × (at b p .reading ≡ noFiles)
+  pub absent-empty : (p : ℕ) → Is p → at b p .standing ≡ Standing.Absent → (at b p .writable ≡ noFiles) ×
+      (at b p .readable ≡ noFiles) × (at b p .writing ≡ noFiles) × (at b p .reading ≡ noFiles)
   -- "held ones nothing open"
   pub held-closed : (p : ℕ) → Is p → at b p .standing ≡ Standing.Held → (at b p .writing ≡ noFiles) × (at b p .reading ≡ noFiles)
   -- "no conflict"
@@ -66,20 +68,44 @@ empty-is s e = ap {B = FileSet} (λ n. record { bits = n }) (eqb-true (s .bits) 
 is-empty : (s : FileSet) → s ≡ noFiles → isEmpty s ≡ true
 is-empty s e = eq-eqb (s .bits) 0 (ap (λ (t : FileSet). t .bits) e)
 
-standing-of : (q : Program) (s : Standing) → standingSound s q ≡ true → q .standing ≡ s → (q .standing ≡ Standing.Absent → (q .writable ≡ noFiles) × (q .readable ≡ noFiles) × (q .writing ≡ noFiles) × (q .reading ≡ noFiles)) × (q .standing ≡ Standing.Held → (q .writing ≡ noFiles) × (q .reading ≡ noFiles))
+standing-of : (q : Program) (s : Standing) → standingSound s q ≡ true → q .standing ≡ s
+    → (q .standing ≡ Standing.Absent → (q .writable ≡ noFiles) × (q .readable ≡ noFiles) × (q .writing ≡ noFiles) ×
+    (q .reading ≡ noFiles)) × (q .standing ≡ Standing.Held → (q .writing ≡ noFiles) × (q .reading ≡ noFiles))
 unfolding standingSound
 standing-of q Standing.Absent e d = (λ _. all-four, λ u. (all-four .2, all-four .3))
   where
     all-four : (q .writable ≡ noFiles) × (q .readable ≡ noFiles) × (q .writing ≡ noFiles) × (q .reading ≡ noFiles)
-    all-four = let a = and-left (isEmpty (q .writable) && isEmpty (q .readable) && isEmpty (q .writing)) (isEmpty (q .reading)) e in let b = and-left (isEmpty (q .writable) && isEmpty (q .readable)) (isEmpty (q .writing)) a in
-        (empty-is _ (and-left (isEmpty (q .writable)) (isEmpty (q .readable)) b), empty-is _ (and-right (isEmpty (q .writable)) (isEmpty (q .readable)) b), empty-is _ (and-right (isEmpty (q .writable) && isEmpty (q .readable)) (isEmpty (q .writing)) a), empty-is _ (and-right (isEmpty (q .writable) && isEmpty (q .readable) && isEmpty (q .writing)) (isEmpty (q .reading)) e))
-standing-of q Standing.Running e d = (λ u. never {t = false} (sym (ap isAbsent d) ∙ ap isAbsent u) refl, λ u. never {t = false} (sym (ap isHeld d) ∙ ap isHeld u) refl)
-standing-of q (Standing.Waiting f) e d = (λ u. never {t = false} (sym (ap isAbsent d) ∙ ap isAbsent u) refl, λ u. never {t = false} (sym (ap isHeld d) ∙ ap isHeld u) refl)
-standing-of q Standing.Held e d = (λ u. never {t = false} (sym (ap isAbsent d) ∙ ap isAbsent u) refl, λ u. (empty-is _ (and-left (isEmpty (q .writing)) (isEmpty (q .reading)) e), empty-is _ (and-right (isEmpty (q .writing)) (isEmpty (q .reading)) e)))
+    all-four = let a = and-left (isEmpty (q .writable) && isEmpty (q .readable) && isEmpty (q .writing))
+        (isEmpty (q .reading)) e in let b = and-left (isEmpty (q .writable) && isEmpty (q .readable)) (isEmpty (q .writing)) a in (
+          empty-is _ (and-left (isEmpty (q .writable)) (isEmpty (q .readable)) b),
+          empty-is _ (and-right (isEmpty (q .writable)) (isEmpty (q .readable)) b),
+          empty-is _ (and-right (isEmpty (q .writable) && isEmpty (q .readable)) (isEmpty (q .writing)) a),
+          empty-is _ (and-right (isEmpty (q .writable) && isEmpty (q .readable) && isEmpty (q .writing)) (isEmpty (q .reading)) e),
+        )
+standing-of q Standing.Running e d = (
+  λ u. never {t = false} (sym (ap isAbsent d) ∙ ap isAbsent u) refl,
+  λ u. never {t = false} (sym (ap isHeld d) ∙ ap isHeld u) refl,
+)
+standing-of q (Standing.Waiting f) e d = (
+  λ u. never {t = false} (sym (ap isAbsent d) ∙ ap isAbsent u) refl,
+  λ u. never {t = false} (sym (ap isHeld d) ∙ ap isHeld u) refl,
+)
+standing-of q Standing.Held e d = (
+  λ u. never {t = false} (sym (ap isAbsent d) ∙ ap isAbsent u) refl,
+  λ u. (
+    empty-is _ (and-left (isEmpty (q .writing)) (isEmpty (q .reading)) e),
+    empty-is _ (and-right (isEmpty (q .writing)) (isEmpty (q .reading)) e),
+  ),
+)
 
-of-standing : (q : Program) (s : Standing) → q .standing ≡ s → (q .standing ≡ Standing.Absent → (q .writable ≡ noFiles) × (q .readable ≡ noFiles) × (q .writing ≡ noFiles) × (q .reading ≡ noFiles)) → (q .standing ≡ Standing.Held → (q .writing ≡ noFiles) × (q .reading ≡ noFiles)) → standingSound s q ≡ true
+of-standing : (q : Program) (s : Standing) → q .standing ≡ s → (q .standing ≡ Standing.Absent
+    → (q .writable ≡ noFiles) × (q .readable ≡ noFiles) × (q .writing ≡ noFiles) × (q .reading ≡ noFiles))
+    → (q .standing ≡ Standing.Held → (q .writing ≡ noFiles) × (q .reading ≡ noFiles)) → standingSound s q ≡ true
 unfolding standingSound
-of-standing q Standing.Absent d f g = let (a, b, c, e) = f d in and-both (isEmpty (q .writable) && isEmpty (q .readable) && isEmpty (q .writing)) (isEmpty (q .reading)) (and-both (isEmpty (q .writable) && isEmpty (q .readable)) (isEmpty (q .writing)) (and-both (isEmpty (q .writable)) (isEmpty (q .readable)) (is-empty _ a) (is-empty _ b)) (is-empty _ c)) (is-empty _ e)
+of-standing q Standing.Absent d f g = let (a, b, c, e) =
+    f d in and-both (isEmpty (q .writable) && isEmpty (q .readable) && isEmpty (q .writing)) (isEmpty (q .reading))
+    (and-both (isEmpty (q .writable) && isEmpty (q .readable)) (isEmpty (q .writing)) (and-both (isEmpty (q .writable))
+    (isEmpty (q .readable)) (is-empty _ a) (is-empty _ b)) (is-empty _ c)) (is-empty _ e)
 of-standing q Standing.Running d f g = refl
 of-standing q (Standing.Waiting h) d f g = refl
 of-standing q Standing.Held d f g = let (a, b) = g d in and-both (isEmpty (q .writing)) (isEmpty (q .reading)) (is-empty _ a) (is-empty _ b)
@@ -90,32 +116,41 @@ sets-of q e = let a = and-left (within (q .writing) (q .writable) && within (q .
     record {
       w-in-v = and-left (within (q .writing) (q .writable)) (within (q .reading) (q .readable)) a;
       r-in-q = and-right (within (q .writing) (q .writable)) (within (q .reading) (q .readable)) a;
-      v-apart-q = not-true (meets (q .writable) (q .readable)) (and-right (within (q .writing) (q .writable) && within (q .reading) (q .readable)) (not (meets (q .writable) (q .readable))) e);
+      v-apart-q = not-true (meets (q .writable) (q .readable)) (and-right (within (q .writing) (q .writable) && within
+          (q .reading) (q .readable)) (not (meets (q .writable) (q .readable))) e);
     }
 
 of-sets : (q : Program) → SetsAsAbove q → setsSound q ≡ true
 unfolding setsSound
-of-sets q s = and-both (within (q .writing) (q .writable) && within (q .reading) (q .readable)) (not (meets (q .writable) (q .readable))) (and-both (within (q .writing) (q .writable)) (within (q .reading) (q .readable)) (s .w-in-v) (s .r-in-q)) (true-not (meets (q .writable) (q .readable)) (s .v-apart-q))
+of-sets q s = and-both (within (q .writing) (q .writable) && within (q .reading) (q .readable))
+    (not (meets (q .writable) (q .readable))) (and-both (within (q .writing) (q .writable))
+    (within (q .reading) (q .readable)) (s .w-in-v) (s .r-in-q)) (true-not (meets (q .writable) (q .readable)) (s .v-apart-q))
 
 line-of : (l : List ℕ) (t : ℕ → Bool) → lineSound l t ≡ true → OnLine l t
 unfolding lineSound
 line-of l t e =
-    let a = all (λ p. isProgram p && t p) (names l) in let b = all (λ p. not (t p) || listed p (names l)) everyone in let c = distinct (names l) in let d = same l (padded 0 (names l)) in
+    let a = all (λ p. isProgram p && t p) (names l) in let b = all (λ p. not (t p) || listed p (names l)) everyone in
+    let c = distinct (names l) in let d = same l (padded 0 (names l)) in
     let abc = and-left (a && b && c) d e in let ab = and-left (a && b) c abc in
     record {
       form = same-eq l (padded 0 (names l)) (and-right (a && b && c) d e);
       once = distinct-once (names l) (and-right (a && b) c abc);
-      of = λ p m. let u = all-each (λ p. isProgram p && t p) (names l) (and-left a b ab) p m in (is-of p (and-left (isProgram p) (t p) u), and-right (isProgram p) (t p) u);
-      on = λ p i u. let w = all-each (λ p. not (t p) || listed p (names l)) everyone (and-right a b ab) p (mem-everyone p i) in or-cases (not (t p)) (listed p (names l)) w (λ x. never u (not-true (t p) x)) (listed-mem p (names l));
+      of = λ p m. let u = all-each (λ p. isProgram p && t p) (names l) (and-left a b ab) p m in
+          (is-of p (and-left (isProgram p) (t p) u), and-right (isProgram p) (t p) u);
+      on = λ p i u. let w = all-each (λ p. not (t p) || listed p (names l)) everyone (and-right a b ab) p
+          (mem-everyone p i) in or-cases (not (t p)) (listed p (names l)) w (λ x. never u (not-true (t p) x)) (listed-mem p (names l));
     }
 
 of-line : (l : List ℕ) (t : ℕ → Bool) → OnLine l t → lineSound l t ≡ true
 unfolding lineSound
 of-line l t k =
-    let a = all (λ p. isProgram p && t p) (names l) in let b = all (λ p. not (t p) || listed p (names l)) everyone in let c = distinct (names l) in let d = same l (padded 0 (names l)) in
+    let a = all (λ p. isProgram p && t p) (names l) in let b = all (λ p. not (t p) || listed p (names l)) everyone in
+    let c = distinct (names l) in let d = same l (padded 0 (names l)) in
     and-both (a && b && c) d (and-both (a && b) c (and-both a b
     (each-all (λ p. isProgram p && t p) (names l) (λ p m. let (i, u) = k .of p m in and-both (isProgram p) (t p) (of-is p i) u))
-    (each-all (λ p. not (t p) || listed p (names l)) everyone (λ p m. by-test (t p) (λ u. or-right (not (t p)) (listed p (names l)) (mem-listed p (names l) (k .on p (everyone-is p m) u))) (λ u. or-left (not (t p)) (listed p (names l)) (true-not (t p) u)))))
+    (each-all (λ p. not (t p) || listed p (names l)) everyone
+    (λ p m. by-test (t p) (λ u. or-right (not (t p)) (listed p (names l))
+    (mem-listed p (names l) (k .on p (everyone-is p m) u))) (λ u. or-left (not (t p)) (listed p (names l)) (true-not (t p) u)))))
     (once-distinct (names l) (k .once)))
     (eq-same l (padded 0 (names l)) (k .form))
 
@@ -124,12 +159,18 @@ of-line l t k =
 module _ (b : Board) where
   conflict-of : noConflict b ≡ true → (i j : ℕ) → Is i → Is j → i ≢ j → conflict (at b i) (at b j) ≡ false
   unfolding noConflict
-  conflict-of e i j a c n = let u = all-each (λ i. all (λ j. eqb i j || not (conflict (at b i) (at b j))) everyone) everyone e i (mem-everyone i a) in let v = all-each (λ j. eqb i j || not (conflict (at b i) (at b j))) everyone u j (mem-everyone j c) in
+  conflict-of e i j a c n = let u =
+      all-each (λ i. all (λ j. eqb i j || not (conflict (at b i) (at b j))) everyone) everyone e i (mem-everyone i a) in
+      let v = all-each (λ j. eqb i j || not (conflict (at b i) (at b j))) everyone u j (mem-everyone j c) in
       or-cases (eqb i j) (not (conflict (at b i) (at b j))) v (λ x. absurd (n (eqb-true i j x))) (λ x. not-true (conflict (at b i) (at b j)) x)
 
   of-conflict : ((i j : ℕ) → Is i → Is j → i ≢ j → conflict (at b i) (at b j) ≡ false) → noConflict b ≡ true
   unfolding noConflict
-  of-conflict f = each-all (λ i. all (λ j. eqb i j || not (conflict (at b i) (at b j))) everyone) everyone (λ i m. each-all (λ j. eqb i j || not (conflict (at b i) (at b j))) everyone (λ j k. by-test (eqb i j) (λ t. or-left (eqb i j) (not (conflict (at b i) (at b j))) t) (λ t. or-right (eqb i j) (not (conflict (at b i) (at b j))) (true-not (conflict (at b i) (at b j)) (f i j (everyone-is i m) (everyone-is j k) (eqb-false i j t))))))
+  of-conflict f = each-all (λ i. all (λ j. eqb i j || not (conflict (at b i) (at b j))) everyone) everyone
+      (λ i m. each-all (λ j. eqb i j || not (conflict (at b i) (at b j))) everyone (λ j k. by-test (eqb i j)
+      (λ t. or-left (eqb i j) (not (conflict (at b i) (at b j))) t)
+      (λ t. or-right (eqb i j) (not (conflict (at b i) (at b j))) (true-not (conflict (at b i) (at b j))
+      (f i j (everyone-is i m) (everyone-is j k) (eqb-false i j t))))))
 
   order-of : found (carried b) ≡ true → (o : List ℕ) × CompletionOrder b o
   order-of e = let (o, u) = found-some (carried b) e in (o, carried-sound b o u)
@@ -160,27 +201,47 @@ module _ (b : Board) where
   none-of : noneFavoured b ≡ true → ((p : ℕ) → Is p → isHeld (at b p .standing) ≡ false) × (b .initial ≡ 0) × (b .leaves ≡ 0)
   unfolding noneFavoured
   none-of e =
-      let x = not (any (λ p. isHeld (at b p .standing)) everyone) in let y = eqb (b .initial) 0 in let z = eqb (b .leaves) 0 in let xy = and-left (x && y) z e in
-      (λ p i. no-true _ (λ u. never (some-any (λ p. isHeld (at b p .standing)) everyone p (mem-everyone p i) u) (not-true (any (λ p. isHeld (at b p .standing)) everyone) (and-left x y xy))), eqb-true (b .initial) 0 (and-right x y xy), eqb-true (b .leaves) 0 (and-right (x && y) z e))
+      let x = not (any (λ p. isHeld (at b p .standing)) everyone) in let y = eqb (b .initial) 0 in let z =
+      eqb (b .leaves) 0 in let xy = and-left (x && y) z e in (
+        λ p i. no-true _ (λ u. never (some-any (λ p. isHeld (at b p .standing)) everyone p (mem-everyone p i) u)
+            (not-true (any (λ p. isHeld (at b p .standing)) everyone) (and-left x y xy))),
+        eqb-true (b .initial) 0
+            (and-right x y xy),
+        eqb-true (b .leaves) 0 (and-right (x && y) z e),
+      )
 
   of-none : ((p : ℕ) → Is p → isHeld (at b p .standing) ≡ false) → b .initial ≡ 0 → b .leaves ≡ 0 → noneFavoured b ≡ true
   unfolding noneFavoured
   of-none h i l =
       let x = not (any (λ p. isHeld (at b p .standing)) everyone) in let y = eqb (b .initial) 0 in let z = eqb (b .leaves) 0 in
-      and-both (x && y) z (and-both x y (true-not (any (λ p. isHeld (at b p .standing)) everyone) (no-true (any (λ p. isHeld (at b p .standing)) everyone) (λ e. let (p, m, u) = any-some (λ p. isHeld (at b p .standing)) everyone e in never u (h p (everyone-is p m))))) (eq-eqb (b .initial) 0 i)) (eq-eqb (b .leaves) 0 l)
+      and-both (x && y) z (and-both x y (true-not (any (λ p. isHeld (at b p .standing)) everyone)
+      (no-true (any (λ p. isHeld (at b p .standing)) everyone) (λ e. let (p, m, u) = any-some
+      (λ p. isHeld (at b p .standing)) everyone e in never u (h p (everyone-is p m))))) (eq-eqb (b .initial) 0 i))
+      (eq-eqb (b .leaves) 0 l)
 
-  some-of : someFavoured b ≡ true → (Is (b .favoured) × (isWaiting (at b (b .favoured) .standing) ≡ true)) × ((b .leaves + length (admitted b) ≡ b .initial) × (b .initial ≤ 32))
+  some-of : someFavoured b ≡ true → (Is (b .favoured) × (isWaiting (at b (b .favoured) .standing) ≡ true)) ×
+      ((b .leaves + length (admitted b) ≡ b .initial) × (b .initial ≤ 32))
   unfolding someFavoured
   some-of e =
-      let x = isProgram (b .favoured) in let y = isWaiting (at b (b .favoured) .standing) in let z = eqb (b .leaves + length (admitted b)) (b .initial) in let w = leb (b .initial) 32 in
-      let xyz = and-left (x && y && z) w e in let xy = and-left (x && y) z xyz in
-      ((is-of (b .favoured) (and-left x y xy), and-right x y xy), (eqb-true (b .leaves + length (admitted b)) (b .initial) (and-right (x && y) z xyz), leb-true (b .initial) 32 (and-right (x && y && z) w e)))
+      let x = isProgram (b .favoured) in let y = isWaiting (at b (b .favoured) .standing) in let z =
+      eqb (b .leaves + length (admitted b)) (b .initial) in let w = leb (b .initial) 32 in
+      let xyz = and-left (x && y && z) w e in let xy = and-left (x && y) z xyz in (
+        (is-of (b .favoured) (and-left x y xy), and-right x y xy),
+        (
+          eqb-true (b .leaves + length (admitted b))
+              (b .initial) (and-right (x && y) z xyz),
+          leb-true (b .initial) 32 (and-right (x && y && z) w e),
+        ),
+      )
 
-  of-some : Is (b .favoured) → isWaiting (at b (b .favoured) .standing) ≡ true → b .leaves + length (admitted b) ≡ b .initial → b .initial ≤ 32 → someFavoured b ≡ true
+  of-some : Is (b .favoured) → isWaiting (at b (b .favoured) .standing) ≡ true
+      → b .leaves + length (admitted b) ≡ b .initial → b .initial ≤ 32 → someFavoured b ≡ true
   unfolding someFavoured
   of-some i u c l =
-      let x = isProgram (b .favoured) in let y = isWaiting (at b (b .favoured) .standing) in let z = eqb (b .leaves + length (admitted b)) (b .initial) in let w = leb (b .initial) 32 in
-      and-both (x && y && z) w (and-both (x && y) z (and-both x y (of-is (b .favoured) i) u) (eq-eqb (b .leaves + length (admitted b)) (b .initial) c)) (le-leb (b .initial) 32 l)
+      let x = isProgram (b .favoured) in let y = isWaiting (at b (b .favoured) .standing) in let z =
+      eqb (b .leaves + length (admitted b)) (b .initial) in let w = leb (b .initial) 32 in
+      and-both (x && y && z) w (and-both (x && y) z (and-both x y (of-is (b .favoured) i) u)
+      (eq-eqb (b .leaves + length (admitted b)) (b .initial) c)) (le-leb (b .initial) 32 l)
 
   -- the seven parts of the test
   record Parts : Type 0 where
@@ -194,10 +255,13 @@ module _ (b : Board) where
 
   parts-of : sound b ≡ true → Parts
   unfolding sound
-  parts-of e = seven (all (λ p. programSound (at b p)) everyone) (noConflict b) (found (carried b)) (lineSound (b .waiting) (λ p. isWaiting (at b p .standing))) (lineSound (b .entry) (λ p. isHeld (at b p .standing))) (all (λ p. waiterSound b p (awaited b p)) (names (b .waiting))) (cond (eqb (b .favoured) 0) (noneFavoured b) (someFavoured b)) e
+  parts-of e = seven (all (λ p. programSound (at b p)) everyone) (noConflict b) (found (carried b))
+      (lineSound (b .waiting) (λ p. isWaiting (at b p .standing))) (lineSound (b .entry) (λ p. isHeld (at b p .standing)))
+      (all (λ p. waiterSound b p (awaited b p)) (names (b .waiting))) (cond (eqb (b .favoured) 0) (noneFavoured b) (someFavoured b)) e
       (λ x₁ x₂ x₃ x₄ x₅ x₆ x₇. record { part-1 = x₁; part-2 = x₂; part-3 = x₃; part-4 = x₄; part-5 = x₅; part-6 = x₆; part-7 = x₇ })
     where
-      seven : {C : Type 0} (q r s t u v w : Bool) → q && r && s && t && u && v && w ≡ true → (q ≡ true → r ≡ true → s ≡ true → t ≡ true → u ≡ true → v ≡ true → w ≡ true → C) → C
+      seven : {C : Type 0} (q r s t u v w : Bool) → q && r && s && t && u && v && w ≡ true
+          → (q ≡ true → r ≡ true → s ≡ true → t ≡ true → u ≡ true → v ≡ true → w ≡ true → C) → C
       seven true true true true true true true e f = f refl refl refl refl refl refl refl
       seven true true true true true true false e f = never {t = false} e refl
       seven true true true true true false w e f = never {t = false} e refl
@@ -234,24 +298,31 @@ module _ (b : Board) where
       each : (p : ℕ) → Is p → programSound (at b p) ≡ true
       each p i = all-each (λ p. programSound (at b p)) everyone (k .part-1) p (mem-everyone p i)
 
-      stand : (p : ℕ) → Is p → (at b p .standing ≡ Standing.Absent → (at b p .writable ≡ noFiles) × (at b p .readable ≡ noFiles) × (at b p .writing ≡ noFiles) × (at b p .reading ≡ noFiles)) × (at b p .standing ≡ Standing.Held → (at b p .writing ≡ noFiles) × (at b p .reading ≡ noFiles))
+      stand : (p : ℕ) → Is p → (at b p .standing ≡ Standing.Absent → (at b p .writable ≡ noFiles) ×
+          (at b p .readable ≡ noFiles) × (at b p .writing ≡ noFiles) × (at b p .reading ≡ noFiles)) ×
+          (at b p .standing ≡ Standing.Held → (at b p .writing ≡ noFiles) × (at b p .reading ≡ noFiles))
       stand p i = standing-of (at b p) (at b p .standing) (and-right (setsSound (at b p)) (standingSound (at b p .standing) (at b p)) (each p i)) refl
 
       l : OnLine (b .waiting) (λ p. isWaiting (at b p .standing))
       l = line-of (b .waiting) (λ p. isWaiting (at b p .standing)) (k .part-4)
 
       waiter : (p f : ℕ) → Is p → at b p .standing ≡ Standing.Waiting f → Asked (at b p) f × (canGive b p f ≡ false)
-      waiter p f i u = waiter-of p f (ap (waiterSound b p) (sym (ap awaitedOf u)) ∙ all-each (λ p. waiterSound b p (awaited b p)) (names (b .waiting)) (k .part-6) p (l .on p i (ap isWaiting u)))
+      waiter p f i u = waiter-of p f (ap (waiterSound b p) (sym (ap awaitedOf u))
+          ∙ all-each (λ p. waiterSound b p (awaited b p)) (names (b .waiting)) (k .part-6) p (l .on p i (ap isWaiting u)))
 
   of-clauses : Sound b → sound b ≡ true
   unfolding programSound
   of-clauses k = of-parts (record {
-    part-1 = each-all (λ p. programSound (at b p)) everyone (λ p m. let i = everyone-is p m in and-both (setsSound (at b p)) (standingSound (at b p .standing) (at b p)) (of-sets (at b p) (k .sets p i)) (of-standing (at b p) (at b p .standing) refl (k .absent-empty p i) (k .held-closed p i)));
+    part-1 = each-all (λ p. programSound (at b p)) everyone (λ p m. let i = everyone-is p m in
+        and-both (setsSound (at b p)) (standingSound (at b p .standing) (at b p)) (of-sets (at b p) (k .sets p i))
+        (of-standing (at b p) (at b p .standing) refl (k .absent-empty p i) (k .held-closed p i)));
     part-2 = of-conflict (k .no-conflict);
     part-3 = of-order (k .order-exists .0) (k .order-exists .1);
     part-4 = of-line (b .waiting) (λ p. isWaiting (at b p .standing)) (k .waiting-line);
     part-5 = of-line (b .entry) (λ p. isHeld (at b p .standing)) (k .entry-line);
-    part-6 = each-all (λ p. waiterSound b p (awaited b p)) (names (b .waiting)) (λ p m. let (i, u) = k .waiting-line .of p m in let (f, s) = waiting-file (at b p .standing) u in ap (waiterSound b p) (ap awaitedOf s) ∙ of-waiter p f (k .waiter-asked p f i s) (k .waiter-stuck p f i s));
+    part-6 = each-all (λ p. waiterSound b p (awaited b p)) (names (b .waiting))
+        (λ p m. let (i, u) = k .waiting-line .of p m in let (f, s) = waiting-file (at b p .standing) u in
+        ap (waiterSound b p) (ap awaitedOf s) ∙ of-waiter p f (k .waiter-asked p f i s) (k .waiter-stuck p f i s));
     part-7 = by-test (eqb (b .favoured) 0)
         (λ t. rw t (let (h, i, l) = k .nobody-favoured (eqb-true (b .favoured) 0 t) in of-none h i l))
         (λ t. rw t (let n = eqb-false (b .favoured) 0 t in let (i, u) = k .favoured-waits n in let (c, l) = k .favoured-count n in of-some i u c l));
@@ -285,7 +356,13 @@ good-sound b g = record {
 pub sound-good : (b : Board) → Sized (b .programs) → Sound b → Good b
 sound-good b z s = record {
   loose = record {
-    base = record { size = z; own = own; apart = s .no-conflict; order = let (o, c) = s .order-exists in (o, subst (λ l. IsOrder (holdsOn b) l o) (admitted-is b) c) };
+    base = record {
+      size = z;
+      own = own;
+      apart = s .no-conflict;
+      order = let (o, c) = s .order-exists in
+          (o, subst (λ l. IsOrder (holdsOn b) l o) (admitted-is b) c);
+    };
     waits = s .waiting-line;
     helds = s .entry-line;
     asked = s .waiter-asked;
@@ -297,7 +374,9 @@ sound-good b z s = record {
   free = λ d. s .nobody-favoured d .0;
 }
   where
-    idle-of : (q : Program) (t : Standing) → q .standing ≡ t → isAdmitted t ≡ false → (q .standing ≡ Standing.Absent → (q .writing ≡ noFiles) × (q .reading ≡ noFiles)) → (q .standing ≡ Standing.Held → (q .writing ≡ noFiles) × (q .reading ≡ noFiles)) → (q .writing ≡ noFiles) × (q .reading ≡ noFiles)
+    idle-of : (q : Program) (t : Standing) → q .standing ≡ t → isAdmitted t ≡ false → (q .standing ≡ Standing.Absent
+        → (q .writing ≡ noFiles) × (q .reading ≡ noFiles)) → (q .standing ≡ Standing.Held → (q .writing ≡ noFiles) ×
+        (q .reading ≡ noFiles)) → (q .writing ≡ noFiles) × (q .reading ≡ noFiles)
     idle-of q Standing.Absent d e f g = f d
     idle-of q Standing.Running d e f g = never {t = true} refl e
     idle-of q (Standing.Waiting h) d e f g = never {t = true} refl e
@@ -313,5 +392,7 @@ sound-good b z s = record {
     }
 
 -- Every call, accepted or refused, keeps a board sound, and with 32 programs.
-pub sound-kept : (b : Board) (c : Call) → Sized (b .programs) → sound b ≡ true → (sound (apply b c .board) ≡ true) × Sized (apply b c .board .programs)
-sound-kept b c z s = let g = apply-stepped b c (sound-good b z (sound-iff b .0 s)) .good in (sound-iff (apply b c .board) .1 (good-sound (apply b c .board) g), g .loose .base .size)
+pub sound-kept : (b : Board) (c : Call) → Sized (b .programs) → sound b ≡ true
+    → (sound (apply b c .board) ≡ true) × Sized (apply b c .board .programs)
+sound-kept b c z s = let g = apply-stepped b c (sound-good b z (sound-iff b .0 s)) .good in
+    (sound-iff (apply b c .board) .1 (good-sound (apply b c .board) g), g .loose .base .size)

@@ -24,7 +24,8 @@ use Rattle.rules.specs.Orders.{heldBack, carriedFrom, carried, withGiven, inUse
 use Rattle.rules.specs.Soundness.{setsSound, standingSound, programSound, noConflict, lineSound, waiterSound, noneFavoured, someFavoured, sound}
 use Rattle.rules.specs.Replies.{refused, blank, reply, refuse, linesOf, orderOf, number}
 use Rattle.rules.specs.Checks.{refuseIf, unlessRunning, enterCheck, openCheck, closeCheck, leaveCheck}
-use Rattle.rules.specs.Calls.{enter, openFile, done, closeFile, dropFile, leave, Call, Enter, Open, Close, Drop, Leave, checked, accepted, apply, direct}
+use Rattle.rules.specs.Calls.{enter, openFile, done, closeFile, dropFile, leave, Call, Enter, Open, Close, Drop, Leave, checked, accepted}
+use Rattle.rules.specs.Calls.{apply, direct}
 use Rattle.rules.specs.Worked.{workedFrom, worked, repliesFrom, directFrom}
 use Rattle.theory.specs.Lists.{_∈_, by-mem, here, no-longer, length-rising}
 use Rattle.theory.specs.Order.{IsOrder}
@@ -102,7 +103,8 @@ repliesFrom-append b [] ys = refl
 repliesFrom-append b (x ∷ xs) ys = ap (apply b x ∷_) (repliesFrom-append (apply b x .board) xs ys)
 
 -- The replies before a call, its own, and those after it.
-pub replies-split : (xs ys : List Call) (c : Call) → repliesFrom emptyBoard (xs ++ (c ∷ ys)) ≡ repliesFrom emptyBoard xs ++ (apply (worked xs) c ∷ repliesFrom (apply (worked xs) c .board) ys)
+pub replies-split : (xs ys : List Call) (c : Call) → repliesFrom emptyBoard (xs ++ (c ∷ ys)) ≡ repliesFrom emptyBoard xs ++
+    (apply (worked xs) c ∷ repliesFrom (apply (worked xs) c .board) ys)
 unfolding worked repliesFrom
 replies-split xs ys c = repliesFrom-append emptyBoard xs (c ∷ ys)
 
@@ -111,14 +113,17 @@ replies-split xs ys c = repliesFrom-append emptyBoard xs (c ∷ ys)
 -- A call that isn't refused has passed its checks.
 pub passed-of : (b : Board) (c : Call) → refused (apply b c .answer) ≡ false → checked b c ≡ Check.Passed
 unfolding refuse reply
-passed-of b c e = by-check (checked b c) (λ u. u) (λ r u. never {t = true} refl (sym (ap (λ (q : Reply). refused (q .answer)) (apply-refused b c r u)) ∙ e))
+passed-of b c e = by-check (checked b c) (λ u. u)
+    (λ r u. never {t = true} refl (sym (ap (λ (q : Reply). refused (q .answer)) (apply-refused b c r u)) ∙ e))
 
 -- Whatever a call is refused for by its own checks, it is one of the refusals 8 to 16.
-if-number : (t : Bool) (r : Refusal) (k : Check) → 8 ≤ number r → ((q : Refusal) → k ≡ Check.Failed q → 8 ≤ number q) → (q : Refusal) → refuseIf t r k ≡ Check.Failed q → 8 ≤ number q
+if-number : (t : Bool) (r : Refusal) (k : Check) → 8 ≤ number r → ((q : Refusal) → k ≡ Check.Failed q → 8 ≤ number q)
+    → (q : Refusal) → refuseIf t r k ≡ Check.Failed q → 8 ≤ number q
 if-number true r k n f q e = subst (λ z. 8 ≤ number z) (let d : r ≡ q = cc in d) n
 if-number false r k n f q e = f q e
 
-running-number : (s : Standing) (k : Check) → ((q : Refusal) → k ≡ Check.Failed q → 8 ≤ number q) → (q : Refusal) → unlessRunning s k ≡ Check.Failed q → 8 ≤ number q
+running-number : (s : Standing) (k : Check) → ((q : Refusal) → k ≡ Check.Failed q → 8 ≤ number q) → (q : Refusal)
+    → unlessRunning s k ≡ Check.Failed q → 8 ≤ number q
 running-number Standing.Absent k f q e = subst (λ z. 8 ≤ number z) (let d : Refusal.IsAbsent ≡ q = cc in d) (omega arith)
 running-number Standing.Held k f q e = subst (λ z. 8 ≤ number z) (let d : Refusal.IsHeld ≡ q = cc in d) (omega arith)
 running-number (Standing.Waiting g) k f q e = subst (λ z. 8 ≤ number z) (let d : Refusal.IsWaiting ≡ q = cc in d) (omega arith)
@@ -165,12 +170,14 @@ pub apply-number : (b : Board) (c : Call) (q : Refusal) → apply b c .answer �
 unfolding refuse reply
 apply-number b c q e = by-check (checked b c)
     (λ u. never {t = true} refl (sym (ap refused e) ∙ ap (λ (r : Reply). refused (r .answer)) (apply-accepted b c u) ∙ accepted-answer b c))
-    (λ r u. let d : Answer.Refuse r ≡ Answer.Refuse q = ap (λ (z : Reply). z .answer) (sym (apply-refused b c r u)) ∙ e in subst (λ z. 8 ≤ number z) (let k : r ≡ q = cc in k) (checked-number b c r u))
+    (λ r u. let d : Answer.Refuse r ≡ Answer.Refuse q = ap (λ (z : Reply). z .answer) (sym (apply-refused b c r u))
+    ∙ e in subst (λ z. 8 ≤ number z) (let k : r ≡ q = cc in k) (checked-number b c r u))
 
 replies-number : (b : Board) (cs : List Call) (r : Reply) (q : Refusal) → r ∈ repliesFrom b cs → r .answer ≡ Answer.Refuse q → 8 ≤ number q
 unfolding repliesFrom
 replies-number b [] r q m e = absurd (List·Memᴰ·not-nil m)
-replies-number b (c ∷ cs) r q m e = by-mem m (λ d. apply-number b c q (ap (λ (z : Reply). z .answer) (sym d) ∙ e)) (λ k. replies-number (apply b c .board) cs r q k e)
+replies-number b (c ∷ cs) r q m e = by-mem m (λ d. apply-number b c q (ap (λ (z : Reply). z .answer) (sym d) ∙ e))
+    (λ k. replies-number (apply b c .board) cs r q k e)
 
 -- "1 never after calls from the empty board."
 pub never-not-sound : (cs : List Call) (r : Reply) → r ∈ directFrom emptyBoard cs → r .answer ≢ Answer.Refuse Refusal.NotSound
@@ -189,14 +196,16 @@ made b a ls = record { its-lines = ls; is = refl }
 accepted-reply : (b : Board) (c : Call) → IsReply (accepted b c)
 unfolding enter openFile closeFile dropFile leave done
 accepted-reply b (Enter p v q) = by-test (eqb (b .favoured) 0) (λ t. rw t (made _ _ _)) (λ t. rw t (made _ _ _))
-accepted-reply b (Open p f) = by-test (inUse b p f) (λ t. rw t (made _ _ _)) (λ t. by-test (safe b p f) (λ u. rw (t, u) (made _ _ _)) (λ u. rw (t, u) (made _ _ _)))
+accepted-reply b (Open p f) = by-test (inUse b p f) (λ t. rw t (made _ _ _)) (λ t. by-test (safe b p f)
+    (λ u. rw (t, u) (made _ _ _)) (λ u. rw (t, u) (made _ _ _)))
 accepted-reply b (Close p f) = made _ _ _
 accepted-reply b (Drop p f) = made _ _ _
 accepted-reply b (Leave p) = made _ _ _
 
 pub apply-reply : (b : Board) (c : Call) → IsReply (apply b c)
 unfolding refuse
-apply-reply b c = by-check (checked b c) (λ e. subst IsReply (sym (apply-accepted b c e)) (accepted-reply b c)) (λ r e. subst IsReply (sym (apply-refused b c r e)) (made b (Answer.Refuse r) []))
+apply-reply b c = by-check (checked b c) (λ e. subst IsReply (sym (apply-accepted b c e)) (accepted-reply b c))
+    (λ r e. subst IsReply (sym (apply-refused b c r e)) (made b (Answer.Refuse r) []))
 
 reply-order : (b : Board) (a : Answer) (ls : List Line) → orderOf (reply b a ls) ≡ Option·getD (carried b) []
 unfolding reply
@@ -204,7 +213,9 @@ reply-order b a ls = take-padded 0 (Option·getD (carried b) [])
 
 -- The carried order of a sound board is a completion order.
 pub carried-order : (b : Board) → Good b → (o : List ℕ) × (carried b ≡ some o) × CompletionOrder b o
-carried-order b g = let (o, e) = carried-complete b (g .loose .base .order .0) (subst (λ l. IsOrder (holdsOn b) l (g .loose .base .order .0)) (sym (admitted-is b)) (g .loose .base .order .1)) in (o, e, carried-sound b o e)
+carried-order b g = let (o, e) = carried-complete b (g .loose .base .order .0)
+    (subst (λ l. IsOrder (holdsOn b) l (g .loose .base .order .0)) (sym (admitted-is b)) (g .loose .base .order .1)) in
+    (o, e, carried-sound b o e)
 
 -- The order of every reply is a completion order of its board.
 pub order-of-reply : (b : Board) (c : Call) → Good b → CompletionOrder (apply b c .board) (orderOf (apply b c))
@@ -212,7 +223,8 @@ order-of-reply b c g =
     let r = apply b c in
     let k = apply-reply b c in
     let (o, e, i) = carried-order (r .board) (apply-stepped b c g .good) in
-    subst (IsOrder (holdsOn (r .board)) (admitted (r .board))) (sym (ap orderOf (k .is) ∙ reply-order (r .board) (r .answer) (k .its-lines) ∙ ap (λ z. Option·getD z []) e)) i
+    subst (IsOrder (holdsOn (r .board)) (admitted (r .board))) (sym (ap orderOf (k .is) ∙ reply-order (r .board)
+    (r .answer) (k .its-lines) ∙ ap (λ z. Option·getD z []) e)) i
 
 -- At most 32 lines follow a call, and at most 32 programs are in its order.
 pub record Fits (r : Reply) : Type 0 where
@@ -236,7 +248,8 @@ apply-fits b c g =
     let n = ap (λ (q : Reply). q .count) (k .is) ∙ reply-count (r .board) (r .answer) (k .its-lines) ∙ ap (λ q. length (linesOf q)) (sym (k .is)) in
     let p = ap (λ (q : Reply). q .placed) (k .is) ∙ reply-placed (r .board) (r .answer) (k .its-lines) ∙ ap (λ q. length (orderOf q)) (sym (k .is)) in
     let o = order-of-reply b c g in
-    let l = no-longer (orderOf r) everyone (o .once) (λ a i. mem-everyone a (ins-mem (r .board .programs) a (subst (λ z. a ∈ z) (admitted-is (r .board)) (o .only a i)) .0)) in
+    let l = no-longer (orderOf r) everyone (o .once)
+    (λ a i. mem-everyone a (ins-mem (r .board .programs) a (subst (λ z. a ∈ z) (admitted-is (r .board)) (o .only a i)) .0)) in
     let z = length-rising 32 1 in
     record { lines-fit = omega arith; order-fits = omega arith }
 
@@ -244,7 +257,8 @@ apply-fits b c g =
 
 -- The first of an order is not waiting.
 pub first-runs : (b : Board) (p : ℕ) (o : List ℕ) → Good b → IsOrder (holdsOn b) (admitted b) (p ∷ o) → isWaiting (at b p .standing) ≡ false
-first-runs b p o g r = by-test (isWaiting (at b p .standing)) (λ t. let (f, e) = waiting-file (at b p .standing) t in never (first-can (b .programs) p f o (g .loose .base) i r′ (g .loose .asked p f i e .claimed)) (g .stuck p f i e)) (λ t. t)
+first-runs b p o g r = by-test (isWaiting (at b p .standing)) (λ t. let (f, e) = waiting-file (at b p .standing) t in
+    never (first-can (b .programs) p f o (g .loose .base) i r′ (g .loose .asked p f i e .claimed)) (g .stuck p f i e)) (λ t. t)
   where
     r′ : IsOrder (holds (b .programs)) (ins (b .programs)) (p ∷ o)
     r′ = subst (λ l. IsOrder (holdsOn b) l (p ∷ o)) (admitted-is b) r
@@ -268,5 +282,6 @@ favoured-bound b g n = go (g .loose .base .order .0) (g .loose .base .order .1)
     go [] i = absurd (List·Memᴰ·not-nil (i .all (b .favoured) m))
     go (p ∷ o) i =
         let r = first-runs b p o g (subst (λ l. IsOrder (holdsOn b) l (p ∷ o)) (sym (admitted-is b)) i) in
-        let k = two-members (ins (b .programs)) (b .favoured) p m (i .only p here) (λ d. never (g .loose .fav-waits n .1) (ap (waitsIn (b .programs)) d ∙ r)) in
+        let k = two-members (ins (b .programs)) (b .favoured) p m (i .only p here)
+        (λ d. never (g .loose .fav-waits n .1) (ap (waitsIn (b .programs)) d ∙ r)) in
         let j = g .loose .count n in omega arith

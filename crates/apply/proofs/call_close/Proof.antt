@@ -12,20 +12,27 @@ use Rattle.apply.proofs.call_close.Tie as tie
 returns : tie.Need-returns
 returns c = let a = c .before .before .before .args in
     c .refused .ensures ∙ apply-failed (a .b) (Close (a .p) (a .file)) Refusal.OutOfRange
-    (close-far-file (a .b) (a .p) (a .file) (file-none (a .file) (c .before .before .file-of .result) (c .before .before .file-of .ensures .0) (c .before .if1 .taken)))
+    (close-far-file (a .b) (a .p) (a .file) (file-none (a .file) (c .before .before .file-of .result)
+    (c .before .before .file-of .ensures .0) (c .before .if1 .taken)))
 
 do-close-requires : tie.Need-do-close-requires
-do-close-requires c κs = let s = c .before .before .before .before .before in (s .pre .0, s .pre .1, sym (c .before .before .check-close .ensures) ∙ c .enum-told .given .1)
+do-close-requires c κs = let s = c .before .before .before .before .before in
+    (s .pre .0, s .pre .1, sym (c .before .before .check-close .ensures) ∙ c .enum-told .given .1)
 
 returns-2 : tie.Need-returns-2
 returns-2 c = let a = c .before .before .before .before .before .before .args in let k = c .before .before .before .before .before .file-of in
-    c .do-close .ensures ∙ apply-passed (a .b) (Close (a .p) (k .result)) (sym (c .before .before .before .check-close .ensures) ∙ c .before .enum-told .given .1)
-    ∙ ap (λ (y : ℕ). apply (a .b) (Close (a .p) y)) (number-same (isFile (a .file)) (a .file) (k .result) (k .ensures .0) (c .before .before .before .before .if1 .left))
+    c .do-close .ensures ∙ apply-passed (a .b) (Close (a .p) (k .result))
+    (sym (c .before .before .before .check-close .ensures) ∙ c .before .enum-told .given .1)
+    ∙ ap (λ (y : ℕ). apply (a .b) (Close (a .p) y)) (number-same (isFile (a .file)) (a .file) (k .result)
+    (k .ensures .0) (c .before .before .before .before .if1 .left))
 
 returns-3 : tie.Need-returns-3
-returns-3 c = let a = c .before .before .before .before .before .before .before .args in let k = c .before .before .before .before .before .before .file-of in
-    c .refused2 .ensures ∙ apply-failed (a .b) (Close (a .p) (k .result)) (c .before .before .check .given .0 .0) (sym (c .before .before .before .before .check-close .ensures) ∙ c .before .before .check .given .1)
-    ∙ ap (λ (y : ℕ). apply (a .b) (Close (a .p) y)) (number-same (isFile (a .file)) (a .file) (k .result) (k .ensures .0) (c .before .before .before .before .before .if1 .left))
+returns-3 c = let a = c .before .before .before .before .before .before .before .args in let k =
+    c .before .before .before .before .before .before .file-of in
+    c .refused2 .ensures ∙ apply-failed (a .b) (Close (a .p) (k .result)) (c .before .before .check .given .0 .0)
+    (sym (c .before .before .before .before .check-close .ensures) ∙ c .before .before .check .given .1)
+    ∙ ap (λ (y : ℕ). apply (a .b) (Close (a .p) y)) (number-same (isFile (a .file)) (a .file) (k .result)
+    (k .ensures .0) (c .before .before .before .before .before .if1 .left))
 
 pub call-close-spec : {M : Type 1} → statement M
 call-close-spec =

@@ -7,7 +7,8 @@ use Rattle.apply.proofs.call_leave.Statement.{statement}
 use Rattle.apply.proofs.call_leave.Tie as tie
 
 do-leave-requires : tie.Need-do-leave-requires
-do-leave-requires c κs = let s = c .before .before .before in (s .pre .0, s .pre .1, sym (c .before .before .check-leave .ensures) ∙ c .enum-told .given .1)
+do-leave-requires c κs = let s = c .before .before .before in
+    (s .pre .0, s .pre .1, sym (c .before .before .check-leave .ensures) ∙ c .enum-told .given .1)
 
 returns : tie.Need-returns
 returns c = let a = c .before .before .before .before .args in
@@ -15,7 +16,8 @@ returns c = let a = c .before .before .before .before .args in
 
 returns-2 : tie.Need-returns-2
 returns-2 c = let a = c .before .before .before .before .before .args in
-    c .refused .ensures ∙ apply-failed (a .b) (Leave (a .p)) (c .before .before .check .given .0 .0) (sym (c .before .before .before .before .check-leave .ensures) ∙ c .before .before .check .given .1)
+    c .refused .ensures ∙ apply-failed (a .b) (Leave (a .p)) (c .before .before .check .given .0 .0)
+    (sym (c .before .before .before .before .check-leave .ensures) ∙ c .before .before .check .given .1)
 
 pub call-leave-spec : {M : Type 1} → statement M
 call-leave-spec =

@@ -21,18 +21,27 @@ returns : tie.Need-returns
 unfolding enter
 returns c = let a = c .before .before .before .before .before .args in
     rw (eq-eqb (a .b .favoured) 0 (c .before .before .before .before .if1 .taken))
-    (c .reply-with .ensures ∙ ap (λ (w : Written). replied w Answer.Admit) (c .before .one-line .ensures ∙ ap (λ (x : Board). wrote x (line Word.Admit (a .p) 0 ∷ [])) (c .before .before .put .ensures ∙ ap (setProgram (a .b) (a .p)) (c .before .before .before .new-program .ensures)))
+    (c .reply-with .ensures ∙ ap (λ (w : Written). replied w Answer.Admit) (c .before .one-line .ensures
+    ∙ ap (λ (x : Board). wrote x (line Word.Admit (a .p) 0 ∷ [])) (c .before .before .put .ensures
+    ∙ ap (setProgram (a .b) (a .p)) (c .before .before .before .new-program .ensures)))
     ∙ wrote-reply (setProgram (a .b) (a .p) (newcomer (a .writable) (a .readable) Standing.Running)) Answer.Admit (line Word.Admit (a .p) 0))
 
 append-requires : tie.Need-append-requires
-append-requires c κs = let s = c .before .before .before in let a = s .args in entry-free (a .b) (a .p) (a .writable) (a .readable) (s .pre .1) (s .pre .2)
+append-requires c κs = let s = c .before .before .before in let a = s .args in entry-free (a .b) (a .p) (a .writable)
+    (a .readable) (s .pre .1) (s .pre .2)
 
 returns-2 : tie.Need-returns-2
 unfolding enter
 returns-2 c = let a = c .before .before .before .before .before .before .before .args in
     rw (ne-eqb (a .b .favoured) 0 (c .before .before .before .before .before .before .if1 .left))
-    (c .reply-with2 .ensures ∙ ap (λ (w : Written). replied w Answer.Held) (c .before .one-line2 .ensures) ∙ rw (c .before .before .put2 .ensures, c .before .before .before .append .ensures, c .before .before .before .before .before .new-program2 .ensures)
-    (wrote-reply (setEntry (setProgram (a .b) (a .p) (newcomer (a .writable) (a .readable) Standing.Held)) (names (a .b .entry) ++ (a .p ∷ []))) Answer.Held (line Word.Held (a .p) 0)))
+    (c .reply-with2 .ensures ∙ ap (λ (w : Written). replied w Answer.Held) (c .before .one-line2 .ensures)
+    ∙ rw (
+      c .before .before .put2 .ensures,
+      c .before .before .before .append .ensures,
+      c .before .before .before .before .before .new-program2 .ensures,
+    )
+    (wrote-reply (setEntry (setProgram (a .b) (a .p) (newcomer (a .writable) (a .readable) Standing.Held))
+    (names (a .b .entry) ++ (a .p ∷ []))) Answer.Held (line Word.Held (a .p) 0)))
 
 pub do-enter-spec : {M : Type 1} → statement M
 do-enter-spec =

@@ -13,17 +13,20 @@ returns c =
 returns-2 : tie.Need-returns-2
 returns-2 c =
     let a = c .before .before .before .before .before .before .args in
-    sym (number-low (a .low) (a .high) (a .part .now) _ (sym (c .before .before .before .before .read-field .ensures) ∙ c .before .before .field .given .1) (c .if1 .taken))
+    sym (number-low (a .low) (a .high) (a .part .now) _ (sym (c .before .before .before .before .read-field .ensures)
+    ∙ c .before .before .field .given .1) (c .if1 .taken))
 
 returns-3 : tie.Need-returns-3
 returns-3 c =
     let a = c .before .before .before .before .before .before .before .args in
-    sym (number-high (a .low) (a .high) (a .part .now) _ (sym (c .before .before .before .before .before .read-field .ensures) ∙ c .before .before .before .field .given .1) (c .before .if1 .left) (c .if2 .taken))
+    sym (number-high (a .low) (a .high) (a .part .now) _ (sym (c .before .before .before .before .before .read-field .ensures)
+    ∙ c .before .before .before .field .given .1) (c .before .if1 .left) (c .if2 .taken))
 
 returns-4 : tie.Need-returns-4
 returns-4 c =
     let a = c .before .before .before .before .before .before .before .args in
-    sym (number-in (a .low) (a .high) (a .part .now) _ (sym (c .before .before .before .before .before .read-field .ensures) ∙ c .before .before .before .field .given .1) (c .before .if1 .left) (c .if2 .left))
+    sym (number-in (a .low) (a .high) (a .part .now) _ (sym (c .before .before .before .before .before .read-field .ensures)
+    ∙ c .before .before .before .field .given .1) (c .before .if1 .left) (c .if2 .left))
 
 pub read-number-spec : {M : Type 1} → statement M
 read-number-spec =

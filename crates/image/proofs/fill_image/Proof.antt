@@ -25,7 +25,8 @@ returns : tie.Need-returns
 returns c =
     let s = c .before .before .before .before .before .before .before .before .before .before .before .before .before .before .before .before .before .before .before .before .before .before .before in
     let b = s .args .b in
-    image-put b (s .args .out .now) _ _ _ _ (sizes s .0) (sizes s .1) (sizes s .2) (s .pre) (c .before .before .before .before .before .before .before .before .before .before .before .before .before .before .before .before .before .put-rows .ensures) (c .before .before .before .before .before .before .before .before .before .before .before .before .put-at .ensures) (c .before .before .before .before .before .before .before .put-at2 .ensures) (c .before .before .put-at3 .ensures)
+    image-put b (s .args .out .now) _ _ _ _ (sizes s .0) (sizes s .1) (sizes s .2) (s .pre)
+    (c .before .before .before .before .before .before .before .before .before .before .before .before .before .before .before .before .before .put-rows .ensures) (c .before .before .before .before .before .before .before .before .before .before .before .before .put-at .ensures) (c .before .before .before .before .before .before .before .put-at2 .ensures) (c .before .before .put-at3 .ensures)
 
 pub fill-image-spec : {M : Type 1} → statement M
 fill-image-spec =

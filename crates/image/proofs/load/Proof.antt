@@ -15,7 +15,14 @@ returns-2 : tie.Need-returns-2
 unfolding boardOf
 returns-2 c =
     let l = c .before .before .before .before .before .before .before .before .before .before .before .before .args .image .now in
-    rw (c .before .before .before .before .before .before .before .read-rows .ensures, c .before .before .before .before .before .read-line .ensures, c .before .before .before .read-line2 .ensures) (sym (load-good l (omega arith) (sym (c .before .before .before .before .before .before .before .before .before .rows-fit .ensures) ∙ c .before .before .before .before .before .before .before .before .if2 .taken)))
+    rw (
+      c .before .before .before .before .before .before .before .read-rows .ensures,
+      c .before .before .before .before .before .read-line .ensures,
+      c .before .before .before .read-line2 .ensures,
+    )
+    (sym (load-good l (omega arith)
+    (sym (c .before .before .before .before .before .before .before .before .before .rows-fit .ensures)
+    ∙ c .before .before .before .before .before .before .before .before .if2 .taken)))
 
 returns-3 : tie.Need-returns-3
 returns-3 c =

@@ -8,7 +8,8 @@ returns : tie.Need-returns
 returns c = let e = ne-eqb (length (c .before .before .args .out .now)) 1155 (c .if1 .taken) in (rw e, rw e)
 
 returns-2 : tie.Need-returns-2
-returns-2 c = let e = eq-eqb (length (c .before .before .before .before .before .before .args .out .now)) 1155 (c .before .before .before .before .if1 .left) in (rw e, rw e (c .before .before .fill-image .ensures))
+returns-2 c = let e = eq-eqb (length (c .before .before .before .before .before .before .args .out .now)) 1155
+    (c .before .before .before .before .if1 .left) in (rw e, rw e (c .before .before .fill-image .ensures))
 
 pub put-image-spec : {M : Type 1} → statement M
 put-image-spec = tie.close (tie.spec returns (λ c κs. search needs) (λ c. search needs) returns-2)

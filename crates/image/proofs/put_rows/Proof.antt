@@ -45,8 +45,14 @@ loop-again : tie.Need-loop-again Inv-loop μ-loop
 loop-again c =
     let s = c .before .before .before .before .before .before .before .before .before .before in
     let l = c .before .before .before .before .before .before .before .before .loop in
-    let l4 : length (s .args .t2) ≡ 32 = s .good .1 .0 .1 .0 .1 in
-    (omega arith, c .before .before .put-at .kept .0 ∙ l .inv .1, put-row (s .args .out .now) (l .out) (c .before .before .put-at .last .0) (c .before .before .before .before .before .row-bytes .result) (s .args .t2) _ (l .i) (omega arith) (l .inv .2) (c .before .before .before .before .before .row-bytes .ensures) (c .before .before .put-at .ensures))
+    let l4 : length (s .args .t2) ≡ 32 = s .good .1 .0 .1 .0 .1 in (
+      omega arith,
+      c .before .before .put-at .kept .0 ∙ l .inv .1,
+      put-row (s .args .out .now) (l .out)
+          (c .before .before .put-at .last .0) (c .before .before .before .before .before .row-bytes .result)
+          (s .args .t2) _ (l .i) (omega arith) (l .inv .2) (c .before .before .before .before .before .row-bytes .ensures)
+          (c .before .before .put-at .ensures),
+    )
 
 same-length : tie.Need-same-length Inv-loop μ-loop
 same-length c = c .before .loop .inv .1

@@ -6,7 +6,13 @@ use Rattle.image.proofs.read_row.Tie as tie
 
 returns : tie.Need-returns
 unfolding rowOf
-returns c = rw (c .before .before .before .before .before .before .before .before .before .read-u64 .ensures, c .before .before .before .before .before .before .before .read-u642 .ensures, c .before .before .before .before .before .read-u643 .ensures, c .before .before .before .read-u644 .ensures, c .standing-of .ensures)
+returns c = rw (
+  c .before .before .before .before .before .before .before .before .before .read-u64 .ensures,
+  c .before .before .before .before .before .before .before .read-u642 .ensures,
+  c .before .before .before .before .before .read-u643 .ensures,
+  c .before .before .before .read-u644 .ensures,
+  c .standing-of .ensures,
+)
 
 pub read-row-spec : {M : Type 1} → statement M
 read-row-spec =

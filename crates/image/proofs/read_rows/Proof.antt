@@ -50,7 +50,8 @@ loop-again : tie.Need-loop-again Inv-loop μ-loop
 loop-again c =
     let s = c .before .before .before .before .before .args .s .now in
     let l = c .before .before .before .loop in
-    let e : take 34 (drop (34 * l .i) s) ≡ take (34 * l .i + 34 - 34 * l .i) (drop (34 * l .i) s) = ap (λ (k : ℕ). take k (drop (34 * l .i) s)) (sym (add-sub-cancel-left (34 * l .i) 34)) in
+    let e : take 34 (drop (34 * l .i) s) ≡ take (34 * l .i + 34 - 34 * l .i) (drop (34 * l .i) s) =
+    ap (λ (k : ℕ). take k (drop (34 * l .i) s)) (sym (add-sub-cancel-left (34 * l .i) 34)) in
     (omega arith, rw (c .read-row .ensures, ← e) (rows-step s (l .ps) _ (l .i) (omega arith) (l .inv .1)))
 
 returns : tie.Need-returns Inv-loop μ-loop

@@ -41,7 +41,8 @@ returns c =
     let s = c .before .before .before .before .before .before .args .s .now in
     let i = c .before .before .before .before .loop .i in
     let r : c .before .row-fits .result ≡ false = not-true _ (c .if1 .taken) in
-    sym (fits-fail i 32 s (c .before .before .before .before .loop .inv .1) (ap rowIs (sym (part-row s (34 * i))) ∙ sym (c .before .row-fits .ensures) ∙ r) (omega arith))
+    sym (fits-fail i 32 s (c .before .before .before .before .loop .inv .1) (ap rowIs (sym (part-row s (34 * i)))
+    ∙ sym (c .before .row-fits .ensures) ∙ r) (omega arith))
 
 add-i : tie.Need-add-i Inv-loop μ-loop
 add-i c = omega arith
@@ -53,8 +54,11 @@ loop-again : tie.Need-loop-again Inv-loop μ-loop
 loop-again c =
     let s = c .before .before .before .before .before .before .args .s .now in
     let i = c .before .before .before .before .loop .i in
-    let r : c .before .row-fits .result ≡ true = not-false _ (c .if1 .left) in
-    (omega arith, rw (add-one i) (fits-more i s (c .before .before .before .before .loop .inv .1) (ap rowIs (sym (part-row s (34 * i))) ∙ sym (c .before .row-fits .ensures) ∙ r)))
+    let r : c .before .row-fits .result ≡ true = not-false _ (c .if1 .left) in (
+      omega arith,
+      rw (add-one i) (fits-more i s (c .before .before .before .before .loop .inv .1)
+          (ap rowIs (sym (part-row s (34 * i))) ∙ sym (c .before .row-fits .ensures) ∙ r)),
+    )
 
 returns-2 : tie.Need-returns-2 Inv-loop μ-loop
 returns-2 c =

@@ -8,7 +8,8 @@ use Rattle.journal.proofs.put_line.Tie as tie
 returns : tie.Need-returns
 returns c =
     let a = c .before .before .before .before .before .before .before .args in
-    put-is (a .l) (c .before .before .before .before .before .line-bytes .result) (now (a .part)) _ (c .before .before .before .before .before .line-bytes .ensures) (c .before .before .copy .ensures .1)
+    put-is (a .l) (c .before .before .before .before .before .line-bytes .result) (now (a .part)) _
+    (c .before .before .before .before .before .line-bytes .ensures) (c .before .before .copy .ensures .1)
 
 pub put-line-spec : {M : Type 1} → statement M
 put-line-spec =

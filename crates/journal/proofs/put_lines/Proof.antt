@@ -52,8 +52,15 @@ loop-again c =
     let s = c .before .before .before .before .before .before .before .before in
     let l = c .before .before .before .before .before .before .loop in
     let l32 : length (s .args .t3) ≡ 32 = s .good .1 .1 .0 .1 .0 .1 in
-    let e : _ = step lineBytes 16 line-length (s .args .journal .now) (l .journal) (c .before .before .put-line .last .0) (s .args .t3) _ (s .args .place) (l .i) (l .at) (omega arith) (omega arith) (l .inv .1) (l .inv .3) (c .before .before .put-line .ensures) in
-    (omega arith, omega arith, same-len-mid (l .at) (length (l .journal) - l .at) (l .journal) (c .before .before .put-line .last .0) (c .before .before .put-line .kept .0) ∙ l .inv .2, e)
+    let e : _ = step lineBytes 16 line-length (s .args .journal .now) (l .journal) (c .before .before .put-line .last .0)
+    (s .args .t3) _ (s .args .place) (l .i) (l .at) (omega arith) (omega arith) (l .inv .1) (l .inv .3)
+    (c .before .before .put-line .ensures) in (
+      omega arith,
+      omega arith,
+      same-len-mid (l .at) (length (l .journal) - l .at) (l .journal)
+          (c .before .before .put-line .last .0) (c .before .before .put-line .kept .0) ∙ l .inv .2,
+      e,
+    )
 
 same-length : tie.Need-same-length Inv-loop μ-loop
 same-length c = c .before .loop .inv .2

@@ -30,7 +30,8 @@ returns c = let l = c .before .before .loop in let a = c .before .before .before
 loop-again : tie.Need-loop-again Inv-loop μ-loop
 loop-again c = let l = c .before .before .loop in let a = c .before .before .before .args .t1 in
     let m : length a ≡ 32 = search needs in
-    let e : length (names (drop (l .k) a)) ≡ suc (length (names (drop (suc (l .k)) a))) = ap length (names-on a (l .k) (omega arith) (c .if1 .left)) in
+    let e : length (names (drop (l .k) a)) ≡ suc (length (names (drop (suc (l .k)) a))) =
+    ap length (names-on a (l .k) (omega arith) (c .if1 .left)) in
     (search needs, rw (add-one (l .k)) (omega (arith, e, l .inv .1)))
 
 returns-2 : tie.Need-returns-2 Inv-loop μ-loop

@@ -29,12 +29,16 @@ returns c = let l = c .before .before .loop in let s = c .before .before .before
 returns-2 : tie.Need-returns-2 Inv-loop μ-loop
 returns-2 c = let l = c .before .before .before .before .loop in let s = c .before .before .before .before .before .args in
     let m : length (s .t1) ≡ 32 = search needs in
-    sym (rw (sym (rw (add-one (l .k)) at (c .before .is-listed .ensures)) ∙ c .if2 .taken) at (l .inv .1 ∙ distinct-on (s .t1) (l .k) (omega arith) (c .before .before .if1 .left)))
+    sym (rw (sym (rw (add-one (l .k)) at (c .before .is-listed .ensures)) ∙ c .if2 .taken) at (l .inv .1
+    ∙ distinct-on (s .t1) (l .k) (omega arith) (c .before .before .if1 .left)))
 
 loop-again : tie.Need-loop-again Inv-loop μ-loop
 loop-again c = let l = c .before .before .before .before .loop in let s = c .before .before .before .before .before .args in
-    let m : length (s .t1) ≡ 32 = search needs in
-    (search needs, rw (add-one (l .k)) (rw (sym (rw (add-one (l .k)) at (c .before .is-listed .ensures)) ∙ c .if2 .left) at (l .inv .1 ∙ distinct-on (s .t1) (l .k) (omega arith) (c .before .before .if1 .left))))
+    let m : length (s .t1) ≡ 32 = search needs in (
+      search needs,
+      rw (add-one (l .k)) (rw (sym (rw (add-one (l .k)) at (c .before .is-listed .ensures))
+          ∙ c .if2 .left) at (l .inv .1 ∙ distinct-on (s .t1) (l .k) (omega arith) (c .before .before .if1 .left))),
+    )
 
 returns-3 : tie.Need-returns-3 Inv-loop μ-loop
 returns-3 c = let l = c .before .loop in let s = c .before .before .args in

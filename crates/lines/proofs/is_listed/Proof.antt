@@ -29,12 +29,16 @@ returns c = let l = c .before .before .loop in let s = c .before .before .before
 returns-2 : tie.Need-returns-2 Inv-loop μ-loop
 returns-2 c = let l = c .before .before .before .loop in let s = c .before .before .before .before .args in
     let m : length (s .t2) ≡ 32 = search needs in
-    sym (l .inv .1 ∙ listed-on (s .t2) (l .k) (s .p) (omega arith) (c .before .if1 .left) ∙ rw (eq-eqb (s .p) (getD (s .t2) (l .k) 0) (c .if2 .taken)) refl)
+    sym (l .inv .1 ∙ listed-on (s .t2) (l .k) (s .p) (omega arith) (c .before .if1 .left)
+    ∙ rw (eq-eqb (s .p) (getD (s .t2) (l .k) 0) (c .if2 .taken)) refl)
 
 loop-again : tie.Need-loop-again Inv-loop μ-loop
 loop-again c = let l = c .before .before .before .loop in let s = c .before .before .before .before .args in
-    let m : length (s .t2) ≡ 32 = search needs in
-    (search needs, rw (add-one (l .k)) (l .inv .1 ∙ listed-on (s .t2) (l .k) (s .p) (omega arith) (c .before .if1 .left) ∙ rw (ne-eqb (s .p) (getD (s .t2) (l .k) 0) (c .if2 .left)) refl))
+    let m : length (s .t2) ≡ 32 = search needs in (
+      search needs,
+      rw (add-one (l .k)) (l .inv .1 ∙ listed-on (s .t2) (l .k) (s .p) (omega arith) (c .before .if1 .left)
+          ∙ rw (ne-eqb (s .p) (getD (s .t2) (l .k) 0) (c .if2 .left)) refl),
+    )
 
 returns-3 : tie.Need-returns-3 Inv-loop μ-loop
 returns-3 c = let l = c .before .loop in let s = c .before .before .args in

@@ -30,8 +30,12 @@ returns c = let l = c .before .before .before .loop in let s = c .before .before
 
 loop-again : tie.Need-loop-again Inv-loop μ-loop
 loop-again c = let l = c .before .before .before .loop in let s = c .before .before .before .before .args in
-    let m : length (s .t1) ≡ 32 = search needs in
-    (search needs, omega (arith, c .keep-other .ensures .1, l .inv .1), rw (add-one (l .k), c .keep-other .ensures .0) (l .inv .2 ∙ keep-on (s .p) (l .kept) (s .t1) (l .k) (omega arith) (c .before .if1 .left)))
+    let m : length (s .t1) ≡ 32 = search needs in (
+      search needs,
+      omega (arith, c .keep-other .ensures .1, l .inv .1),
+      rw (add-one (l .k), c .keep-other .ensures .0)
+          (l .inv .2 ∙ keep-on (s .p) (l .kept) (s .t1) (l .k) (omega arith) (c .before .if1 .left)),
+    )
 
 returns-2 : tie.Need-returns-2 Inv-loop μ-loop
 returns-2 c = let l = c .before .before .loop in let s = c .before .before .before .args in

@@ -34,7 +34,9 @@ shared-slice-read-if2 c =
 
 returns-2 : tie.Need-returns-2 Inv-loop μ-loop
 returns-2 c =
-    sym (c .before .before .before .before .before .loop .inv .1 ∙ Laws.label-high _ (c .before .before .before .before .before .loop .i) (omega arith) (c .before .before .if1 .left) (c .if2 .taken))
+    sym (c .before .before .before .before .before .loop .inv .1
+    ∙ Laws.label-high _ (c .before .before .before .before .before .loop .i) (omega arith)
+    (c .before .before .if1 .left) (c .if2 .taken))
 
 add-i : tie.Need-add-i Inv-loop μ-loop
 add-i c =
@@ -45,8 +47,12 @@ loop-less c =
     omega arith
 
 loop-again : tie.Need-loop-again Inv-loop μ-loop
-loop-again c =
-    (omega arith, c .before .before .before .before .before .loop .inv .1 ∙ Laws.label-more _ (c .before .before .before .before .before .loop .i) (omega arith) (c .before .before .if1 .left) (c .if2 .left))
+loop-again c = (
+  omega arith,
+  c .before .before .before .before .before .loop .inv .1
+      ∙ Laws.label-more _ (c .before .before .before .before .before .loop .i) (omega arith)
+      (c .before .before .if1 .left) (c .if2 .left),
+)
 
 returns-3 : tie.Need-returns-3 Inv-loop μ-loop
 returns-3 c =

@@ -44,7 +44,10 @@ returns-2 : tie.Need-returns-2 Inv-loop μ-loop
 unfolding begins
 returns-2 c =
     let m = six (c .before .before .before .before) in
-    rw (← c .before .before .before .before .verb-bytes .ensures) (sym (c .before .before .before .loop .inv .1 ∙ Laws.verb-differs (c .before .before .before .before .verb-bytes .result) (c .before .before .before .before .before .before .before .args .line .now) (c .before .before .before .loop .i) m (c .before .before .before .before .before .if1 .left) (omega arith) (c .if2 .taken)))
+    rw (← c .before .before .before .before .verb-bytes .ensures) (sym (c .before .before .before .loop .inv .1
+    ∙ Laws.verb-differs (c .before .before .before .before .verb-bytes .result)
+    (c .before .before .before .before .before .before .before .args .line .now) (c .before .before .before .loop .i) m
+    (c .before .before .before .before .before .if1 .left) (omega arith) (c .if2 .taken)))
 
 add-i : tie.Need-add-i Inv-loop μ-loop
 add-i c =
@@ -56,14 +59,21 @@ loop-less c =
 
 loop-again : tie.Need-loop-again Inv-loop μ-loop
 loop-again c =
-    let m = six (c .before .before .before .before) in
-    (omega arith, c .before .before .before .loop .inv .1 ∙ Laws.verb-more (c .before .before .before .before .verb-bytes .result) (c .before .before .before .before .before .before .before .args .line .now) (c .before .before .before .loop .i) m (c .before .before .before .before .before .if1 .left) (omega arith) (c .if2 .left))
+    let m = six (c .before .before .before .before) in (
+      omega arith,
+      c .before .before .before .loop .inv .1
+          ∙ Laws.verb-more (c .before .before .before .before .verb-bytes .result)
+          (c .before .before .before .before .before .before .before .args .line .now) (c .before .before .before .loop .i) m
+          (c .before .before .before .before .before .if1 .left) (omega arith) (c .if2 .left),
+    )
 
 returns-3 : tie.Need-returns-3 Inv-loop μ-loop
 unfolding begins
 returns-3 c =
     let m = six (c .before .before) in
-    rw (← c .before .before .verb-bytes .ensures) (sym (c .before .loop .inv .1 ∙ Laws.verb-ends (c .before .before .verb-bytes .result) (c .before .before .before .before .before .args .line .now) (c .before .loop .i) m (omega arith)))
+    rw (← c .before .before .verb-bytes .ensures) (sym (c .before .loop .inv .1
+    ∙ Laws.verb-ends (c .before .before .verb-bytes .result) (c .before .before .before .before .before .args .line .now)
+    (c .before .loop .i) m (omega arith)))
 
 pub is-verb-spec : {M : Type 1} → statement M
 is-verb-spec =

@@ -20,12 +20,22 @@ cast-f c =
 returns-2 : tie.Need-returns-2
 returns-2 c =
     let a = c .before .before .before .before .before .before .before .before .before .args in
-    rw (← c .before .before .before .before .before .before .read-number .ensures, c .before .before .before .before .field .given .1, c .before .before .with .ensures, lt-ltb _ _ (c .if1 .taken))
+    rw (
+      ← c .before .before .before .before .before .before .read-number .ensures,
+      c .before .before .before .before .field .given .1,
+      c .before .before .with .ensures,
+      lt-ltb _ _ (c .if1 .taken),
+    )
 
 returns-3 : tie.Need-returns-3
 returns-3 c =
     let a = c .before .before .before .before .before .before .before .before .before .args in
-    rw (← c .before .before .before .before .before .before .read-number .ensures, c .before .before .before .before .field .given .1, c .before .before .with .ensures, le-ltb _ _ (c .if1 .left))
+    rw (
+      ← c .before .before .before .before .before .before .read-number .ensures,
+      c .before .before .before .before .field .given .1,
+      c .before .before .with .ensures,
+      le-ltb _ _ (c .if1 .left),
+    )
 
 pub join-spec : {M : Type 1} → statement M
 join-spec =

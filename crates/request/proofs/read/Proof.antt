@@ -13,27 +13,70 @@ returns c =
 returns-2 : tie.Need-returns-2
 unfolding requestOf
 returns-2 c =
-    rw (← c .before .before .before .before .is-verb .ensures, c .before .before .before .if1 .left, ← c .before .before .is-verb2 .ensures, c .before .if2 .taken) (c .read-file .ensures)
+    rw (
+      ← c .before .before .before .before .is-verb .ensures,
+      c .before .before .before .if1 .left,
+      ← c .before .before .is-verb2 .ensures,
+      c .before .if2 .taken,
+    ) (c .read-file .ensures)
 
 returns-3 : tie.Need-returns-3
 unfolding requestOf
 returns-3 c =
-    rw (← c .before .before .before .before .before .before .is-verb .ensures, c .before .before .before .before .before .if1 .left, ← c .before .before .before .before .is-verb2 .ensures, c .before .before .before .if2 .left, ← c .before .before .is-verb3 .ensures, c .before .if3 .taken) (c .read-file2 .ensures)
+    rw (
+      ← c .before .before .before .before .before .before .is-verb .ensures,
+      c .before .before .before .before .before .if1 .left,
+      ← c .before .before .before .before .is-verb2 .ensures,
+      c .before .before .before .if2 .left,
+      ← c .before .before .is-verb3 .ensures,
+      c .before .if3 .taken,
+    ) (c .read-file2 .ensures)
 
 returns-4 : tie.Need-returns-4
 unfolding requestOf
 returns-4 c =
-    rw (← c .before .before .before .before .before .before .before .before .is-verb .ensures, c .before .before .before .before .before .before .before .if1 .left, ← c .before .before .before .before .before .before .is-verb2 .ensures, c .before .before .before .before .before .if2 .left, ← c .before .before .before .before .is-verb3 .ensures, c .before .before .before .if3 .left, ← c .before .before .is-verb4 .ensures, c .before .if4 .taken) (c .read-file3 .ensures)
+    rw (
+      ← c .before .before .before .before .before .before .before .before .is-verb .ensures,
+      c .before .before .before .before .before .before .before .if1 .left,
+      ← c .before .before .before .before .before .before .is-verb2 .ensures,
+      c .before .before .before .before .before .if2 .left,
+      ← c .before .before .before .before .is-verb3 .ensures,
+      c .before .before .before .if3 .left,
+      ← c .before .before .is-verb4 .ensures,
+      c .before .if4 .taken,
+    ) (c .read-file3 .ensures)
 
 returns-5 : tie.Need-returns-5
 unfolding requestOf
 returns-5 c =
-    rw (← c .before .before .before .before .before .before .before .before .before .before .is-verb .ensures, c .before .before .before .before .before .before .before .before .before .if1 .left, ← c .before .before .before .before .before .before .before .before .is-verb2 .ensures, c .before .before .before .before .before .before .before .if2 .left, ← c .before .before .before .before .before .before .is-verb3 .ensures, c .before .before .before .before .before .if3 .left, ← c .before .before .before .before .is-verb4 .ensures, c .before .before .before .if4 .left, ← c .before .before .is-verb5 .ensures, c .before .if5 .taken) (c .read-leave .ensures)
+    rw (
+      ← c .before .before .before .before .before .before .before .before .before .before .is-verb .ensures,
+      c .before .before .before .before .before .before .before .before .before .if1 .left,
+      ← c .before .before .before .before .before .before .before .before .is-verb2 .ensures,
+      c .before .before .before .before .before .before .before .if2 .left,
+      ← c .before .before .before .before .before .before .is-verb3 .ensures,
+      c .before .before .before .before .before .if3 .left,
+      ← c .before .before .before .before .is-verb4 .ensures,
+      c .before .before .before .if4 .left,
+      ← c .before .before .is-verb5 .ensures,
+      c .before .if5 .taken,
+    ) (c .read-leave .ensures)
 
 returns-6 : tie.Need-returns-6
 unfolding requestOf
 returns-6 c =
-    rw (← c .before .before .before .before .before .before .before .before .before .before .is-verb .ensures, c .before .before .before .before .before .before .before .before .before .if1 .left, ← c .before .before .before .before .before .before .before .before .is-verb2 .ensures, c .before .before .before .before .before .before .before .if2 .left, ← c .before .before .before .before .before .before .is-verb3 .ensures, c .before .before .before .before .before .if3 .left, ← c .before .before .before .before .is-verb4 .ensures, c .before .before .before .if4 .left, ← c .before .before .is-verb5 .ensures, c .before .if5 .left) (c .refusing .ensures)
+    rw (
+      ← c .before .before .before .before .before .before .before .before .before .before .is-verb .ensures,
+      c .before .before .before .before .before .before .before .before .before .if1 .left,
+      ← c .before .before .before .before .before .before .before .before .is-verb2 .ensures,
+      c .before .before .before .before .before .before .before .if2 .left,
+      ← c .before .before .before .before .before .before .is-verb3 .ensures,
+      c .before .before .before .before .before .if3 .left,
+      ← c .before .before .before .before .is-verb4 .ensures,
+      c .before .before .before .if4 .left,
+      ← c .before .before .is-verb5 .ensures,
+      c .before .if5 .left,
+    ) (c .refusing .ensures)
 
 pub read-spec : {M : Type 1} → statement M
 read-spec =

@@ -58,8 +58,12 @@ loop-again : tie.Need-loop-again Inv-loop μ-loop
 loop-again c =
     let k = c .before .before .before .loop in
     let l = c .before .before .before .before .before .args .line .now in
-    let e = c .join .ensures ∙ ap (λ (x : List ℕ). joined (k .g) (numberOf 1 64 x)) (Laws.part-three l (k .a)) in
-    (omega arith, omega arith, k .inv .2 ∙ Laws.group-more (c .before .before .before .before .before .args .count) (k .i) l (k .g) (k .a) (omega arith) ∙ ap (groupFrom _ _) (sym e))
+    let e = c .join .ensures ∙ ap (λ (x : List ℕ). joined (k .g) (numberOf 1 64 x)) (Laws.part-three l (k .a)) in (
+      omega arith,
+      omega arith,
+      k .inv .2 ∙ Laws.group-more (c .before .before .before .before .before .args .count)
+          (k .i) l (k .g) (k .a) (omega arith) ∙ ap (groupFrom _ _) (sym e),
+    )
 
 returns : tie.Need-returns Inv-loop μ-loop
 returns c =

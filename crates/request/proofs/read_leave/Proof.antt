@@ -13,7 +13,8 @@ returns c =
 returns-2 : tie.Need-returns-2
 returns-2 c =
     let l = c .before .before .before .before .before .before .before .args .line .now in
-    c .refusing2 .ensures ∙ sym (Laws.leave-program l (c .before .before .before .before .before .if1 .left) (sym (c .before .before .before .read-number .ensures) ∙ c .before .enum-told .given .1))
+    c .refusing2 .ensures ∙ sym (Laws.leave-program l (c .before .before .before .before .before .if1 .left)
+    (sym (c .before .before .before .read-number .ensures) ∙ c .before .enum-told .given .1))
 
 cast-t13 : tie.Need-cast-t13
 cast-t13 c =
@@ -24,7 +25,8 @@ cast-t13 c =
 returns-3 : tie.Need-returns-3
 returns-3 c =
     let l = c .before .before .before .before .before .before .before .args .line .now in
-    sym (Laws.leave-good l _ (c .before .before .before .before .before .if1 .left) (sym (c .before .before .before .read-number .ensures) ∙ c .before .field .given .1))
+    sym (Laws.leave-good l _ (c .before .before .before .before .before .if1 .left)
+    (sym (c .before .before .before .read-number .ensures) ∙ c .before .field .given .1))
 
 pub read-leave-spec : {M : Type 1} → statement M
 read-leave-spec =

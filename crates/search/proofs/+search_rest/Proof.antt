@@ -60,7 +60,8 @@ search-rest-returns-2 : (t : ℕ) → search-rest-lts.Need-returns-2 (
   search-rest.Post,
 ) (search-rest-at t) search-rest.Post
 search-rest-returns-2 t c = let a = c .before .before .before .args in
-    order-stuck (a .rows) (a .left) (a .at) (a .n) (a .k) (c .before .lowest-free .result) (c .before .before .if1 .left) (c .before .lowest-free .ensures .0) (c .if2 .taken)
+    order-stuck (a .rows) (a .left) (a .at) (a .n) (a .k) (c .before .lowest-free .result) (c .before .before .if1 .left)
+    (c .before .lowest-free .ensures .0) (c .if2 .taken)
 
 -- src/lib.rt:253:9
 search-rest-without-requires : (t : ℕ) → search-rest-lts.Need-without-requires (
@@ -128,7 +129,10 @@ search-rest-returns-3 : (t : ℕ) → search-rest-lts.Need-returns-3 (
 ) (search-rest-at t) search-rest.Post
 search-rest-returns-3 t c = let s = c .before .before .before .before .before in let a = s .args in
     let l : length (a .at) ≡ 32 = search needs in
-    c .search-rest .ensures ∙ rw (c .before .without .ensures) (order-more (a .rows) (a .left) (a .at) (a .n) (a .k) (c .before .before .before .lowest-free .result) (c .before .before .before .before .if1 .left) (c .before .before .before .lowest-free .ensures .0) (c .before .before .if2 .left) (omega (arith, c .before .before .before .before .if1 .left)))
+    c .search-rest .ensures ∙ rw (c .before .without .ensures) (order-more (a .rows) (a .left) (a .at) (a .n) (a .k)
+    (c .before .before .before .lowest-free .result) (c .before .before .before .before .if1 .left)
+    (c .before .before .before .lowest-free .ensures .0) (c .before .before .if2 .left)
+    (omega (arith, c .before .before .before .before .if1 .left)))
 
 pub +search-rest-spec : {M : Type 1} → statement M
 +search-rest-spec = close μ-search-rest λ t. search-rest-lts.spec (

@@ -28,8 +28,20 @@ loop-again : tie.Need-loop-again Inv-loop μ-loop
 loop-again c = let l = c .before .before .before .before .loop in
     let t = admits (c .before .before .before .before .before .args .t1) in
     ⊎-elim
-    (λ w. (search needs, search needs, search needs, rw (add-one (l .p)) (omega (arith, w .1, l .inv .3, keep-more t (l .p) (omega arith) (sym (c .before .is-admitted .ensures) ∙ w .0 .taken)))))
-    (λ w. (search needs, search needs, search needs, rw (add-one (l .p)) (omega (arith, w .1, l .inv .3, keep-less t (l .p) (omega arith) (sym (c .before .is-admitted .ensures) ∙ w .0 .left)))))
+    (λ w. (
+      search needs,
+      search needs,
+      search needs,
+      rw (add-one (l .p))
+          (omega (arith, w .1, l .inv .3, keep-more t (l .p) (omega arith) (sym (c .before .is-admitted .ensures) ∙ w .0 .taken))),
+    ))
+    (λ w. (
+      search needs,
+      search needs,
+      search needs,
+      rw (add-one (l .p))
+          (omega (arith, w .1, l .inv .3, keep-less t (l .p) (omega arith) (sym (c .before .is-admitted .ensures) ∙ w .0 .left))),
+    ))
     (c .if1 .came)
 
 returns : tie.Need-returns Inv-loop μ-loop

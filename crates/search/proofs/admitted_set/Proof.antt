@@ -20,8 +20,13 @@ unfolding packed
 loop-holds c = (search needs, search needs, refl)
 
 loop-again : tie.Need-loop-again Inv-loop μ-loop
-loop-again c = let l = c .before .before .before .before .loop in
-    (search needs, search needs, packed-more (admits (c .before .before .before .before .before .args .t1)) (l .p) (l .set) (c .join .result) (l .inv .0) (l .inv .2) (c .join .ensures ∙ ap (joined (l .set) (l .p)) (c .before .is-admitted .ensures)))
+loop-again c = let l = c .before .before .before .before .loop in (
+  search needs,
+  search needs,
+  packed-more (admits (c .before .before .before .before .before .args .t1)) (l .p)
+      (l .set) (c .join .result) (l .inv .0) (l .inv .2) (c .join .ensures ∙ ap (joined (l .set) (l .p))
+      (c .before .is-admitted .ensures)),
+)
 
 returns : tie.Need-returns Inv-loop μ-loop
 unfolding admittedSet

@@ -18,8 +18,13 @@ loop-holds : tie.Need-loop-holds Inv-loop μ-loop
 loop-holds c = (search needs, search needs, search needs, λ i k h. absurd (omega arith))
 
 loop-again : tie.Need-loop-again Inv-loop μ-loop
-loop-again c = let l = c .before .before .loop in
-    (search needs, search needs, length-set (l .rows) (l .p - 1) (c .row .result) ∙ l .inv .2, rows-more (c .before .before .before .args .b) (l .p) (l .rows) (c .row .result) (l .inv .0) (omega arith) (c .row .ensures) (l .inv .3))
+loop-again c = let l = c .before .before .loop in (
+  search needs,
+  search needs,
+  length-set (l .rows) (l .p - 1) (c .row .result) ∙ l .inv .2,
+  rows-more (c .before .before .before .args .b) (l .p) (l .rows) (c .row .result) (l .inv .0) (omega arith)
+      (c .row .ensures) (l .inv .3),
+)
 
 returns : tie.Need-returns Inv-loop μ-loop
 returns c = let l = c .before .loop in λ p k h. l .inv .3 p k (omega arith)

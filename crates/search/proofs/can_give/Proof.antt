@@ -11,7 +11,10 @@ returns c = rw (sym (c .before .in-use .ensures) ∙ c .if1 .taken)
 
 returns-2 : tie.Need-returns-2
 unfolding canGive safe
-returns-2 c = rw (sym (c .before .before .before .in-use .ensures) ∙ c .before .before .if1 .left, ← c .before .with-given .ensures) (c .has-order .ensures)
+returns-2 c = rw (
+  sym (c .before .before .before .in-use .ensures) ∙ c .before .before .if1 .left,
+  ← c .before .with-given .ensures,
+) (c .has-order .ensures)
 
 pub can-give-spec : {M : Type 1} → statement M
 can-give-spec =

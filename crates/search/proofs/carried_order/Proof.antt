@@ -10,7 +10,9 @@ use Rattle.search.proofs.carried_order.Tie as tie
 
 returns : tie.Need-returns
 returns c = let b = c .before .before .before .before .args .b in
-    c .search-rest .ensures ∙ rw (c .before .admitted-count .ensures .0, c .before .before .admitted-set .ensures) (ap (placed (replicate 32 0) 0) (carried-is b (c .before .before .before .all-rows .result) (c .before .before .before .all-rows .ensures)) ∙ placed-start (carried b))
+    c .search-rest .ensures ∙ rw (c .before .admitted-count .ensures .0, c .before .before .admitted-set .ensures)
+    (ap (placed (replicate 32 0) 0) (carried-is b (c .before .before .before .all-rows .result)
+    (c .before .before .before .all-rows .ensures)) ∙ placed-start (carried b))
 
 pub carried-order-spec : {M : Type 1} → statement M
 carried-order-spec =

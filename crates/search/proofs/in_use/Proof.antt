@@ -21,15 +21,28 @@ abbrev μ-loop : tie.MeasureT-loop
 
 loop-holds : tie.Need-loop-holds Inv-loop μ-loop
 unfolding inUse everyone
-loop-holds c = (search needs, search needs, ap (λ (me : Program). any (clashes (c .before .before .args .t1) (c .before .before .args .p) me) (rising 32 1)) (sym (c .opening .ensures)))
+loop-holds c = (
+  search needs,
+  search needs,
+  ap (λ (me : Program). any (clashes (c .before .before .args .t1)
+      (c .before .before .args .p) me) (rising 32 1)) (sym (c .opening .ensures)),
+)
 
 returns : tie.Need-returns Inv-loop μ-loop
-returns c = let l = c .before .before .before .before .loop in let a = c .before .before .before .before .before .before .before .args in let me = c .before .before .before .before .before .opening .result in
+returns c = let l = c .before .before .before .before .loop in let a =
+    c .before .before .before .before .before .before .before .args in let me =
+    c .before .before .before .before .before .opening .result in
     sym (rw (sym (c .before .conflicts-other .ensures) ∙ c .if1 .taken) at (l .inv .2 ∙ any-step (clashes (a .t1) (a .p) me) (l .i) (omega arith)))
 
 loop-again : tie.Need-loop-again Inv-loop μ-loop
-loop-again c = let l = c .before .before .before .before .loop in let a = c .before .before .before .before .before .before .before .args in let me = c .before .before .before .before .before .opening .result in
-    (search needs, search needs, rw (add-one (l .i)) (rw (sym (c .before .conflicts-other .ensures) ∙ c .if1 .left) at (l .inv .2 ∙ any-step (clashes (a .t1) (a .p) me) (l .i) (omega arith))))
+loop-again c = let l = c .before .before .before .before .loop in let a =
+    c .before .before .before .before .before .before .before .args in let me =
+    c .before .before .before .before .before .opening .result in (
+      search needs,
+      search needs,
+      rw (add-one (l .i)) (rw (sym (c .before .conflicts-other .ensures) ∙ c .if1 .left) at
+          (l .inv .2 ∙ any-step (clashes (a .t1) (a .p) me) (l .i) (omega arith))),
+    )
 
 returns-2 : tie.Need-returns-2 Inv-loop μ-loop
 returns-2 c = let l = c .before .loop in let a = c .before .before .before .before .args in let me = c .before .before .opening .result in

@@ -10,7 +10,8 @@ returns : tie.Need-returns
 returns c = rw (sym (c .before .has .ensures) ∙ not-true (c .before .has .result) (c .if1 .taken))
 
 returns-2 : tie.Need-returns-2
-returns-2 c = rw (sym (c .before .before .before .has .ensures) ∙ not-false (c .before .before .before .has .result) (c .before .before .if1 .left)) (ap not (c .meets .ensures))
+returns-2 c = rw (sym (c .before .before .before .has .ensures) ∙ not-false (c .before .before .before .has .result)
+    (c .before .before .if1 .left)) (ap not (c .meets .ensures))
 
 pub is-free-spec : {M : Type 1} → statement M
 is-free-spec =

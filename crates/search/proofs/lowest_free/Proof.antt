@@ -23,12 +23,19 @@ unfolding lowest everyone
 loop-holds c = (search needs, search needs, refl)
 
 returns : tie.Need-returns Inv-loop μ-loop
-returns c = let l = c .before .before .before .loop in let a = c .before .before .before .before .args in
-    (sym (rw (sym (c .before .is-free .ensures) ∙ c .if1 .taken) at (l .inv .2 ∙ ap (λ (x : Option ℕ). Option·getD x 0) (first-step (free (a .rows) (a .left)) (l .p) (omega arith)))), search needs)
+returns c = let l = c .before .before .before .loop in let a = c .before .before .before .before .args in (
+  sym (rw (sym (c .before .is-free .ensures) ∙ c .if1 .taken) at (l .inv .2 ∙ ap (λ (x : Option ℕ). Option·getD x 0)
+      (first-step (free (a .rows) (a .left)) (l .p) (omega arith)))),
+  search needs,
+)
 
 loop-again : tie.Need-loop-again Inv-loop μ-loop
-loop-again c = let l = c .before .before .before .loop in let a = c .before .before .before .before .args in
-    (search needs, search needs, rw (add-one (l .p)) (rw (sym (c .before .is-free .ensures) ∙ c .if1 .left) at (l .inv .2 ∙ ap (λ (x : Option ℕ). Option·getD x 0) (first-step (free (a .rows) (a .left)) (l .p) (omega arith)))))
+loop-again c = let l = c .before .before .before .loop in let a = c .before .before .before .before .args in (
+  search needs,
+  search needs,
+  rw (add-one (l .p)) (rw (sym (c .before .is-free .ensures) ∙ c .if1 .left) at
+      (l .inv .2 ∙ ap (λ (x : Option ℕ). Option·getD x 0) (first-step (free (a .rows) (a .left)) (l .p) (omega arith)))),
+)
 
 returns-2 : tie.Need-returns-2 Inv-loop μ-loop
 returns-2 c = let l = c .before .loop in let a = c .before .before .args in

@@ -19,12 +19,18 @@ unfolding packed
 loop-holds c = (search needs, search needs, refl)
 
 loop-again : tie.Need-loop-again Inv-loop μ-loop
-loop-again c = let l = c .before .before .before .before .loop in
-    (search needs, search needs, packed-more (stops (c .before .before .before .before .before .before .args .t1) (c .before .before .before .before .before .before .args .p)) (l .i) (l .held) (c .join .result) (l .inv .0) (l .inv .2) (c .join .ensures ∙ ap (joined (l .held) (l .i)) (c .before .stops-other .ensures)))
+loop-again c = let l = c .before .before .before .before .loop in (
+  search needs,
+  search needs,
+  packed-more (stops (c .before .before .before .before .before .before .args .t1)
+      (c .before .before .before .before .before .before .args .p)) (l .i) (l .held) (c .join .result) (l .inv .0)
+      (l .inv .2) (c .join .ensures ∙ ap (joined (l .held) (l .i)) (c .before .stops-other .ensures)),
+)
 
 returns : tie.Need-returns Inv-loop μ-loop
 unfolding holders
-returns c = packed-all (stops (c .before .before .before .args .t1) (c .before .before .before .args .p)) (c .before .loop .i) (c .before .loop .held) (omega arith) (c .before .loop .inv .2)
+returns c = packed-all (stops (c .before .before .before .args .t1) (c .before .before .before .args .p))
+    (c .before .loop .i) (c .before .loop .held) (omega arith) (c .before .loop .inv .2)
 
 pub row-spec : {M : Type 1} → statement M
 row-spec =

@@ -10,4 +10,5 @@ returns c = rw (c .put .ensures, c .before .opening .ensures)
 
 pub with-given-spec : {M : Type 1} → statement M
 with-given-spec =
-    tie.close (tie.spec (λ c. search needs) (λ c. search needs) (λ c. search needs) (λ c. search needs) (λ c κs. search needs) (λ c κs. search needs) returns)
+    tie.close (tie.spec (λ c. search needs) (λ c. search needs) (λ c. search needs) (λ c. search needs)
+    (λ c κs. search needs) (λ c κs. search needs) returns)

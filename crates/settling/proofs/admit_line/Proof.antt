@@ -27,13 +27,19 @@ returns c = let l = c .before .before .loop in let a = c .before .before .before
 
 admit-held-requires : tie.Need-admit-held-requires Inv-loop μ-loop
 admit-held-requires c κs = let l = c .before .before .loop in let a = c .before .before .before .args in
-    let m : length (a .t2) ≡ 32 = search needs in
-    (name-range (a .t2) (l .k) (omega arith) (c .if1 .left) (l .inv .1 .0), held-room (l .s) (a .t2) (l .k) (omega arith) (c .if1 .left) (l .inv .1 .1))
+    let m : length (a .t2) ≡ 32 = search needs in (
+      name-range (a .t2) (l .k) (omega arith) (c .if1 .left) (l .inv .1 .0),
+      held-room (l .s) (a .t2) (l .k)
+          (omega arith) (c .if1 .left) (l .inv .1 .1),
+    )
 
 loop-again : tie.Need-loop-again Inv-loop μ-loop
 loop-again c = let l = c .before .before .before .loop in let a = c .before .before .before .before .args in
-    let m : length (a .t2) ≡ 32 = search needs in
-    (search needs, held-next (a .w) (l .s) (c .admit-held .result) (a .t2) (l .k) (omega arith) (c .before .if1 .left) (l .inv .1) (c .admit-held .ensures))
+    let m : length (a .t2) ≡ 32 = search needs in (
+      search needs,
+      held-next (a .w) (l .s) (c .admit-held .result) (a .t2) (l .k) (omega arith) (c .before .if1 .left)
+          (l .inv .1) (c .admit-held .ensures),
+    )
 
 returns-2 : tie.Need-returns-2 Inv-loop μ-loop
 returns-2 c = let l = c .before .loop in let a = c .before .before .args in

@@ -1,6 +1,7 @@
 -- `choose_next` meets its contract. Assumes nothing.
 use mathlib.Core.Path.{_∙_}
-use Rattle.settling.proofs.Laws.{all-waiting, all-held, candidate-none, candidate-some, choose-still, run-held-is, favour-is, held-fits, favour-fits}
+use Rattle.settling.proofs.Laws.{all-waiting, all-held, candidate-none, candidate-some, choose-still, run-held-is, favour-is}
+use Rattle.settling.proofs.Laws.{held-fits, favour-fits}
 use Rattle.settling.proofs.choose_next.Statement.{statement}
 use Rattle.settling.proofs.choose_next.Tie as tie
 
@@ -11,12 +12,16 @@ oldest-unused-requires : tie.Need-oldest-unused-requires
 oldest-unused-requires c κs = all-waiting (c .before .before .args .w .board) (c .before .before .pre .0)
 
 admit-all-requires : tie.Need-admit-all-requires
-admit-all-requires c κs = let s = c .before .before .before .before in let w = s .args .w in
-    (all-held (w .board) (s .pre .0), held-fits w (c .before .before .if1 .left) (candidate-none (w .board) (c .before .oldest-unused .result) (s .pre .0) (c .before .oldest-unused .ensures) (c .if2 .taken)) (s .pre .1))
+admit-all-requires c κs = let s = c .before .before .before .before in let w = s .args .w in (
+  all-held (w .board) (s .pre .0),
+  held-fits w (c .before .before .if1 .left) (candidate-none (w .board)
+      (c .before .oldest-unused .result) (s .pre .0) (c .before .oldest-unused .ensures) (c .if2 .taken)) (s .pre .1),
+)
 
 returns-2 : tie.Need-returns-2
 returns-2 c = let s = c .before .before .before .before .before in let w = s .args .w in
-    c .admit-all .ensures ∙ run-held-is w (c .before .before .before .if1 .left) (candidate-none (w .board) (c .before .before .oldest-unused .result) (s .pre .0) (c .before .before .oldest-unused .ensures) (c .before .if2 .taken))
+    c .admit-all .ensures ∙ run-held-is w (c .before .before .before .if1 .left) (candidate-none (w .board)
+    (c .before .before .oldest-unused .result) (s .pre .0) (c .before .before .oldest-unused .ensures) (c .before .if2 .taken))
 
 favour-waiter-requires : tie.Need-favour-waiter-requires
 favour-waiter-requires c κs = let s = c .before .before .before .before in let w = s .args .w in
@@ -25,7 +30,8 @@ favour-waiter-requires c κs = let s = c .before .before .before .before in let 
 
 returns-3 : tie.Need-returns-3
 returns-3 c = let s = c .before .before .before .before .before in let w = s .args .w in
-    let r = candidate-some (w .board) (c .before .before .oldest-unused .result) (s .pre .0) (c .before .before .oldest-unused .ensures) (c .before .if2 .left) in
+    let r = candidate-some (w .board) (c .before .before .oldest-unused .result) (s .pre .0)
+    (c .before .before .oldest-unused .ensures) (c .before .if2 .left) in
     c .favour-waiter .ensures ∙ favour-is w (c .before .before .oldest-unused .result) (c .before .before .before .if1 .left) (r .0)
 
 pub choose-next-spec : {M : Type 1} → statement M

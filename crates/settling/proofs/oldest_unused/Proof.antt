@@ -30,7 +30,8 @@ loop-holds c = (search needs, c .before .pre, refl)
 returns : tie.Need-returns Inv-loop μ-loop
 returns c = let l = c .before .before .loop in let b = c .before .before .before .before .args .b in
     let m : length (b .waiting) ≡ 32 = search needs in
-    sym (ap (λ (x : Option ℕ). Option·getD x 0) (l .inv .2 ∙ first-none-left (unused b) (names (drop (l .k) (b .waiting))) (names-stop (b .waiting) (l .k) (omega arith) (c .if1 .taken))))
+    sym (ap (λ (x : Option ℕ). Option·getD x 0) (l .inv .2 ∙ first-none-left (unused b) (names (drop (l .k) (b .waiting)))
+    (names-stop (b .waiting) (l .k) (omega arith) (c .if1 .taken))))
 
 awaited-requires : tie.Need-awaited-requires Inv-loop μ-loop
 awaited-requires c κs = let l = c .before .before .loop in let b = c .before .before .before .before .args .b in
@@ -45,20 +46,32 @@ in-use-requires c κs = let l = c .before .before .before .loop in let b = c .be
 returns-2 : tie.Need-returns-2 Inv-loop μ-loop
 returns-2 c = let l = c .before .before .before .before .before .loop in let b = c .before .before .before .before .before .before .before .args .b in
     let m : length (b .waiting) ≡ 32 = search needs in
-    sym (rw (← c .before .before .awaited .ensures, sym (c .before .in-use .ensures) ∙ not-true (c .before .in-use .result) (c .if2 .taken)) at (ap (λ (x : Option ℕ). Option·getD x 0) (l .inv .2 ∙ first-names-on (unused b) (b .waiting) (l .k) (omega arith) (c .before .before .before .if1 .left))))
+    sym (rw (
+      ← c .before .before .awaited .ensures,
+      sym (c .before .in-use .ensures)
+          ∙ not-true (c .before .in-use .result) (c .if2 .taken),
+    ) at (ap (λ (x : Option ℕ). Option·getD x 0) (l .inv .2
+    ∙ first-names-on (unused b) (b .waiting) (l .k) (omega arith) (c .before .before .before .if1 .left))))
 
 loop-again : tie.Need-loop-again Inv-loop μ-loop
-loop-again c = let l = c .before .before .before .before .before .loop in let b = c .before .before .before .before .before .before .before .args .b in
+loop-again c = let l = c .before .before .before .before .before .loop in let b =
+    c .before .before .before .before .before .before .before .args .b in
     let m : length (b .waiting) ≡ 32 = search needs in (
       search needs,
       rw (add-one (l .k)) (names-left isProgram (b .waiting) (l .k) (omega arith) (c .before .before .before .if1 .left) (l .inv .1)),
-      rw (add-one (l .k)) (rw (← c .before .before .awaited .ensures, sym (c .before .in-use .ensures) ∙ not-false (c .before .in-use .result) (c .if2 .left)) at (l .inv .2 ∙ first-names-on (unused b) (b .waiting) (l .k) (omega arith) (c .before .before .before .if1 .left))),
+      rw (add-one (l .k)) (rw (
+        ← c .before .before .awaited .ensures,
+        sym (c .before .in-use .ensures)
+            ∙ not-false (c .before .in-use .result) (c .if2 .left),
+      ) at (l .inv .2 ∙ first-names-on (unused b)
+          (b .waiting) (l .k) (omega arith) (c .before .before .before .if1 .left))),
     )
 
 returns-3 : tie.Need-returns-3 Inv-loop μ-loop
 returns-3 c = let l = c .before .loop in let b = c .before .before .before .args .b in
     let m : length (b .waiting) ≡ 32 = search needs in
-    sym (ap (λ (x : Option ℕ). Option·getD x 0) (l .inv .2 ∙ first-none-left (unused b) (names (drop (l .k) (b .waiting))) (names-end (b .waiting) (l .k) (omega arith))))
+    sym (ap (λ (x : Option ℕ). Option·getD x 0) (l .inv .2 ∙ first-none-left (unused b) (names (drop (l .k) (b .waiting)))
+    (names-end (b .waiting) (l .k) (omega arith))))
 
 pub oldest-unused-spec : {M : Type 1} → statement M
 oldest-unused-spec =

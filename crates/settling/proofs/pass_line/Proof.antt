@@ -31,8 +31,11 @@ give-waiter-requires c κs = let l = c .before .before .loop in let w = c .befor
 
 loop-again : tie.Need-loop-again Inv-loop μ-loop
 loop-again c = let l = c .before .before .before .loop in let w = c .before .before .before .before .before .before .args .w in
-    let m : length (w .board .waiting) ≡ 32 = search needs in
-    (search needs, pass-next w (l .s) (w .board .waiting) (l .k) (omega arith) (c .before .if1 .left) (l .inv .1) (c .give-waiter .result) (c .give-waiter .ensures))
+    let m : length (w .board .waiting) ≡ 32 = search needs in (
+      search needs,
+      pass-next w (l .s) (w .board .waiting) (l .k) (omega arith) (c .before .if1 .left) (l .inv .1)
+          (c .give-waiter .result) (c .give-waiter .ensures),
+    )
 
 returns-2 : tie.Need-returns-2 Inv-loop μ-loop
 returns-2 c = let l = c .before .loop in let w = c .before .before .before .before .args .w in

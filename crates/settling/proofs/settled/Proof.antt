@@ -8,11 +8,15 @@ pass-line-requires : tie.Need-pass-line-requires
 pass-line-requires c κs = (c .pre .0, settle-fits-pass (c .args .w) (c .pre .1))
 
 choose-next-requires : tie.Need-choose-next-requires
-choose-next-requires c κs = let s = c .before in let w = s .args .w in
-    (settle-loose w (c .pass-line .result) (c .pass-line .ensures) (s .pre .0), settle-fits-choose w (c .pass-line .result) (c .pass-line .ensures) (s .pre .1))
+choose-next-requires c κs = let s = c .before in let w = s .args .w in (
+  settle-loose w (c .pass-line .result) (c .pass-line .ensures) (s .pre .0),
+  settle-fits-choose w
+      (c .pass-line .result) (c .pass-line .ensures) (s .pre .1),
+)
 
 returns : tie.Need-returns
-returns c = let s = c .before .before in let w = s .args .w in c .choose-next .ensures ∙ settle-is w (c .before .pass-line .result) (c .before .pass-line .ensures)
+returns c = let s = c .before .before in let w = s .args .w in c .choose-next .ensures
+    ∙ settle-is w (c .before .pass-line .result) (c .before .pass-line .ensures)
 
 pub settled-spec : {M : Type 1} → statement M
 settled-spec = tie.close (tie.spec pass-line-requires choose-next-requires returns)

@@ -24,14 +24,20 @@ loop-holds c = (search needs, search needs, refl)
 
 returns : tie.Need-returns Inv-loop μ-loop
 returns c = let l = c .before .before .before .before .loop in let a = c .before .before .before .before .before .before .args in
-    sym (rw (sym (c .before .are-apart .ensures) ∙ not-true (c .before .are-apart .result) (c .if1 .taken)) at (l .inv .2 ∙ all-step (apart (a .t1) (a .i)) (l .j) (omega arith)))
+    sym (rw (sym (c .before .are-apart .ensures) ∙ not-true (c .before .are-apart .result) (c .if1 .taken)) at
+    (l .inv .2 ∙ all-step (apart (a .t1) (a .i)) (l .j) (omega arith)))
 
 loop-again : tie.Need-loop-again Inv-loop μ-loop
-loop-again c = let l = c .before .before .before .before .loop in let a = c .before .before .before .before .before .before .args in
-    (search needs, search needs, rw (add-one (l .j)) (rw (sym (c .before .are-apart .ensures) ∙ not-false (c .before .are-apart .result) (c .if1 .left)) at (l .inv .2 ∙ all-step (apart (a .t1) (a .i)) (l .j) (omega arith))))
+loop-again c = let l = c .before .before .before .before .loop in let a = c .before .before .before .before .before .before .args in (
+  search needs,
+  search needs,
+  rw (add-one (l .j)) (rw (sym (c .before .are-apart .ensures)
+      ∙ not-false (c .before .are-apart .result) (c .if1 .left)) at (l .inv .2 ∙ all-step (apart (a .t1) (a .i)) (l .j) (omega arith))),
+)
 
 returns-2 : tie.Need-returns-2 Inv-loop μ-loop
-returns-2 c = let l = c .before .loop in let a = c .before .before .before .args in sym (l .inv .2 ∙ all-end (apart (a .t1) (a .i)) (l .j) (omega arith))
+returns-2 c = let l = c .before .loop in let a = c .before .before .before .args in
+    sym (l .inv .2 ∙ all-end (apart (a .t1) (a .i)) (l .j) (omega arith))
 
 pub apart-from-all-spec : {M : Type 1} → statement M
 apart-from-all-spec =

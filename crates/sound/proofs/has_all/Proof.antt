@@ -25,14 +25,21 @@ loop-holds c = (search needs, search needs, refl)
 
 returns : tie.Need-returns Inv-loop μ-loop
 returns c = let l = c .before .before .before .before .loop in let a = c .before .before .before .before .before .args in
-    sym (rw (sym (c .before .is-in-line .ensures) ∙ not-true (c .before .is-in-line .result) (c .if1 .taken)) at (l .inv .2 ∙ all-step (inLine (a .t1) (a .line) (a .held)) (l .p) (omega arith)))
+    sym (rw (sym (c .before .is-in-line .ensures) ∙ not-true (c .before .is-in-line .result) (c .if1 .taken)) at
+    (l .inv .2 ∙ all-step (inLine (a .t1) (a .line) (a .held)) (l .p) (omega arith)))
 
 loop-again : tie.Need-loop-again Inv-loop μ-loop
-loop-again c = let l = c .before .before .before .before .loop in let a = c .before .before .before .before .before .args in
-    (search needs, search needs, rw (add-one (l .p)) (rw (sym (c .before .is-in-line .ensures) ∙ not-false (c .before .is-in-line .result) (c .if1 .left)) at (l .inv .2 ∙ all-step (inLine (a .t1) (a .line) (a .held)) (l .p) (omega arith))))
+loop-again c = let l = c .before .before .before .before .loop in let a = c .before .before .before .before .before .args in (
+  search needs,
+  search needs,
+  rw (add-one (l .p)) (rw (sym (c .before .is-in-line .ensures)
+      ∙ not-false (c .before .is-in-line .result) (c .if1 .left)) at (l .inv .2
+      ∙ all-step (inLine (a .t1) (a .line) (a .held)) (l .p) (omega arith))),
+)
 
 returns-2 : tie.Need-returns-2 Inv-loop μ-loop
-returns-2 c = let l = c .before .loop in let a = c .before .before .args in sym (l .inv .2 ∙ all-end (inLine (a .t1) (a .line) (a .held)) (l .p) (omega arith))
+returns-2 c = let l = c .before .loop in let a = c .before .before .args in
+    sym (l .inv .2 ∙ all-end (inLine (a .t1) (a .line) (a .held)) (l .p) (omega arith))
 
 pub has-all-spec : {M : Type 1} → statement M
 has-all-spec =

@@ -26,8 +26,12 @@ returns c = let l = c .before .before .before .before .loop in let a = c .before
     sym (rw (sym (c .before .is-held .ensures) ∙ c .if1 .taken) at (l .inv .2 ∙ any-step (heldAt (a .t1)) (l .p) (omega arith)))
 
 loop-again : tie.Need-loop-again Inv-loop μ-loop
-loop-again c = let l = c .before .before .before .before .loop in let a = c .before .before .before .before .before .args in
-    (search needs, search needs, rw (add-one (l .p)) (rw (sym (c .before .is-held .ensures) ∙ c .if1 .left) at (l .inv .2 ∙ any-step (heldAt (a .t1)) (l .p) (omega arith))))
+loop-again c = let l = c .before .before .before .before .loop in let a = c .before .before .before .before .before .args in (
+  search needs,
+  search needs,
+  rw (add-one (l .p)) (rw (sym (c .before .is-held .ensures) ∙ c .if1 .left) at
+      (l .inv .2 ∙ any-step (heldAt (a .t1)) (l .p) (omega arith))),
+)
 
 returns-2 : tie.Need-returns-2 Inv-loop μ-loop
 returns-2 c = let l = c .before .loop in let a = c .before .before .args in sym (l .inv .2 ∙ any-end (heldAt (a .t1)) (l .p) (omega arith))

@@ -13,10 +13,16 @@ returns : tie.Need-returns
 returns c = let a = c .before .args in rw (c .if1 .taken)
 
 returns-2 : tie.Need-returns-2
-returns-2 c = let a = c .before .before .args in rw (lt-leb (a .p) 32 (c .if2 .taken)) (sym (and-false (leb 1 (a .p)) (standsAt (a .t1) (a .held) (a .p))))
+returns-2 c = let a = c .before .before .args in rw (lt-leb (a .p) 32 (c .if2 .taken))
+    (sym (and-false (leb 1 (a .p)) (standsAt (a .t1) (a .held) (a .p))))
 
 returns-3 : tie.Need-returns-3
-returns-3 c = let a = c .before .before .before .before .args in rw (le-leb 1 (a .p) (omega (arith, c .before .before .before .if1 .left)), le-leb (a .p) 32 (c .before .before .if2 .left)) (c .does-stand .ensures)
+returns-3 c = let a = c .before .before .before .before .args in
+    rw (
+      le-leb 1 (a .p) (omega (arith, c .before .before .before .if1 .left)),
+      le-leb (a .p) 32
+          (c .before .before .if2 .left),
+    ) (c .does-stand .ensures)
 
 pub is-right-name-spec : {M : Type 1} → statement M
 is-right-name-spec =

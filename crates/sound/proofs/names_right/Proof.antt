@@ -31,12 +31,17 @@ returns c = let l = c .before .before .loop in let a = c .before .before .before
 returns-2 : tie.Need-returns-2 Inv-loop μ-loop
 returns-2 c = let l = c .before .before .before .before .loop in let a = c .before .before .before .before .before .args in
     let m : length (a .t2) ≡ 32 = search needs in
-    sym (rw (sym (c .before .is-right-name .ensures) ∙ not-true (c .before .is-right-name .result) (c .if2 .taken)) at (l .inv .1 ∙ all-names-on (a .t2) (l .k) (rightName (a .b) (a .held)) (omega arith) (c .before .before .if1 .left)))
+    sym (rw (sym (c .before .is-right-name .ensures) ∙ not-true (c .before .is-right-name .result) (c .if2 .taken)) at
+    (l .inv .1 ∙ all-names-on (a .t2) (l .k) (rightName (a .b) (a .held)) (omega arith) (c .before .before .if1 .left)))
 
 loop-again : tie.Need-loop-again Inv-loop μ-loop
 loop-again c = let l = c .before .before .before .before .loop in let a = c .before .before .before .before .before .args in
-    let m : length (a .t2) ≡ 32 = search needs in
-    (search needs, rw (add-one (l .k)) (rw (sym (c .before .is-right-name .ensures) ∙ not-false (c .before .is-right-name .result) (c .if2 .left)) at (l .inv .1 ∙ all-names-on (a .t2) (l .k) (rightName (a .b) (a .held)) (omega arith) (c .before .before .if1 .left))))
+    let m : length (a .t2) ≡ 32 = search needs in (
+      search needs,
+      rw (add-one (l .k)) (rw (sym (c .before .is-right-name .ensures)
+          ∙ not-false (c .before .is-right-name .result) (c .if2 .left)) at (l .inv .1 ∙ all-names-on (a .t2) (l .k)
+          (rightName (a .b) (a .held)) (omega arith) (c .before .before .if1 .left))),
+    )
 
 returns-3 : tie.Need-returns-3 Inv-loop μ-loop
 returns-3 c = let l = c .before .loop in let a = c .before .before .args in

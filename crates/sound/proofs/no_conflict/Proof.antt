@@ -25,11 +25,16 @@ loop-holds c = (search needs, search needs, refl)
 
 returns : tie.Need-returns Inv-loop μ-loop
 returns c = let l = c .before .before .before .loop in let a = c .before .before .before .before .args in
-    sym (rw (sym (c .before .apart-from-all .ensures) ∙ not-true (c .before .apart-from-all .result) (c .if1 .taken)) at (l .inv .2 ∙ all-step (apartAll (a .b)) (l .i) (omega arith)))
+    sym (rw (sym (c .before .apart-from-all .ensures) ∙ not-true (c .before .apart-from-all .result) (c .if1 .taken)) at
+    (l .inv .2 ∙ all-step (apartAll (a .b)) (l .i) (omega arith)))
 
 loop-again : tie.Need-loop-again Inv-loop μ-loop
-loop-again c = let l = c .before .before .before .loop in let a = c .before .before .before .before .args in
-    (search needs, search needs, rw (add-one (l .i)) (rw (sym (c .before .apart-from-all .ensures) ∙ not-false (c .before .apart-from-all .result) (c .if1 .left)) at (l .inv .2 ∙ all-step (apartAll (a .b)) (l .i) (omega arith))))
+loop-again c = let l = c .before .before .before .loop in let a = c .before .before .before .before .args in (
+  search needs,
+  search needs,
+  rw (add-one (l .i)) (rw (sym (c .before .apart-from-all .ensures)
+      ∙ not-false (c .before .apart-from-all .result) (c .if1 .left)) at (l .inv .2 ∙ all-step (apartAll (a .b)) (l .i) (omega arith))),
+)
 
 returns-2 : tie.Need-returns-2 Inv-loop μ-loop
 returns-2 c = let l = c .before .loop in let a = c .before .before .args in sym (l .inv .2 ∙ all-end (apartAll (a .b)) (l .i) (omega arith))

@@ -9,7 +9,8 @@ returns : tie.Need-returns
 returns c = rw (sym (c .before .is-empty .ensures) ∙ not-true (c .before .is-empty .result) (c .if1 .taken))
 
 returns-2 : tie.Need-returns-2
-returns-2 c = rw (sym (c .before .before .is-empty .ensures) ∙ not-false (c .before .before .is-empty .result) (c .before .if1 .left)) (c .is-empty2 .ensures)
+returns-2 c = rw (sym (c .before .before .is-empty .ensures) ∙ not-false (c .before .before .is-empty .result)
+    (c .before .if1 .left)) (c .is-empty2 .ensures)
 
 pub opens-nothing-spec : {M : Type 1} → statement M
 opens-nothing-spec = tie.close (tie.spec (λ c κs. search needs) returns (λ c κs. search needs) returns-2)

@@ -12,7 +12,8 @@ returns c = rw (sym (c .before .sets-sound .ensures) ∙ not-true (c .before .se
 
 returns-2 : tie.Need-returns-2
 unfolding programSound
-returns-2 c = rw (sym (c .before .before .sets-sound .ensures) ∙ not-false (c .before .before .sets-sound .result) (c .before .if1 .left)) (c .standing-sound .ensures)
+returns-2 c = rw (sym (c .before .before .sets-sound .ensures) ∙ not-false (c .before .before .sets-sound .result)
+    (c .before .if1 .left)) (c .standing-sound .ensures)
 
 pub program-sound-spec : {M : Type 1} → statement M
 program-sound-spec =

@@ -24,11 +24,16 @@ loop-holds c = (search needs, search needs, refl)
 
 returns : tie.Need-returns Inv-loop μ-loop
 returns c = let l = c .before .before .before .before .loop in let b = c .before .before .before .before .before .args .t1 in
-    sym (rw (sym (c .before .program-sound .ensures) ∙ not-true (c .before .program-sound .result) (c .if1 .taken)) at (l .inv .2 ∙ all-step (isSoundAt b) (l .p) (omega arith)))
+    sym (rw (sym (c .before .program-sound .ensures) ∙ not-true (c .before .program-sound .result) (c .if1 .taken)) at
+    (l .inv .2 ∙ all-step (isSoundAt b) (l .p) (omega arith)))
 
 loop-again : tie.Need-loop-again Inv-loop μ-loop
-loop-again c = let l = c .before .before .before .before .loop in let b = c .before .before .before .before .before .args .t1 in
-    (search needs, search needs, rw (add-one (l .p)) (rw (sym (c .before .program-sound .ensures) ∙ not-false (c .before .program-sound .result) (c .if1 .left)) at (l .inv .2 ∙ all-step (isSoundAt b) (l .p) (omega arith))))
+loop-again c = let l = c .before .before .before .before .loop in let b = c .before .before .before .before .before .args .t1 in (
+  search needs,
+  search needs,
+  rw (add-one (l .p)) (rw (sym (c .before .program-sound .ensures)
+      ∙ not-false (c .before .program-sound .result) (c .if1 .left)) at (l .inv .2 ∙ all-step (isSoundAt b) (l .p) (omega arith))),
+)
 
 returns-2 : tie.Need-returns-2 Inv-loop μ-loop
 returns-2 c = let l = c .before .loop in sym (l .inv .2 ∙ all-end (isSoundAt (c .before .before .args .t1)) (l .p) (omega arith))

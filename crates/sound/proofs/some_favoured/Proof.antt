@@ -13,11 +13,25 @@ returns c = rw (sym (c .before .is-right-name .ensures) ∙ not-true (c .before 
 
 returns-2 : tie.Need-returns-2
 unfolding someFavoured
-returns-2 c = let b = c .before .before .before .before .before .args .b in rw (sym (c .before .before .before .before .is-right-name .ensures) ∙ not-false (c .before .before .before .before .is-right-name .result) (c .before .before .before .if1 .left), ← c .before .before .admitted-count .ensures .0, ne-eqb (b .leaves + c .before .before .admitted-count .result) (b .initial) (c .if2 .taken))
+returns-2 c = let b = c .before .before .before .before .before .args .b in
+    rw (
+      sym (c .before .before .before .before .is-right-name .ensures)
+          ∙ not-false (c .before .before .before .before .is-right-name .result) (c .before .before .before .if1 .left),
+      ← c .before .before .admitted-count .ensures .0,
+      ne-eqb (b .leaves + c .before .before .admitted-count .result)
+          (b .initial) (c .if2 .taken),
+    )
 
 returns-3 : tie.Need-returns-3
 unfolding someFavoured
-returns-3 c = let b = c .before .before .before .before .before .args .b in rw (sym (c .before .before .before .before .is-right-name .ensures) ∙ not-false (c .before .before .before .before .is-right-name .result) (c .before .before .before .if1 .left), ← c .before .before .admitted-count .ensures .0, eq-eqb (b .leaves + c .before .before .admitted-count .result) (b .initial) (c .if2 .left))
+returns-3 c = let b = c .before .before .before .before .before .args .b in
+    rw (
+      sym (c .before .before .before .before .is-right-name .ensures)
+          ∙ not-false (c .before .before .before .before .is-right-name .result) (c .before .before .before .if1 .left),
+      ← c .before .before .admitted-count .ensures .0,
+      eq-eqb (b .leaves + c .before .before .admitted-count .result)
+          (b .initial) (c .if2 .left),
+    )
 
 pub some-favoured-spec : {M : Type 1} → statement M
 some-favoured-spec =

@@ -10,11 +10,16 @@ use Rattle.sound.proofs.standing_sound.Tie as tie
 
 returns : tie.Need-returns
 unfolding standingSound
-returns c = let q = c .before .before .before .before .args .q in rw (c .before .before .enum-told .given .1) (four-first (isEmpty (q .writable)) (isEmpty (q .readable)) (isEmpty (q .writing)) (isEmpty (q .reading)) (sym (c .before .claims-nothing .ensures) ∙ not-true (c .before .claims-nothing .result) (c .if1 .taken)))
+returns c = let q = c .before .before .before .before .args .q in rw (c .before .before .enum-told .given .1)
+    (four-first (isEmpty (q .writable)) (isEmpty (q .readable)) (isEmpty (q .writing)) (isEmpty (q .reading))
+    (sym (c .before .claims-nothing .ensures) ∙ not-true (c .before .claims-nothing .result) (c .if1 .taken)))
 
 returns-2 : tie.Need-returns-2
 unfolding standingSound
-returns-2 c = let q = c .before .before .before .before .before .args .q in rw (c .before .before .before .enum-told .given .1) (c .opens-nothing .ensures ∙ four-last (isEmpty (q .writable)) (isEmpty (q .readable)) (isEmpty (q .writing)) (isEmpty (q .reading)) (sym (c .before .before .claims-nothing .ensures) ∙ not-false (c .before .before .claims-nothing .result) (c .before .if1 .left)))
+returns-2 c = let q = c .before .before .before .before .before .args .q in
+    rw (c .before .before .before .enum-told .given .1) (c .opens-nothing .ensures ∙ four-last (isEmpty (q .writable))
+    (isEmpty (q .readable)) (isEmpty (q .writing)) (isEmpty (q .reading)) (sym (c .before .before .claims-nothing .ensures)
+    ∙ not-false (c .before .before .claims-nothing .result) (c .before .if1 .left)))
 
 returns-3 : tie.Need-returns-3
 unfolding standingSound

@@ -13,11 +13,19 @@ returns c = rw (sym (c .before .claims .ensures) ∙ not-true (c .before .claims
 
 returns-2 : tie.Need-returns-2
 unfolding waiterSound
-returns-2 c = rw (sym (c .before .before .before .claims .ensures) ∙ not-false (c .before .before .before .claims .result) (c .before .before .if1 .left), sym (c .before .has-open .ensures) ∙ c .if2 .taken)
+returns-2 c = rw (
+  sym (c .before .before .before .claims .ensures) ∙ not-false (c .before .before .before .claims .result)
+      (c .before .before .if1 .left),
+  sym (c .before .has-open .ensures) ∙ c .if2 .taken,
+)
 
 returns-3 : tie.Need-returns-3
 unfolding waiterSound
-returns-3 c = rw (sym (c .before .before .before .before .claims .ensures) ∙ not-false (c .before .before .before .before .claims .result) (c .before .before .before .if1 .left), sym (c .before .before .has-open .ensures) ∙ c .before .if2 .left) (ap not (c .can-give .ensures))
+returns-3 c = rw (
+  sym (c .before .before .before .before .claims .ensures)
+      ∙ not-false (c .before .before .before .before .claims .result) (c .before .before .before .if1 .left),
+  sym (c .before .before .has-open .ensures) ∙ c .before .if2 .left,
+) (ap not (c .can-give .ensures))
 
 pub waiter-sound-spec : {M : Type 1} → statement M
 waiter-sound-spec =

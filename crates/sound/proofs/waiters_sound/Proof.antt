@@ -17,7 +17,8 @@ use Rattle.sound.proofs.waiters_sound.Statement.{statement}
 use Rattle.sound.proofs.waiters_sound.Tie as tie
 
 abbrev Inv-loop : tie.InvT-loop
-Inv-loop b line k₀ k = (k ≤ 32) × (all isProgram (names (drop k line)) ≡ true) × (all (waiterAt b) (names line) ≡ all (waiterAt b) (names (drop k line)))
+Inv-loop b line k₀ k = (k ≤ 32) × (all isProgram (names (drop k line)) ≡ true) × (all (waiterAt b) (names line) ≡ all
+    (waiterAt b) (names (drop k line)))
 
 abbrev μ-loop : tie.MeasureT-loop
 μ-loop b line k₀ k = 32 - k
@@ -43,14 +44,24 @@ waiter-sound-requires c κs = let l = c .before .before .before .loop in let a =
 returns-2 : tie.Need-returns-2 Inv-loop μ-loop
 returns-2 c = let l = c .before .before .before .before .before .loop in let a = c .before .before .before .before .before .before .args in
     let m : length (a .t2) ≡ 32 = search needs in
-    sym (rw (← c .before .before .awaited .ensures, sym (c .before .waiter-sound .ensures) ∙ not-true (c .before .waiter-sound .result) (c .if2 .taken)) at (l .inv .2 ∙ all-names-on (a .t2) (l .k) (waiterAt (a .b)) (omega arith) (c .before .before .before .if1 .left)))
+    sym (rw (
+      ← c .before .before .awaited .ensures,
+      sym (c .before .waiter-sound .ensures)
+          ∙ not-true (c .before .waiter-sound .result) (c .if2 .taken),
+    ) at (l .inv .2 ∙ all-names-on (a .t2) (l .k)
+    (waiterAt (a .b)) (omega arith) (c .before .before .before .if1 .left)))
 
 loop-again : tie.Need-loop-again Inv-loop μ-loop
 loop-again c = let l = c .before .before .before .before .before .loop in let a = c .before .before .before .before .before .before .args in
     let m : length (a .t2) ≡ 32 = search needs in (
       search needs,
       rw (add-one (l .k)) (names-left isProgram (a .t2) (l .k) (omega arith) (c .before .before .before .if1 .left) (l .inv .1)),
-      rw (add-one (l .k)) (rw (← c .before .before .awaited .ensures, sym (c .before .waiter-sound .ensures) ∙ not-false (c .before .waiter-sound .result) (c .if2 .left)) at (l .inv .2 ∙ all-names-on (a .t2) (l .k) (waiterAt (a .b)) (omega arith) (c .before .before .before .if1 .left))),
+      rw (add-one (l .k)) (rw (
+        ← c .before .before .awaited .ensures,
+        sym (c .before .waiter-sound .ensures)
+            ∙ not-false (c .before .waiter-sound .result) (c .if2 .left),
+      ) at (l .inv .2 ∙ all-names-on (a .t2) (l .k)
+          (waiterAt (a .b)) (omega arith) (c .before .before .before .if1 .left))),
     )
 
 returns-3 : tie.Need-returns-3 Inv-loop μ-loop

@@ -9,10 +9,18 @@ returns : tie.Need-returns
 returns c = rw (sym (c .before .claims .ensures) ∙ not-true (c .before .claims .result) (c .if1 .taken))
 
 returns-2 : tie.Need-returns-2
-returns-2 c = rw (sym (c .before .before .before .claims .ensures) ∙ not-false (c .before .before .before .claims .result) (c .before .before .if1 .left), sym (c .before .has-open .ensures) ∙ c .if2 .taken)
+returns-2 c = rw (
+  sym (c .before .before .before .claims .ensures) ∙ not-false (c .before .before .before .claims .result)
+      (c .before .before .if1 .left),
+  sym (c .before .has-open .ensures) ∙ c .if2 .taken,
+)
 
 returns-3 : tie.Need-returns-3
-returns-3 c = rw (sym (c .before .before .before .claims .ensures) ∙ not-false (c .before .before .before .claims .result) (c .before .before .if1 .left), sym (c .before .has-open .ensures) ∙ c .if2 .left)
+returns-3 c = rw (
+  sym (c .before .before .before .claims .ensures) ∙ not-false (c .before .before .before .claims .result)
+      (c .before .before .if1 .left),
+  sym (c .before .has-open .ensures) ∙ c .if2 .left,
+)
 
 pub claim-check-spec : {M : Type 1} → statement M
 claim-check-spec =

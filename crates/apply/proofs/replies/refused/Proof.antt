@@ -9,7 +9,8 @@ use Rattle.apply.proofs.replies.refused.Statement.{statement}
 use Rattle.apply.proofs.replies.refused.Tie as tie
 
 returns : tie.Need-returns
-returns c = let a = c .before .before .args in c .reply-with .ensures ∙ ap (λ (w : Written). replied w (Answer.Refuse (a .refusal))) (c .before .no-line .ensures) ∙ wrote-none (a .b) (a .refusal)
+returns c = let a = c .before .before .args in c .reply-with .ensures
+    ∙ ap (λ (w : Written). replied w (Answer.Refuse (a .refusal))) (c .before .no-line .ensures) ∙ wrote-none (a .b) (a .refusal)
 
 pub refused-spec : {M : Type 1} → statement M
 refused-spec = tie.close (tie.spec (λ c κs. search needs) (λ c κs. search needs) returns)

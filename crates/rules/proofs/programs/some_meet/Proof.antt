@@ -11,7 +11,10 @@ returns-2 : tie.Need-returns-2
 returns-2 c = rw (sym (c .before .before .before .meets .ensures) ∙ c .before .before .if1 .left, sym (c .before .meets2 .ensures) ∙ c .if2 .taken)
 
 returns-3 : tie.Need-returns-3
-returns-3 c = rw (sym (c .before .before .before .before .meets .ensures) ∙ c .before .before .before .if1 .left, sym (c .before .before .meets2 .ensures) ∙ c .before .if2 .left) (c .meets3 .ensures)
+returns-3 c = rw (
+  sym (c .before .before .before .before .meets .ensures) ∙ c .before .before .before .if1 .left,
+  sym (c .before .before .meets2 .ensures) ∙ c .before .if2 .left,
+) (c .meets3 .ensures)
 
 pub some-meet-spec : {M : Type 1} → statement M
 some-meet-spec =

@@ -1,0 +1,189 @@
+-- The proofs of what demands 1 and 2 say of a line call and of a C host's call.
+-- Assumes nothing.
+use Prim.Native.Nat.{ℕ, _+_, _-_, _*_, _≤_, _<_}
+use native.Mathlib.Omega.{arith}
+use mathlib.Core.Path.{_≡_, refl, sym, ap, _∙_}
+use mathlib.Core.Logic.{_⊎_, ⊎-elim}
+use mathlib.Core.Bool.{true, false}
+use mathlib.Core.List.{List, [], _∷_, _++_, append-assoc}
+use lib.Dec.{eqb}
+use lib.ListN.{length, getD, take, drop, length-take, length-append, List·getD-append}
+use lib.Seq.{getD-append-add, getD-take, getD-drop, length-take-le}
+use borrow.Author.Tests.{eq-eqb}
+use Rattle.files.proofs.Tests.{by-test, never}
+use Rattle.rules.specs.declared.Board.{Board}
+use Rattle.rules.specs.declared.Refusal.{Refusal}
+use Rattle.rules.specs.declared.Check.{Check}
+use Rattle.rules.specs.declared.Answer.{Answer}
+use Rattle.rules.specs.declared.Line.{Line}
+use Rattle.rules.specs.declared.Reply.{Reply}
+use Rattle.rules.specs.Soundness.{sound}
+use Rattle.rules.specs.Replies.{number, refusalOf, refused, reply, refuse, refuseUnsound}
+use Rattle.rules.specs.Calls.{Call, Enter, Open, Close, Drop, Leave, unless, checked, accepted, apply, direct}
+use Rattle.theory.specs.Worked.{direct-is-apply, accepted-answer}
+use Rattle.request.specs.declared.Reading.{Reading}
+use Rattle.request.specs.Requests.{requestOf, requestCall, lineOf}
+use Rattle.request.specs.Law.{saying}
+use Rattle.request.proofs.Lines.{line-read}
+use Rattle.journal.specs.Journal.{linesBytes, written}
+use Rattle.journal.proofs.Laws.{lines-length}
+use Rattle.image.specs.declared.Loaded.{Loaded}
+use Rattle.image.specs.Image.{imageOf, loadedOf}
+use Rattle.image.proofs.RoundTrip.{loaded-back, loaded-again}
+use Rattle.host.specs.Host.{Outcome, journalFull, refuseLine, linesFor, replyBy, replyTo, stopped, posted, lineCall, readImage}
+use Rattle.host.specs.Host.{hostedBy, hostCall}
+use Rattle.host.specs.Promises.{LineDoesItsCall, LineRefused, RefusedKeepsBoard, WritesNothing, OtherBytesKept, ReadsBack}
+use Rattle.host.specs.Promises.{AcceptedIsWritten, RefusedKeepsImage}
+use Rattle.host.proofs.Laws.{call-unsound, call-full, room, image-layout, image-unsound, image-sound, image-kept}
+
+-- ══ Lines ══
+
+says-reply : (b : Board) (c : Call) → replyTo b (saying c) ≡ direct b c
+unfolding replyTo
+says-reply b (Enter p v q) = refl
+says-reply b (Open p f) = refl
+says-reply b (Close p f) = refl
+says-reply b (Drop p f) = refl
+says-reply b (Leave p) = refl
+
+pub line-does-its-call : LineDoesItsCall
+unfolding lineCall posted direct
+line-does-its-call b c label journal place r l free =
+    by-test (sound b)
+    (λ s. rw (s, free, line-read c label r l) (says-reply b c ∙ direct-is-apply b c s))
+    (λ s. rw s)
+
+-- every refusal has a number
+number-some : (r : Refusal) → eqb (number r) 0 ≡ false
+number-some Refusal.NotSound = refl
+number-some Refusal.JournalFull = refl
+number-some Refusal.NoVerb = refl
+number-some Refusal.BadLength = refl
+number-some Refusal.BadNumber = refl
+number-some Refusal.BadLabel = refl
+number-some Refusal.NotRising = refl
+number-some Refusal.OutOfRange = refl
+number-some Refusal.NotAbsent = refl
+number-some Refusal.ClaimsMeet = refl
+number-some Refusal.IsAbsent = refl
+number-some Refusal.IsHeld = refl
+number-some Refusal.IsWaiting = refl
+number-some Refusal.NotClaimed = refl
+number-some Refusal.IsOpen = refl
+number-some Refusal.NotOpen = refl
+
+pub line-refused : LineRefused
+unfolding lineCall posted replyTo linesFor refuse reply
+line-refused b line journal place r s free e = rw (s, free, e, number-some r)
+
+-- ══ Refused calls ══
+
+unless-board : (b : Board) (k : Check) (r : Reply) → refused (r .answer) ≡ false → refused (unless b k r .answer) ≡ true → unless b k r .board ≡ b
+unfolding refuse reply
+unless-board b Check.Passed r h n = never n h
+unless-board b (Check.Failed m) r h n = refl
+
+direct-same : (b : Board) (c : Call) → refused (direct b c .answer) ≡ true → direct b c .board ≡ b
+unfolding direct apply refuseUnsound
+direct-same b c n =
+    by-test (sound b) (λ s. rw s (unless-board b (checked b c) (accepted b c) (accepted-answer b c) (rw s at n)))
+    (λ s. rw s)
+
+reply-same : (b : Board) (r : Reading) (c : Call) → refused (replyBy b r c .answer) ≡ true → replyBy b r c .board ≡ b
+unfolding refuse reply
+reply-same b Reading.Taken c n = direct-same b c n
+reply-same b (Reading.Refused r) c n = refl
+
+pub refused-keeps-board : RefusedKeepsBoard
+unfolding lineCall posted replyTo refuse reply refuseUnsound
+refused-keeps-board b line journal place n =
+    by-test (sound b)
+    (λ s. by-test (journalFull (length journal) place) (λ f. rw (s, f))
+    (λ f. rw (s, f) (reply-same b (requestOf line .reading) (requestCall (requestOf line)) (rw (s, f) at n))))
+    (λ s. rw s)
+
+pub writes-nothing : WritesNothing
+writes-nothing b line journal place k = by-test (sound b)
+    (λ s. ⊎-elim (λ u. never s u) (λ f. same (refuse b Refusal.JournalFull) (call-full b line journal place s f)) k)
+    (λ s. same (refuseUnsound b) (call-unsound b line journal place s))
+  where
+    same : (r : Reply) → lineCall b line journal place ≡ stopped r journal place
+        → (lineCall b line journal place .journal ≡ journal) × (lineCall b line journal place .place ≡ place)
+    same r e = (ap (λ (o : Outcome). o .journal) e, ap (λ (o : Outcome). o .place) e)
+
+-- ══ The journal ══
+
+written-other : (j : List ℕ) (place i : ℕ) (ls : List Line) → place ≤ length j → (i < place) ⊎ (place + 16 * length ls ≤ i)
+    → getD (written j place ls) i 0 ≡ getD j i 0
+unfolding written
+written-other j place i ls h k = ⊎-elim before after k
+  where
+    size : length (take place j ++ linesBytes ls) ≡ place + length (linesBytes ls)
+    size = omega (arith, length-append (take place j) (linesBytes ls), length-take-le place j h)
+
+    before : i < place → getD (take place j ++ linesBytes ls ++ drop (place + length (linesBytes ls)) j) i 0 ≡ getD j i 0
+    before l =
+        List·getD-append (take place j ++ linesBytes ls) (drop (place + length (linesBytes ls)) j) 0 i (omega (arith, size))
+        ∙ List·getD-append (take place j) (linesBytes ls) 0 i (omega (arith, length-take-le place j h)) ∙ getD-take place j i 0 l
+
+    after : place + 16 * length ls ≤ i → getD (take place j ++ linesBytes ls ++ drop (place + length (linesBytes ls)) j) i 0 ≡ getD j i 0
+    after l =
+        let m = place + length (linesBytes ls) in
+        let n = lines-length ls in
+        let d : i ≡ m + (i - m) = omega arith in
+        let e : i ≡ length (take place j ++ linesBytes ls) + (i - m) = omega (arith, size) in
+        ap (λ x. getD (take place j ++ linesBytes ls ++ drop m j) x 0) e
+        ∙ getD-append-add (take place j ++ linesBytes ls) (drop m j) (i - m) 0 ∙ getD-drop m j (i - m) 0 ∙ ap (λ x. getD j x 0) (sym d)
+
+pub other-bytes-kept : OtherBytesKept
+unfolding lineCall posted
+other-bytes-kept b line journal place i k =
+    by-test (sound b)
+    (λ s. by-test (journalFull (length journal) place) (λ f. rw (s, f))
+    (λ f. rw (s, f) (let q = room (length journal) place f .1 in
+    written-other journal place i (linesFor (requestOf line) (replyTo b (requestOf line))) (omega arith) (rw (s, f) at k))))
+    (λ s. rw s)
+
+-- ══ The image ══
+
+pub reads-back : ReadsBack
+reads-back b f s = image-sound (imageOf b) (record { ok = true; board = b }) (sym (loaded-back b f)) refl s
+
+pub accepted-is-written : AcceptedIsWritten
+accepted-is-written image y h =
+    by-test (loadedOf image .ok)
+    (λ o. by-test (sound (loadedOf image .board))
+    (λ s. ap (λ (k : Loaded). imageOf (k .board)) (image-sound image (loadedOf image) refl o s) ∙ loaded-again image y o)
+    (λ s. never h (ap (λ (k : Loaded). k .ok) (image-unsound image (loadedOf image) refl o s))))
+    (λ o. never h (ap (λ (k : Loaded). k .ok) (image-layout image (loadedOf image) refl o)))
+
+-- an answer that is a refusal has a number
+refused-number : (a : Answer) → refused a ≡ true → refusalOf a ≡ 0 → ⊥
+refused-number Answer.Admit h e = never {t = false} h refl
+refused-number Answer.Held h e = never {t = false} h refl
+refused-number Answer.Given h e = never {t = false} h refl
+refused-number Answer.Wait h e = never {t = false} h refl
+refused-number Answer.Unsafe h e = never {t = false} h refl
+refused-number Answer.Done h e = never {t = false} h refl
+refused-number (Answer.Refuse r) h e = never (eq-eqb (number r) 0 e) (number-some r)
+
+module _ (image line journal : List ℕ) (place : ℕ) where
+  kept : (b : Board) → refused (lineCall b line journal place .reply .answer) ≡ true → hostedBy image (lineCall b line journal place) .image ≡ image
+  kept b h = image-kept (refusalOf (lineCall b line journal place .reply .answer)) image _
+      (refused-number (lineCall b line journal place .reply .answer) h)
+
+  unsound-refused : (b : Board) → sound b ≡ false → refused (lineCall b line journal place .reply .answer) ≡ true
+  unfolding lineCall refuseUnsound
+  unsound-refused b s = rw s
+
+pub refused-keeps-image : RefusedKeepsImage
+unfolding hostCall
+refused-keeps-image image line journal place h =
+    by-test (loadedOf image .ok)
+    (λ o. rw o (by-test (sound (loadedOf image .board))
+    (λ s. let e = image-sound image (loadedOf image) refl o s in ⊎-elim
+    (λ u. never (ap (λ (k : Loaded). k .ok) e ∙ o) u)
+    (λ u. kept image line journal place (loadedOf image .board)
+    (ap (λ (k : Loaded). refused (lineCall (k .board) line journal place .reply .answer)) (sym e) ∙ u)) h)
+    (λ s. kept image line journal place (loadedOf image .board) (unsound-refused image line journal place (loadedOf image .board) s))))
+    (λ o. rw o)

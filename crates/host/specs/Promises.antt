@@ -1,0 +1,74 @@
+-- What demands 1 and 2 say of a line call and of a C host's call, as types. proofs/Promises.antt proves each.
+-- Assumes nothing.
+use Prim.Native.Nat.{ℕ, _+_, _≤_, _<_}
+use mathlib.Core.Path.{_≡_}
+use mathlib.Core.Logic.{_⊎_}
+use mathlib.Core.Bool.{true, false}
+use mathlib.Core.List.{List, [], _∷_}
+use lib.ListN.{length, getD}
+use Rattle.rules.specs.declared.Board.{Board}
+use Rattle.rules.specs.declared.Refusal.{Refusal}
+use Rattle.rules.specs.Soundness.{sound}
+use Rattle.rules.specs.Replies.{number, refused, refuse}
+use Rattle.rules.specs.Calls.{Call, direct}
+use Rattle.request.specs.declared.Reading.{Reading}
+use Rattle.request.specs.Requests.{requestOf, lineOf}
+use Rattle.request.specs.Law.{InRange, IsLabel}
+use Rattle.journal.specs.Journal.{written}
+use Rattle.image.specs.Image.{imageOf}
+use Rattle.image.specs.Law.{BoardOfCode, Bytes}
+use Rattle.host.specs.Host.{journalFull, refuseLine, lineCall, readImage, hostCall}
+
+-- ══ Lines ══
+
+-- "Line calls ..: demand 2 has each do what the direct call with its line's numbers does": the line that asks for c, with any label
+abbrev pub LineDoesItsCall : Type 0
+LineDoesItsCall = (b : Board) (c : Call) (label journal : List ℕ) (place : ℕ) → InRange c → IsLabel label
+    → journalFull (length journal) place ≡ false → lineCall b (lineOf c label) journal place .reply ≡ direct b c
+
+-- ".. or leave the board as it was": a line that isn't taken gets its refusal, with the order of the unchanged board, and one REFUSE line
+abbrev pub LineRefused : Type 0
+LineRefused = (b : Board) (line journal : List ℕ) (place : ℕ) (r : Refusal) → sound b ≡ true → journalFull (length journal) place ≡ false
+    → requestOf line .reading ≡ Reading.Refused r
+    → lineCall b line journal place ≡ record {
+      reply = refuse b r;
+      place = place + 16;
+      journal = written journal place (refuseLine (requestOf line) (number r) ∷ []);
+    }
+
+-- ══ Refused calls ══
+
+-- "The board stays equal to the one handed in."
+abbrev pub RefusedKeepsBoard : Type 0
+RefusedKeepsBoard = (b : Board) (line journal : List ℕ) (place : ℕ)
+    → refused (lineCall b line journal place .reply .answer) ≡ true → lineCall b line journal place .reply .board ≡ b
+
+-- "Refusals 1 and 2 write nothing and keep the place"
+abbrev pub WritesNothing : Type 0
+WritesNothing = (b : Board) (line journal : List ℕ) (place : ℕ)
+    → (sound b ≡ false) ⊎ (journalFull (length journal) place ≡ true)
+    → (lineCall b line journal place .journal ≡ journal) × (lineCall b line journal place .place ≡ place)
+
+-- ══ The journal ══
+
+-- "other bytes keep their contents": those before the place and from the new place on
+abbrev pub OtherBytesKept : Type 0
+OtherBytesKept = (b : Board) (line journal : List ℕ) (place i : ℕ)
+    → (i < place) ⊎ (lineCall b line journal place .place ≤ i)
+    → getD (lineCall b line journal place .journal) i 0 ≡ getD journal i 0
+
+-- ══ The image ══
+
+-- "A sound board written to bytes reads back equal"
+abbrev pub ReadsBack : Type 0
+ReadsBack = (b : Board) → BoardOfCode b → sound b ≡ true → readImage (imageOf b) ≡ record { ok = true; board = b }
+
+-- "an accepted image is the one that writing gives"
+abbrev pub AcceptedIsWritten : Type 0
+AcceptedIsWritten = (image : List ℕ) → Bytes image → readImage image .ok ≡ true → imageOf (readImage image .board) ≡ image
+
+-- "on a refusal the same bytes as before": the C host's image, where the answer is that of refusal 1 or 2, or the call is refused
+abbrev pub RefusedKeepsImage : Type 0
+RefusedKeepsImage = (image line journal : List ℕ) (place : ℕ)
+    → (readImage image .ok ≡ false) ⊎ (refused (lineCall (readImage image .board) line journal place .reply .answer) ≡ true)
+    → hostCall image line journal place .image ≡ image
