@@ -66,6 +66,44 @@ pub fn lengths() {
     length(1156);
 }
 
+// Asks for the empty board's image in a buffer of 170s.
+fn begin_in(image: &mut [u8], zeros: &[u8]) {
+    show::text(b"image of ");
+    show::number(image.len() as u64);
+    show::text(b" bytes: ");
+    let answer = host::lock_board_empty(image);
+    show::host_answer(answer);
+    if show::others_kept(image, 0, 0) {
+        show::text(b", image kept\n");
+        return;
+    }
+    if show::same(image, zeros) {
+        show::text(b", the empty board\n");
+        return;
+    }
+    show::text(b", IMAGE CHANGED\n");
+}
+
+// A buffer of some length, to begin with.
+fn begin(n: usize) {
+    let mut image = [170u8; 1156];
+    let zeros = [0u8; 1156];
+    if 1156 < n {
+        return;
+    }
+    begin_in(&mut image[..n], &zeros[..n]);
+}
+
+// The empty board's image, into buffers of lengths below, at and above 1,155.
+pub fn beginnings() {
+    show::text(b"\nThe image of the empty board, 1,155 zeros, into a buffer of 170s\n");
+    begin(0);
+    begin(1);
+    begin(1154);
+    begin(1155);
+    begin(1156);
+}
+
 // One request of a host.
 fn request(image: &mut [u8; 1155], line: &[u8]) {
     let mut journal = [170u8; 512];

@@ -2,6 +2,7 @@
 mod ask;
 mod damages;
 mod images;
+mod labels;
 mod long;
 mod places;
 mod requests;
@@ -26,6 +27,8 @@ fn main() {
     places::all();
     requests::all();
     long::all();
+    labels::all();
+    images::beginnings();
     images::lengths();
     damages::all();
 }

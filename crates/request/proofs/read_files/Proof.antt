@@ -53,7 +53,8 @@ returns-4 c =
           (c .before .before .before .before .before .before .before .before .if1 .left),
       not-false (c .before .before .before .before .before .before .before .read-group2 .result .good)
           (c .before .before .before .before .before .if2 .left),
-      not-false (c .before .before .before .before .before .before .before .before .before .before .read-group .result .rising) (c .before .before .before .if3 .left),
+      not-false (c .before .before .before .before .before .before .before .before .before .before .read-group .result .rising)
+          (c .before .before .before .if3 .left),
       not-true (c .before .before .before .before .before .before .before .read-group2 .result .rising) (c .before .if4 .taken),
     ))
 
@@ -65,7 +66,8 @@ returns-5 c =
       ← c .before .before .before .before .before .before .before .before .before .before .before .read-group .ensures,
       ← c .before .before .before .before .before .before .before .before .read-group2 .ensures,
       not-false (c .before .before .before .before .before .before .before .before .before .before .before .read-group .result .good) (c .before .before .before .before .before .before .before .before .before .if1 .left),
-      not-false (c .before .before .before .before .before .before .before .before .read-group2 .result .good) (c .before .before .before .before .before .before .if2 .left),
+      not-false (c .before .before .before .before .before .before .before .before .read-group2 .result .good)
+          (c .before .before .before .before .before .before .if2 .left),
       not-false (c .before .before .before .before .before .before .before .before .before .before .before .read-group .result .rising) (c .before .before .before .before .if3 .left),
       not-false (c .before .before .before .before .before .before .before .before .read-group2 .result .rising) (c .before .before .if4 .left),
     ))

@@ -52,9 +52,14 @@ returns-5 c = rw (
   sym
       (c .before .before .before .before .before .before .before .before .before .before .before .programs-sound .ensures)
       ∙ not-false (c .before .before .before .before .before .before .before .before .before .before .before .programs-sound .result) (c .before .before .before .before .before .before .before .before .before .before .if1 .left),
-  sym (c .before .before .before .before .before .before .before .before .before .no-conflict .ensures) ∙ not-false (c .before .before .before .before .before .before .before .before .before .no-conflict .result) (c .before .before .before .before .before .before .before .before .if2 .left),
-  sym (c .before .before .before .before .before .before .before .has-order .ensures) ∙ not-false (c .before .before .before .before .before .before .before .has-order .result) (c .before .before .before .before .before .before .if3 .left),
-  sym (c .before .before .before .before .line-sound .ensures) ∙ not-false (c .before .before .before .before .line-sound .result) (c .before .before .before .if4 .left),
+  sym (c .before .before .before .before .before .before .before .before .before .no-conflict .ensures)
+      ∙ not-false (c .before .before .before .before .before .before .before .before .before .no-conflict .result)
+      (c .before .before .before .before .before .before .before .before .if2 .left),
+  sym (c .before .before .before .before .before .before .before .has-order .ensures)
+      ∙ not-false (c .before .before .before .before .before .before .before .has-order .result)
+      (c .before .before .before .before .before .before .if3 .left),
+  sym (c .before .before .before .before .line-sound .ensures)
+      ∙ not-false (c .before .before .before .before .line-sound .result) (c .before .before .before .if4 .left),
   sym (c .before .line-sound2 .ensures) ∙ not-true (c .before .line-sound2 .result) (c .if5 .taken),
 )
 
@@ -69,9 +74,14 @@ unfolding sound
 returns-6 c = rw (
   sym
       (c .before .before .before .before .before .before .before .before .before .before .before .before .before .programs-sound .ensures) ∙ not-false (c .before .before .before .before .before .before .before .before .before .before .before .before .before .programs-sound .result) (c .before .before .before .before .before .before .before .before .before .before .before .before .if1 .left),
-  sym (c .before .before .before .before .before .before .before .before .before .before .before .no-conflict .ensures) ∙ not-false (c .before .before .before .before .before .before .before .before .before .before .before .no-conflict .result) (c .before .before .before .before .before .before .before .before .before .before .if2 .left),
-  sym (c .before .before .before .before .before .before .before .before .before .has-order .ensures) ∙ not-false (c .before .before .before .before .before .before .before .before .before .has-order .result) (c .before .before .before .before .before .before .before .before .if3 .left),
-  sym (c .before .before .before .before .before .before .line-sound .ensures) ∙ not-false (c .before .before .before .before .before .before .line-sound .result) (c .before .before .before .before .before .if4 .left),
+  sym (c .before .before .before .before .before .before .before .before .before .before .before .no-conflict .ensures)
+      ∙ not-false (c .before .before .before .before .before .before .before .before .before .before .before .no-conflict .result) (c .before .before .before .before .before .before .before .before .before .before .if2 .left),
+  sym (c .before .before .before .before .before .before .before .before .before .has-order .ensures)
+      ∙ not-false (c .before .before .before .before .before .before .before .before .before .has-order .result)
+      (c .before .before .before .before .before .before .before .before .if3 .left),
+  sym (c .before .before .before .before .before .before .line-sound .ensures)
+      ∙ not-false (c .before .before .before .before .before .before .line-sound .result)
+      (c .before .before .before .before .before .if4 .left),
   sym (c .before .before .before .line-sound2 .ensures) ∙ not-false (c .before .before .before .line-sound2 .result) (c .before .before .if5 .left),
   sym (c .before .waiters-sound .ensures) ∙ not-true (c .before .waiters-sound .result) (c .if6 .taken),
 )
@@ -82,10 +92,16 @@ returns-7 c = rw (
   sym
       (c .before .before .before .before .before .before .before .before .before .before .before .before .before .before .before .before .programs-sound .ensures) ∙ not-false (c .before .before .before .before .before .before .before .before .before .before .before .before .before .before .before .before .programs-sound .result) (c .before .before .before .before .before .before .before .before .before .before .before .before .before .before .before .if1 .left),
   sym (c .before .before .before .before .before .before .before .before .before .before .before .before .before .before .no-conflict .ensures) ∙ not-false (c .before .before .before .before .before .before .before .before .before .before .before .before .before .before .no-conflict .result) (c .before .before .before .before .before .before .before .before .before .before .before .before .before .if2 .left),
-  sym (c .before .before .before .before .before .before .before .before .before .before .before .before .has-order .ensures) ∙ not-false (c .before .before .before .before .before .before .before .before .before .before .before .before .has-order .result) (c .before .before .before .before .before .before .before .before .before .before .before .if3 .left),
-  sym (c .before .before .before .before .before .before .before .before .before .line-sound .ensures) ∙ not-false (c .before .before .before .before .before .before .before .before .before .line-sound .result) (c .before .before .before .before .before .before .before .before .if4 .left),
-  sym (c .before .before .before .before .before .before .line-sound2 .ensures) ∙ not-false (c .before .before .before .before .before .before .line-sound2 .result) (c .before .before .before .before .before .if5 .left),
-  sym (c .before .before .before .before .waiters-sound .ensures) ∙ not-false (c .before .before .before .before .waiters-sound .result) (c .before .before .before .if6 .left),
+  sym (c .before .before .before .before .before .before .before .before .before .before .before .before .has-order .ensures)
+      ∙ not-false (c .before .before .before .before .before .before .before .before .before .before .before .before .has-order .result) (c .before .before .before .before .before .before .before .before .before .before .before .if3 .left),
+  sym (c .before .before .before .before .before .before .before .before .before .line-sound .ensures)
+      ∙ not-false (c .before .before .before .before .before .before .before .before .before .line-sound .result)
+      (c .before .before .before .before .before .before .before .before .if4 .left),
+  sym (c .before .before .before .before .before .before .line-sound2 .ensures)
+      ∙ not-false (c .before .before .before .before .before .before .line-sound2 .result)
+      (c .before .before .before .before .before .if5 .left),
+  sym (c .before .before .before .before .waiters-sound .ensures)
+      ∙ not-false (c .before .before .before .before .waiters-sound .result) (c .before .before .before .if6 .left),
   eq-eqb (c .before .before .before .before .before .before .before .before .before .before .before .before .before .before .before .before .before .args .b .favoured) 0 (c .before .if7 .taken),
 ) (c .none-favoured .ensures)
 
@@ -95,10 +111,16 @@ returns-8 c = rw (
   sym
       (c .before .before .before .before .before .before .before .before .before .before .before .before .before .before .before .before .programs-sound .ensures) ∙ not-false (c .before .before .before .before .before .before .before .before .before .before .before .before .before .before .before .before .programs-sound .result) (c .before .before .before .before .before .before .before .before .before .before .before .before .before .before .before .if1 .left),
   sym (c .before .before .before .before .before .before .before .before .before .before .before .before .before .before .no-conflict .ensures) ∙ not-false (c .before .before .before .before .before .before .before .before .before .before .before .before .before .before .no-conflict .result) (c .before .before .before .before .before .before .before .before .before .before .before .before .before .if2 .left),
-  sym (c .before .before .before .before .before .before .before .before .before .before .before .before .has-order .ensures) ∙ not-false (c .before .before .before .before .before .before .before .before .before .before .before .before .has-order .result) (c .before .before .before .before .before .before .before .before .before .before .before .if3 .left),
-  sym (c .before .before .before .before .before .before .before .before .before .line-sound .ensures) ∙ not-false (c .before .before .before .before .before .before .before .before .before .line-sound .result) (c .before .before .before .before .before .before .before .before .if4 .left),
-  sym (c .before .before .before .before .before .before .line-sound2 .ensures) ∙ not-false (c .before .before .before .before .before .before .line-sound2 .result) (c .before .before .before .before .before .if5 .left),
-  sym (c .before .before .before .before .waiters-sound .ensures) ∙ not-false (c .before .before .before .before .waiters-sound .result) (c .before .before .before .if6 .left),
+  sym (c .before .before .before .before .before .before .before .before .before .before .before .before .has-order .ensures)
+      ∙ not-false (c .before .before .before .before .before .before .before .before .before .before .before .before .has-order .result) (c .before .before .before .before .before .before .before .before .before .before .before .if3 .left),
+  sym (c .before .before .before .before .before .before .before .before .before .line-sound .ensures)
+      ∙ not-false (c .before .before .before .before .before .before .before .before .before .line-sound .result)
+      (c .before .before .before .before .before .before .before .before .if4 .left),
+  sym (c .before .before .before .before .before .before .line-sound2 .ensures)
+      ∙ not-false (c .before .before .before .before .before .before .line-sound2 .result)
+      (c .before .before .before .before .before .if5 .left),
+  sym (c .before .before .before .before .waiters-sound .ensures)
+      ∙ not-false (c .before .before .before .before .waiters-sound .result) (c .before .before .before .if6 .left),
   ne-eqb (c .before .before .before .before .before .before .before .before .before .before .before .before .before .before .before .before .before .args .b .favoured) 0 (c .before .if7 .left),
 ) (c .some-favoured .ensures)
 

@@ -10,25 +10,8 @@ Inv-loop f number m₀ i₀ m i = 0 ≤ i
 abbrev μ-loop : tie.MeasureT-loop
 μ-loop f number m₀ i₀ m i = f .places - i
 
-loop-holds : tie.Need-loop-holds Inv-loop μ-loop
-loop-holds c = search needs
-
-with-program-requires : tie.Need-with-program-requires Inv-loop μ-loop
-with-program-requires c κs = search needs
-
-add-i : tie.Need-add-i Inv-loop μ-loop
-add-i c = search needs
-
-loop-less : tie.Need-loop-less Inv-loop μ-loop
-loop-less c = search needs
-
-loop-again : tie.Need-loop-again Inv-loop μ-loop
-loop-again c = search needs
-
-returns : tie.Need-returns Inv-loop μ-loop
-returns c = search needs
-
 pub board-of-spec : {M : Type 1} → statement M
 board-of-spec =
     tie.close
-    (tie.spec Inv-loop μ-loop loop-holds with-program-requires add-i loop-less loop-again returns)
+    (tie.spec Inv-loop μ-loop (λ c. search needs) (λ c κs. search needs) (λ c. search needs) (λ c. search needs)
+    (λ c. search needs) (λ c. search needs))

@@ -10,25 +10,8 @@ Inv-loop a i set₀ j₀ set j = 0 ≤ j
 abbrev μ-loop : tie.MeasureT-loop
 μ-loop a i set₀ j₀ set j = a .count - j
 
-loop-holds : tie.Need-loop-holds Inv-loop μ-loop
-loop-holds c = search needs
-
-back-bit-requires : tie.Need-back-bit-requires Inv-loop μ-loop
-back-bit-requires c κs = search needs
-
-add-j : tie.Need-add-j Inv-loop μ-loop
-add-j c = search needs
-
-loop-less : tie.Need-loop-less Inv-loop μ-loop
-loop-less c = search needs
-
-loop-again : tie.Need-loop-again Inv-loop μ-loop
-loop-again c = search needs
-
-returns : tie.Need-returns Inv-loop μ-loop
-returns c = search needs
-
 pub held-back-by-spec : {M : Type 1} → statement M
 held-back-by-spec =
     tie.close
-    (tie.spec Inv-loop μ-loop loop-holds back-bit-requires add-j loop-less loop-again returns)
+    (tie.spec Inv-loop μ-loop (λ c. search needs) (λ c κs. search needs) (λ c. search needs) (λ c. search needs)
+    (λ c. search needs) (λ c. search needs))
