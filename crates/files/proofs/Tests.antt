@@ -1,12 +1,18 @@
--- Cases of a test, and what follows from two tests together.
+-- Cases of a test and of an option, and what follows from two tests together.
 -- Assumes nothing.
 use mathlib.Core.Path.{_≡_, refl, sym, _∙_}
+use mathlib.Core.Option.{Option, none, some}
 use mathlib.Core.Bool.{Bool, true, false, not, _&&_, _||_, false≢true}
 
 -- a Bool is one of the two, with the equation kept
 pub by-test {ℓ} : {C : Type ℓ} (t : Bool) → (t ≡ true → C) → (t ≡ false → C) → C
 by-test true f g = f refl
 by-test false f g = g refl
+
+-- an option is one of the two, with the equation kept
+pub by-option {ℓ} : {A : Type 0} {C : Type ℓ} (o : Option A) → (o ≡ none → C) → ((x : A) → o ≡ some x → C) → C
+by-option none f g = f refl
+by-option (some x) f g = g x refl
 
 -- nothing is both
 pub never {ℓ} : {C : Type ℓ} {t : Bool} → t ≡ true → t ≡ false → C
@@ -51,3 +57,15 @@ not-of false e = sym e
 -- tests that imply each other are equal
 pub same-test : (a b : Bool) → (a ≡ true → b ≡ true) → (b ≡ true → a ≡ true) → a ≡ b
 same-test a b f g = by-test a (λ e. e ∙ sym (f e)) (λ e. by-test b (λ d. never (g d) e) (λ d. e ∙ sym d))
+
+pub or-true : (t : Bool) → t || true ≡ true
+or-true true = refl
+or-true false = refl
+
+pub and-false : (t : Bool) → t && false ≡ false
+and-false true = refl
+and-false false = refl
+
+pub and-true : (t : Bool) → t && true ≡ t
+and-true true = refl
+and-true false = refl

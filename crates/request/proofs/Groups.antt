@@ -12,7 +12,7 @@ use lib.Bits.{bitAnd, and-comm, or-lt}
 use native.Mathlib.Omega.{arith}
 use native.Mathlib.Nat.{div-eq-of-lt}
 use borrow.Author.Tests.{lt-ltb, ltb-true, leb-true, leb-false, eq-eqb, ne-eqb, eqb-true, eqb-false}
-use Rattle.files.proofs.Tests.{by-test, never}
+use Rattle.files.proofs.Tests.{by-test, by-option, never, or-true, and-false}
 use Rattle.columns.specs.Columns.{columnsOf, flat, numberOf}
 use Rattle.columns.proofs.Laws.{number-is, number-columns}
 use Rattle.files.specs.declared.FileSet.{FileSet}
@@ -21,7 +21,7 @@ use Rattle.files.proofs.Bits.{is-number, far-number, least, most}
 use Rattle.files.proofs.Laws.{none-member, adding-same, adding-other, set-same}
 use Rattle.rules.specs.Lists.{any, keep, rising, listed}
 use Rattle.request.specs.Requests.{filesIn, risesFrom, rises, addingAll, setOf, filesOf, filesColumns}
-use Rattle.request.proofs.Laws.{field-cases, by-option}
+use Rattle.request.proofs.Laws.{field-cases}
 
 -- ---- lists of files
 
@@ -29,14 +29,6 @@ use Rattle.request.proofs.Laws.{field-cases, by-option}
 abbrev pub Files : List ℕ → Type 0
 Files [] = Unit {0}
 Files (f ∷ fs) = (1 ≤ f) × (f ≤ 64) × Files fs
-
-or-true : (a : Bool) → (a || true) ≡ true
-or-true true = refl
-or-true false = refl
-
-and-false : (a : Bool) → (a && false) ≡ false
-and-false true = refl
-and-false false = refl
 
 -- a set with these files has each of them, and what it had
 all-members : (s : FileSet) (fs : List ℕ) (g : ℕ) → Files fs → member (addingAll s fs) g ≡ (member s g || listed g fs)

@@ -11,7 +11,7 @@ use native.Mathlib.Omega.{arith}
 use native.Mathlib.Numerals.{add-one}
 use native.Mathlib.Nat.{add-sub-cancel-left}
 use borrow.Author.Tests.{le-leb, lt-leb, le-ltb, lt-ltb, ltb-false, eq-eqb, ne-eqb}
-use Rattle.files.proofs.Tests.{by-test, never}
+use Rattle.files.proofs.Tests.{by-test, by-option, never, and-true}
 use Rattle.columns.specs.declared.Field.{Field}
 use Rattle.columns.specs.Columns.{numberOf}
 use Rattle.columns.proofs.Laws.{number-is}
@@ -111,10 +111,6 @@ pub field-cases : {P : Type 0} (f : Field) → (f ≡ Field.Bad → P) → ((n :
 field-cases Field.Bad b g = b refl
 field-cases (Field.Number n) b g = g n refl
 
-pub by-option : {A P : Type 0} (o : Option A) → (o ≡ none → P) → ((x : A) → o ≡ some x → P) → P
-by-option none b g = b refl
-by-option (some x) b g = g x refl
-
 -- a group that is bad stays so
 stays-bad : (n : ℕ) (l : List ℕ) (g : Group) → g .good ≡ false → groupFrom n l g .good ≡ false
 unfolding groupFrom
@@ -166,10 +162,6 @@ group-some (suc n) l g fs h =
       rising = i .rising ∙ swap-and (ltb (g .last) f) (risesFrom f ks) (g .rising);
       files = i .files;
     })))
-
-and-true : (a : Bool) → (a && true) ≡ a
-and-true true = refl
-and-true false = refl
 
 both : {A : Type 0} (a b : Bool) (x y : A) → cond (a && b) x y ≡ cond a (cond b x y) y
 both true b x y = refl

@@ -9,7 +9,7 @@ use lib.ListN.{length, take, drop, replicate, length-append, length-take, length
 use lib.Seq.{take-at, drop-at, drop-drop, take-all}
 use native.Mathlib.Omega.{arith}
 use borrow.Author.Tests.{eqb-true}
-use Rattle.files.proofs.Tests.{by-test, never}
+use Rattle.files.proofs.Tests.{by-test, by-option, never}
 use Rattle.columns.specs.declared.Field.{Field}
 use Rattle.columns.specs.Columns.{columnsOf, numberOf}
 use Rattle.columns.proofs.Laws.{number-is, number-columns}
@@ -25,7 +25,7 @@ use Rattle.request.specs.Requests.{refused, taken, requestCall, verbColu
 use Rattle.request.specs.Requests.{filesIn, rises, setOf, enterFiles, enterCounts, enterOf, fileOf, leaveOf, requestOf}
 use Rattle.request.specs.Requests.{isEntry, labelOf, filesOf, filesColumns, lineOf}
 use Rattle.request.specs.Law.{IsLabel, InRange, saying, TakenWith, AsksFor, LineLaw, SayingLaw, LabelLaw}
-use Rattle.request.proofs.Laws.{field-cases, by-option, enter-good, counts-good, file-good, leave-good}
+use Rattle.request.proofs.Laws.{field-cases, enter-good, counts-good, file-good, leave-good}
 use Rattle.request.proofs.Groups.{set-bits, files-files, files-rise, files-length, set-back, list-back, flat-length, columns-back, files-read}
 
 -- ---- a line that asks for a call is read as this call

@@ -7,7 +7,7 @@ use mathlib.Core.Option.{Option, none, some}
 use lib.Dec.{eqb, leb, ltb}
 use lib.ListN.{length, take, drop}
 use Rattle.columns.specs.declared.Field.{Field}
-use Rattle.columns.specs.Columns.{columnsOf, flat, numberOf, withNumber}
+use Rattle.columns.specs.Columns.{columnsOf, flat, numberOf, onNumber}
 use Rattle.files.specs.declared.FileSet.{FileSet}
 use Rattle.files.specs.Sets.{noFiles, member, adding}
 use Rattle.rules.specs.declared.Refusal.{Refusal}
@@ -75,7 +75,7 @@ labelPart l = take 8 (drop 9 l)
 -- the numbers of n files, three columns each; none if one of them isn't a file's number
 unfoldable pub filesIn : ℕ → List ℕ → Option (List ℕ)
 filesIn zero l = some []
-filesIn (suc n) l = withNumber (numberOf 1 64 (take 3 l)) none (λ f. withFound (filesIn n (drop 3 l)) none (λ fs. some (f ∷ fs)))
+filesIn (suc n) l = onNumber (numberOf 1 64 (take 3 l)) none (λ f. withFound (filesIn n (drop 3 l)) none (λ fs. some (f ∷ fs)))
 
 -- the numbers rise strictly, from above n
 unfoldable pub risesFrom : ℕ → List ℕ → Bool
@@ -107,23 +107,23 @@ enterFiles l p w r =
 -- ENTER, after the label: the counts w and r, then the length
 unfoldable pub enterCounts : List ℕ → ℕ → Request
 enterCounts l p =
-    withNumber (numberAt 17 0 64 l) (refused Refusal.BadNumber) (λ w.
-    withNumber (numberAt 20 0 64 l) (refused Refusal.BadNumber) (λ r.
+    onNumber (numberAt 17 0 64 l) (refused Refusal.BadNumber) (λ w.
+    onNumber (numberAt 20 0 64 l) (refused Refusal.BadNumber) (λ r.
     cond (eqb (length l) (23 + 3 * (w + r))) (enterFiles l p w r) (refused Refusal.BadLength)))
 
 -- ENTER "is read left to right: program, label, w, r, then the length, then the files"
 unfoldable pub enterOf : List ℕ → Request
 enterOf l =
     cond (ltb (length l) 23) (refused Refusal.BadLength)
-    (withNumber (programAt l) (refused Refusal.BadNumber) (λ p.
+    (onNumber (programAt l) (refused Refusal.BadNumber) (λ p.
     cond (all labelByte (labelPart l)) (enterCounts l p) (refused Refusal.BadLabel)))
 
 -- "OPEN, CLOSE, DROP: columns 10–12 file."
 unfoldable pub fileOf : Verb → List ℕ → Request
 fileOf v l =
     cond (eqb (length l) 12)
-    (withNumber (programAt l) (refused Refusal.BadNumber) (λ p.
-    withNumber (numberAt 9 1 64 l) (refused Refusal.BadNumber) (λ f.
+    (onNumber (programAt l) (refused Refusal.BadNumber) (λ p.
+    onNumber (numberAt 9 1 64 l) (refused Refusal.BadNumber) (λ f.
     taken v p f noFiles noFiles)))
     (refused Refusal.BadLength)
 
@@ -131,7 +131,7 @@ fileOf v l =
 unfoldable pub leaveOf : List ℕ → Request
 leaveOf l =
     cond (eqb (length l) 9)
-    (withNumber (programAt l) (refused Refusal.BadNumber) (λ p. taken Verb.Leave p 0 noFiles noFiles))
+    (onNumber (programAt l) (refused Refusal.BadNumber) (λ p. taken Verb.Leave p 0 noFiles noFiles))
     (refused Refusal.BadLength)
 
 -- what a line says, or the first of refusals 3 to 7 that applies

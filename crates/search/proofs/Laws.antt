@@ -14,7 +14,7 @@ use lib.Dec.{eqb, leb}
 use lib.ListN.{getD, set, take, drop, replicate, take-append-drop}
 use lib.Seq.{take-suc-set, drop-set-lt, getD-set-same, getD-set-other}
 use borrow.Author.Tests.{eq-eqb, ne-eqb, eqb-true, eqb-false, leb-true, leb-false}
-use Rattle.files.proofs.Tests.{by-test, never, and-left, and-right, and-both, no-true, same-test}
+use Rattle.files.proofs.Tests.{by-test, by-option, never, and-left, and-right, and-both, no-true, same-test, or-true, and-false, and-true}
 use Rattle.files.specs.Bits.{hasBit, isNumber}
 use Rattle.files.proofs.Bits.{zero-has, with-only, share-of, of-share, is-number, has-bit, with-number-same, with-number-other}
 use Rattle.files.proofs.Bits.{without-number-same, without-number-other}
@@ -127,10 +127,6 @@ packed-has t (suc n) i m l h =
 
 -- ---- tests over a range of numbers
 
-or-true : (s : Bool) → (s || true) ≡ true
-or-true true = refl
-or-true false = refl
-
 pub any-of : (t : ℕ → Bool) (n k p : ℕ) → k ≤ p → p < k + n → t p ≡ true → any t (rising n k) ≡ true
 unfolding any rising
 any-of t zero k p l h e = absurd (omega arith)
@@ -160,11 +156,6 @@ first-in t (suc n) k p e =
   where
     some-is : _≡_ {A = Option ℕ} (some k) (some p) → k ≡ p
     some-is e = cc
-
--- an option is one of the two, with the equation kept
-pub by-option {ℓ} : {A : Type 0} {C : Type ℓ} (o : Option A) → (o ≡ none → C) → ((x : A) → o ≡ some x → C) → C
-by-option none f g = f refl
-by-option (some x) f g = g x refl
 
 module _ (s t : ℕ → Bool) where
   pub any-keep : (l : List ℕ) → any t (keep s l) ≡ any (λ x. s x && t x) l
@@ -229,14 +220,6 @@ left-without l p h =
         (λ y. let z : x ≡ p = eqb-true x p y in rw y (and-false (hasProgram l x)
         ∙ sym (ap (hasProgram (withoutProgram l p)) z ∙ without-number-same 32 (l .bits) p)))
         (λ y. let z : x ≢ p = eqb-false x p y in rw y (and-true (hasProgram l x) ∙ sym (without-number-other 32 (l .bits) p x z)))
-      where
-        and-false : (s : Bool) → (s && false) ≡ false
-        and-false true = refl
-        and-false false = refl
-
-        and-true : (s : Bool) → (s && true) ≡ s
-        and-true true = refl
-        and-true false = refl
 
 pub first-is : (b : Board) (rows : List ProgramSet) (l : ProgramSet) → RowsOf b rows
     → first (λ p. not (heldBack b (keep (hasProgram l) everyone) p)) (keep (hasProgram l) everyone) ≡ first (free rows l) everyone

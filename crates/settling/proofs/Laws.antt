@@ -12,7 +12,7 @@ use lib.Dec.{eqb}
 use lib.ListN.{length, getD, set, drop, length-append}
 use lib.Seq.{sets}
 use borrow.Author.Tests.{eq-eqb, ne-eqb, eqb-true, eqb-false}
-use Rattle.files.proofs.Tests.{by-test, never}
+use Rattle.files.proofs.Tests.{by-test, by-option, never}
 use Rattle.rules.specs.declared.Standing.{Standing}
 use Rattle.rules.specs.declared.Program.{Program}
 use Rattle.rules.specs.declared.Board.{Board}
@@ -22,7 +22,7 @@ use Rattle.rules.specs.Lists.{all, first, withFound, names}
 use Rattle.rules.specs.Boards.{at, awaited, awaitedOf, isProgram, isWaiting, setEntry}
 use Rattle.rules.specs.Orders.{withGiven, canGive}
 use Rattle.rules.specs.Settling.{Step, line, still, andThen, unfavour, resume, tryGive, pass, candidate, favour, runHeld, choose, settle}
-use Rattle.theory.specs.Lists.{_∈_, Pairs, NoRepeat, here, by-option, each-all, first-some}
+use Rattle.theory.specs.Lists.{_∈_, Pairs, NoRepeat, here, each-all, first-some}
 use Rattle.theory.specs.Programs.{Is, of-is}
 use Rattle.theory.specs.Loose.{waitsIn, stands, waiting-file, Loose}
 use Rattle.theory.specs.Settling.{pass-passed}

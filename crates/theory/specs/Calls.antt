@@ -133,7 +133,12 @@ enter-may b p v q e =
     let (a, e₁) = if-passed (not (isProgram p)) Refusal.OutOfRange _ e in
     let (s, e₂) = if-passed (not (isAbsent (at b p .standing))) Refusal.NotAbsent _ e₁ in
     let (m, _) = if-passed (meets v q) Refusal.ClaimsMeet Check.Passed e₂ in
-    record { is = is-of p (not-of (isProgram p) a); absent = absent-is (at b p .standing) (not-of (isAbsent (at b p .standing)) s); claims-apart = m }
+    record {
+      is = is-of p (not-of (isProgram p) a);
+      absent = absent-is (at b p .standing)
+          (not-of (isAbsent (at b p .standing)) s);
+      claims-apart = m;
+    }
 
 pub open-may : (b : Board) (p f : ℕ) → openCheck b p f ≡ Check.Passed → OpenMay b p f
 unfolding openCheck
@@ -193,7 +198,8 @@ crowd b p k c w h =
     both = Pairs-append (λ a b. a ≢ b) (names (b .waiting)) (names (b .entry)) (k .waits .once) (k .helds .once)
         (λ x y i j d. apart (stands (b .programs) x) (k .waits .of x i .1) (ap (heldAt (b .programs)) d ∙ k .helds .of y j .1))
 
-done-stepped : (b c : Board) (p f k : ℕ) → Loose c → Is p → waitsIn (c .programs) p ≡ false → heldAt (c .programs) p ≡ false → FavourMore b c k
+done-stepped : (b c : Board) (p f k : ℕ) → Loose c → Is p → waitsIn (c .programs) p ≡ false
+    → heldAt (c .programs) p ≡ false → FavourMore b c k
     → (b .favoured ≢ 0 → awaited c (b .favoured) ≡ awaited b (b .favoured))
     → Stepped b k (record { board = settle c .board; lines = line Word.Done p f ∷ settle c .lines })
 done-stepped b c p f k l i w h x a = record {
@@ -256,7 +262,8 @@ file-put b p x k c w n = let (i, u) = k .fav-waits n in ap (λ (q : Program). aw
     (put-other (b .programs) p (b .favoured) x c i (λ d. never u (ap (waitsIn (b .programs)) d ∙ w)))
 
 free-put : (b : Board) (p : ℕ) (x : Program) → Good b → Is p → isHeld (x .standing) ≡ false → Free (put (b .programs) p x) (b .favoured)
-free-put b p x g c h e i j = put-case (λ q. isHeld (q .standing) ≡ false) (b .programs) p x (g .loose .base .size) c i j (λ _. h) (λ _. g .free e i j)
+free-put b p x g c h e i j = put-case (λ q. isHeld (q .standing) ≡ false) (b .programs) p x (g .loose .base .size) c i j
+    (λ _. h) (λ _. g .free e i j)
 
 one : (k : Line) → (k .word ≡ Word.Favour → ⊥) → NoFavour (k ∷ [])
 one k n j m d = n (ap (λ (q : Line). q .word) (sym (List·Memᴰ·eq-of-singleton m)) ∙ d)
@@ -280,7 +287,8 @@ stepped-reply b c k a ls s = subst (Stepped b k) (sym (reply-step c a ls)) s
 enter-stepped : (b : Board) (p : ℕ) (v q : FileSet) → Good b → EnterMay b p v q → Stepped b 0 (stepOf (enter b p v q))
 enter-stepped b p v q g m = by-test (eqb (b .favoured) 0)
     (λ t. let e = eqb-true (b .favoured) 0 t in let x = newcomer v q Standing.Running in
-    subst (λ r. Stepped b 0 (stepOf r)) (sym (enter-run b p v q e)) (stepped-reply b (setProgram b p x) 0 Answer.Admit (line Word.Admit p 0 ∷ [])
+    subst (λ r. Stepped b 0 (stepOf r)) (sym (enter-run b p v q e)) (stepped-reply b (setProgram b p x) 0 Answer.Admit
+    (line Word.Admit p 0 ∷ [])
     (plain b (setProgram b p x) _
     (record {
       loose = subst (λ w. LooseIn (put (b .programs) p x) (b .waiting) (b .entry) w (b .initial) (b .leaves)) (sym e)
@@ -329,7 +337,8 @@ open-given b p f u v = rw (u, v)
 wait-good : (b : Board) (p f : ℕ) → Good b → OpenMay b p f → can (b .programs) p f ≡ false → Good (wait b p f)
 unfolding wait
 wait-good b p f g m u = record {
-  loose = loose-wait (b .programs) (b .waiting) (b .entry) (b .favoured) (b .initial) (b .leaves) p f (m .is) (m .runs) (m .asked) (g .loose);
+  loose = loose-wait (b .programs) (b .waiting) (b .entry) (b .favoured) (b .initial) (b .leaves) p f (m .is) (m .runs)
+      (m .asked) (g .loose);
   stuck = stuck-wait (b .programs) p f (g .loose .base .size) (m .is) (m .runs) u (g .stuck);
   free = free-put b p (setStanding (at b p) (Standing.Waiting f)) g (m .is) refl;
 }

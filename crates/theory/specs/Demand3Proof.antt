@@ -5,7 +5,7 @@ use native.Mathlib.Omega.{arith}
 use mathlib.Core.Path.{_≡_, refl, sym, _∙_, ap, ap₂, subst}
 use mathlib.Core.Logic.{_↔_, _≢_, _⊎_, inl, inr, ⊎-elim}
 use mathlib.Core.Bool.{true, false}
-use mathlib.Core.List.{List, [], _∷_, _++_}
+use mathlib.Core.List.{List, [], _∷_, _++_, append-nil, append-assoc}
 use lib.ListN.{length}
 use Rattle.files.proofs.Tests.{by-test, never}
 use Rattle.rules.specs.declared.Board.{Board}
@@ -26,7 +26,7 @@ use Rattle.theory.specs.Loose.{stands}
 use Rattle.theory.specs.Settling.{Newly}
 use Rattle.theory.specs.Calls.{stepOf, by-check, FavourMore, EndedIn, Stepped, countIf, none-counted, leavesBy, apply-accepted, apply-stepped}
 use Rattle.theory.specs.Carried.{holdsOn, EveryOrderHeld, unsafe-iff}
-use Rattle.theory.specs.Worked.{append-nil, append-assoc, worked-good, worked-snoc, direct-worked, replies-split, passed-of}
+use Rattle.theory.specs.Worked.{worked-good, worked-snoc, direct-worked, replies-split, passed-of}
 use Rattle.theory.specs.Worked.{order-of-reply, first-runs, favoured-bound}
 use Rattle.theory.specs.Demand3.{replyAfter, Accepted, Waits, ConflictingUse, admittedAfter, acceptedLeave, leavesIn, Favours}
 use Rattle.theory.specs.Demand3.{StandsAt, LastOrder, FavouredBy, GetsFile, Demand3}
@@ -77,7 +77,8 @@ unfolding leavesIn
 leavesIn-snoc xs [] c = rw (append-nil xs) (omega arith)
 leavesIn-snoc xs (y ∷ ys) c =
     let i = leavesIn-snoc (xs ++ (y ∷ [])) ys c in
-    let j : acceptedLeave ((xs ++ (y ∷ [])) ++ ys) c ≡ acceptedLeave (xs ++ (y ∷ ys)) c = ap (λ l. acceptedLeave l c) (append-assoc xs (y ∷ []) ys) in
+    let j : acceptedLeave ((xs ++ (y ∷ [])) ++ ys) c ≡ acceptedLeave (xs ++ (y ∷ ys)) c =
+    ap (λ l. acceptedLeave l c) (append-assoc xs (y ∷ []) ys) in
     omega arith
 
 -- ── Each answer ──
@@ -157,8 +158,10 @@ open-waits xs p f a = subst (λ (r : Reply). Waits (r .answer) ↔ (ConflictingU
 -- ── The favoured program ──
 
 -- The two numbers of the board give the sum.
-sum-of : (xs : List Call) (p n l : ℕ) → p ≢ 0 → worked xs .favoured ≡ p → worked xs .initial ≡ n → worked xs .leaves ≡ l → l + admittedAfter xs ≡ n
-sum-of xs p n l z e i j = let k = worked-good xs .loose .count (λ d. z (sym e ∙ d)) .0 in let q = ap length (admitted-is (worked xs)) in omega arith
+sum-of : (xs : List Call) (p n l : ℕ) → p ≢ 0 → worked xs .favoured ≡ p → worked xs .initial ≡ n → worked xs .leaves ≡ l
+    → l + admittedAfter xs ≡ n
+sum-of xs p n l z e i j = let k = worked-good xs .loose .count (λ d. z (sym e ∙ d)) .0 in let q =
+    ap length (admitted-is (worked xs)) in omega arith
 
 -- The leave that brings the leaves to that number less one is still to come.
 coming : (xs : List Call) (p n l : ℕ) → p ≢ 0 → worked xs .favoured ≡ p → worked xs .initial ≡ n → worked xs .leaves ≡ l → l + 2 ≤ n
@@ -269,7 +272,8 @@ gets-file xs (c ∷ es) p f z e a k = ⊎-elim
       after = r .after;
       split = ap (c ∷_) (r .split);
       given = subst (λ h. line Word.Given p f ∈ settlingLines (replyAfter h (r .call))) (append-assoc xs (c ∷ []) (r .before)) (r .given);
-      wait-over = subst (λ h. isWaiting (at (worked h) p .standing) ≡ false) (append-assoc xs (c ∷ []) (r .before ++ (r .call ∷ []))) (r .wait-over);
+      wait-over = subst (λ h. isWaiting (at (worked h) p .standing) ≡ false) (append-assoc xs (c ∷ [])
+          (r .before ++ (r .call ∷ []))) (r .wait-over);
     })
     (λ (m : EndedIn (worked xs) (stepOf (replyAfter xs c))). record {
       before = [];

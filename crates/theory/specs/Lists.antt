@@ -6,7 +6,7 @@ use mathlib.Core.Path.{_≡_, refl, sym, _∙_, ap, ap₂}
 use mathlib.Core.Logic.{_≢_, ⊎-elim}
 use mathlib.Core.Bool.{Bool, true, false, not, _&&_, _||_}
 use mathlib.Core.Option.{Option, none, some}
-use mathlib.Core.List.{List, [], _∷_, _++_, List·Memᴰ, List·Memᴰ·head, List·Memᴰ·tail, List·Memᴰ·not-nil, List·Memᴰ·append-cases}
+use mathlib.Core.List.{List, [], _∷_, _++_, append-nil, List·Memᴰ, List·Memᴰ·head, List·Memᴰ·tail, List·Memᴰ·not-nil, List·Memᴰ·append-cases}
 use mathlib.Core.List.{List·Memᴰ·eq-of-singleton, Memᴰ·cast}
 use lib.Dec.{eqb}
 use lib.ListN.{length, replicate}
@@ -32,10 +32,6 @@ NoRepeat l = Pairs (λ a b. a ≢ b) l
 pub by-mem : {A C : Type 0} {a x : A} {l : List A} → a ∈ x ∷ l → (a ≡ x → C) → (a ∈ l → C) → C
 by-mem (List·Memᴰ·head e) f g = f e
 by-mem (List·Memᴰ·tail m) f g = g m
-
-pub by-option : {A C : Type 0} (k : Option A) → (k ≡ none → C) → ((a : A) → k ≡ some a → C) → C
-by-option none f g = f refl
-by-option (some a) f g = g a refl
 
 pub here : {A : Type 0} {a : A} {l : List A} → a ∈ a ∷ l
 here = List·Memᴰ·head refl
@@ -80,7 +76,8 @@ module _ {A : Type 0} where
   pub first-none : (t : A → Bool) (l : List A) → first t l ≡ none → (p : A) → p ∈ l → t p ≡ false
   unfolding first
   first-none t [] e p m = absurd (List·Memᴰ·not-nil m)
-  first-none t (q ∷ l) e p m = by-test (t q) (λ u. no-some (sym (rw u at e))) (λ u. by-mem m (λ d. ap t d ∙ u) (first-none t l (rw u at e) p))
+  first-none t (q ∷ l) e p m = by-test (t q) (λ u. no-some (sym (rw u at e)))
+      (λ u. by-mem m (λ d. ap t d ∙ u) (first-none t l (rw u at e) p))
 
 pub found-some : {A : Type 0} (k : Option A) → found k ≡ true → (a : A) × (k ≡ some a)
 found-some none e = never {t = false} e refl
@@ -146,7 +143,8 @@ length-without p (q ∷ l) n m = by-test (eqb q p)
     (λ u. rw u (by-mem m (λ d. absurd (eqb-false q p u (sym d))) (λ k. ap suc (length-without p l (n .1) k))))
 
 -- The members that pass another test, which only p fails of those that passed.
-pub keep-but : (t t′ : ℕ → Bool) (p : ℕ) (l : List ℕ) → t′ p ≡ false → ((a : ℕ) → a ∈ l → a ≢ p → t′ a ≡ t a) → keep t′ l ≡ without p (keep t l)
+pub keep-but : (t t′ : ℕ → Bool) (p : ℕ) (l : List ℕ) → t′ p ≡ false → ((a : ℕ) → a ∈ l → a ≢ p → t′ a ≡ t a)
+    → keep t′ l ≡ without p (keep t l)
 unfolding without keep
 keep-but t t′ p [] e f = refl
 keep-but t t′ p (x ∷ l) e f = let r = keep-but t t′ p l e (λ a m. f a (List·Memᴰ·tail m)) in by-test (eqb x p)
@@ -181,9 +179,14 @@ length-rising (suc n) k = ap suc (length-rising n (suc k))
 pub Pairs-map : {R S : ℕ → ℕ → Type 0} (l : List ℕ) → ((a b : ℕ) → a ∈ l → b ∈ l → R a b → S a b) → Pairs R l → Pairs S l
 unfolding Pairs
 Pairs-map [] f p = tt
-Pairs-map (x ∷ l) f p = (λ b m. f x b here (List·Memᴰ·tail m) (p .0 b m), Pairs-map l (λ a b m k. f a b (List·Memᴰ·tail m) (List·Memᴰ·tail k)) (p .1))
+Pairs-map (x ∷ l) f p = (
+  λ b m. f x b here (List·Memᴰ·tail m) (p .0 b m),
+  Pairs-map l
+      (λ a b m k. f a b (List·Memᴰ·tail m) (List·Memᴰ·tail k)) (p .1),
+)
 
-pub Pairs-map₂ : (R S T : ℕ → ℕ → Type 0) (l : List ℕ) → ((a b : ℕ) → a ∈ l → b ∈ l → R a b → S a b → T a b) → Pairs R l → Pairs S l → Pairs T l
+pub Pairs-map₂ : (R S T : ℕ → ℕ → Type 0) (l : List ℕ) → ((a b : ℕ) → a ∈ l → b ∈ l → R a b → S a b → T a b)
+    → Pairs R l → Pairs S l → Pairs T l
 unfolding Pairs
 Pairs-map₂ R S T [] f p q = tt
 Pairs-map₂ R S T (x ∷ l) f p q = (
@@ -192,7 +195,8 @@ Pairs-map₂ R S T (x ∷ l) f p q = (
       (λ a b m k. f a b (List·Memᴰ·tail m) (List·Memᴰ·tail k)) (p .1) (q .1),
 )
 
-pub Pairs-append : (R : ℕ → ℕ → Type 0) (xs ys : List ℕ) → Pairs R xs → Pairs R ys → ((a b : ℕ) → a ∈ xs → b ∈ ys → R a b) → Pairs R (xs ++ ys)
+pub Pairs-append : (R : ℕ → ℕ → Type 0) (xs ys : List ℕ) → Pairs R xs → Pairs R ys → ((a b : ℕ) → a ∈ xs → b ∈ ys → R a b)
+    → Pairs R (xs ++ ys)
 unfolding Pairs
 Pairs-append R [] ys p q f = q
 Pairs-append R (x ∷ xs) ys p q f = (
@@ -257,7 +261,8 @@ unfolding same
 same-eq [] [] e = refl
 same-eq [] (y ∷ ys) e = never {t = false} e refl
 same-eq (x ∷ xs) [] e = never {t = false} e refl
-same-eq (x ∷ xs) (y ∷ ys) e = ap₂ _∷_ (eqb-true x y (and-left (eqb x y) (same xs ys) e)) (same-eq xs ys (and-right (eqb x y) (same xs ys) e))
+same-eq (x ∷ xs) (y ∷ ys) e = ap₂ _∷_ (eqb-true x y (and-left (eqb x y) (same xs ys) e))
+    (same-eq xs ys (and-right (eqb x y) (same xs ys) e))
 
 pub eq-same : (l m : List ℕ) → l ≡ m → same l m ≡ true
 unfolding same
@@ -283,11 +288,6 @@ unfolding names
 names-append [] m f = refl
 names-append (x ∷ l) m f = rw (ne-eqb x 0 (f x here)) (ap (x ∷_) (names-append l m (λ p k. f p (List·Memᴰ·tail k))))
 
-append-nil : {A : Type 0} (l : List A) → l ++ [] ≡ l
-append-nil [] = refl
-append-nil (x ∷ l) = ap (x ∷_) (append-nil l)
-
--- The names of a line are those that it was given.
 pub names-padded : (l : List ℕ) → ((p : ℕ) → p ∈ l → p ≢ 0) → names (padded 0 l) ≡ l
 unfolding padded
 names-padded l f = names-append l (replicate (32 - length l) 0) f ∙ ap (l ++_) (names-zeros (32 - length l)) ∙ append-nil l

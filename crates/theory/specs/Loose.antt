@@ -145,9 +145,11 @@ pub record Good (b : Board) : Type 0 where
 -- A standing that p has neither before nor after.
 pub test-put : (T : Standing → Bool) (P : Progs) (p : ℕ) (x : Program) → Sized P → Is p → T (x .standing) ≡ T (stands P p)
     → (i : ℕ) → Is i → T (stands (put P p x) i) ≡ T (stands P i)
-test-put T P p x z c e i k = put-case (λ y. T (y .standing) ≡ T (stands P i)) P p x z c i k (λ d. e ∙ ap (λ j. T (stands P j)) (sym d)) (λ n. refl)
+test-put T P p x z c e i k = put-case (λ y. T (y .standing) ≡ T (stands P i)) P p x z c i k
+    (λ d. e ∙ ap (λ j. T (stands P j)) (sym d)) (λ n. refl)
 
-pub test-other : (T : Standing → Bool) (P : Progs) (p : ℕ) (x : Program) → Is p → (i : ℕ) → Is i → i ≢ p → T (stands (put P p x) i) ≡ T (stands P i)
+pub test-other : (T : Standing → Bool) (P : Progs) (p : ℕ) (x : Program) → Is p → (i : ℕ) → Is i → i ≢ p
+    → T (stands (put P p x) i) ≡ T (stands P i)
 test-other T P p x c i k n = ap (λ (y : Program). T (y .standing)) (put-other P p i x c k n)
 
 pub test-same : (T : Standing → Bool) (P : Progs) (p : ℕ) (x : Program) → Sized P → Is p → T (stands (put P p x) p) ≡ T (x .standing)
@@ -162,7 +164,8 @@ loose-shrink P w e fav n l p x c r s d o k = record {
   helds = line-same e _ _ (test-put isHeld P p x z c (ap isHeld s ∙ sym (ap isHeld r))) (k .helds);
   asked = λ y g i u. let m : y ≢ p = (λ q. never {t = false} (sym (ap isWaiting s) ∙ sym (test-same isWaiting P p x z c)
       ∙ ap (λ j. isWaiting (stands (put P p x) j)) (sym q) ∙ ap isWaiting u) refl) in
-      subst (λ q. Asked q g) (sym (put-other P p y x c i m)) (k .asked y g i (ap (λ (q : Program). q .standing) (sym (put-other P p y x c i m)) ∙ u));
+      subst (λ q. Asked q g) (sym (put-other P p y x c i m)) (k .asked y g i (ap (λ (q : Program). q .standing)
+      (sym (put-other P p y x c i m)) ∙ u));
   fav-waits = λ m. let (i, u) = k .fav-waits m in (i, test-put isWaiting P p x z c (ap isWaiting s ∙ sym (ap isWaiting r)) fav i ∙ u);
   count = λ m. let (i, u) = k .count m in (ap (λ q. l + length q) (ins-same P p x z c (ap isAdmitted s ∙ sym (ap isAdmitted r))) ∙ i, u);
   nobody = k .nobody;
@@ -261,7 +264,11 @@ stuck-admit : (P : Progs) (p : ℕ) (x : Program) → Sized P → Is p → isIn 
     → (y g : ℕ) → Is y → y ≢ p → can P y g ≡ false → can (put P p x) y g ≡ false
 stuck-admit P p x z c out d y g i m n = no-true _ (λ t. never (can-mono P (put P p x) y g z (sized-put P p x z) i (put-less P p x z c d)
     (ap (λ (q : Program). q .writable) (sym (put-other P p y x c i m)))
-    (λ h o k. (without p o, subst (λ q. IsOrder h q (without p o)) (sym (ins-before P p x c out)) (order-without h (ins (put P p x)) o p k))) t) n)
+    (λ h o k. (
+      without p o,
+      subst (λ q. IsOrder h q (without p o)) (sym (ins-before P p x c out))
+          (order-without h (ins (put P p x)) o p k),
+    )) t) n)
 
 -- ── Giving a waiter its file ──
 
@@ -282,7 +289,8 @@ module _ (P : Progs) (p f : ℕ) (z : Sized P) (c : Is p) where
   served-size = sized-put (give P p f) p (setStanding (prog (give P p f) p) Standing.Running) given-size
 
   pub served-runs : stands (served P p f) p ≡ Standing.Running
-  served-runs = ap (λ (q : Program). q .standing) (put-same (give P p f) p (setStanding (prog (give P p f) p) Standing.Running) given-size c)
+  served-runs = ap (λ (q : Program). q .standing) (put-same (give P p f) p
+      (setStanding (prog (give P p f) p) Standing.Running) given-size c)
 
   pub served-other : (i : ℕ) → Is i → i ≢ p → prog (served P p f) i ≡ prog P i
   unfolding give
@@ -370,7 +378,8 @@ loose-open P w e fav n l p f c r m u k = record {
   asked = λ y g i v. let m : y ≢ p =
       (λ q. never {t = false} (sym (ap isWaiting (o ∙ r)) ∙ sym (test-same isWaiting P p x z c)
       ∙ ap (λ j. isWaiting (stands (put P p x) j)) (sym q) ∙ ap isWaiting v) refl) in
-      subst (λ q. Asked q g) (sym (put-other P p y x c i m)) (k .asked y g i (ap (λ (q : Program). q .standing) (sym (put-other P p y x c i m)) ∙ v));
+      subst (λ q. Asked q g) (sym (put-other P p y x c i m)) (k .asked y g i (ap (λ (q : Program). q .standing)
+      (sym (put-other P p y x c i m)) ∙ v));
   fav-waits = λ m. let (i, v) = k .fav-waits m in (i, test-put isWaiting P p x z c (ap isWaiting o) fav i ∙ v);
   count = λ m. let (i, v) = k .count m in (ap (λ q. l + length q) (ins-same P p x z c (ap isAdmitted o)) ∙ i, v);
   nobody = k .nobody;
@@ -399,7 +408,8 @@ stuck-open P p f z c r s y g i v =
 
 -- ── Open: the program waits ──
 
-pub loose-wait : (P : Progs) (w e : List ℕ) (fav n l p f : ℕ) → Is p → stands P p ≡ Standing.Running → Asked (prog P p) f → LooseIn P w e fav n l
+pub loose-wait : (P : Progs) (w e : List ℕ) (fav n l p f : ℕ) → Is p → stands P p ≡ Standing.Running
+    → Asked (prog P p) f → LooseIn P w e fav n l
     → LooseIn (put P p (setStanding (prog P p) (Standing.Waiting f))) (padded 0 (names w ++ (p ∷ []))) e fav n l
 loose-wait P w e fav n l p f c r m k = record {
   base = base-shrink P p x c (record { in-v = λ _ u. u; in-q = λ _ u. u; in-w = λ _ u. u; in-r = λ _ u. u })
@@ -416,10 +426,15 @@ loose-wait P w e fav n l p f c r m k = record {
   asked = λ y g i u. by-test (eqb y p)
       (λ t. let d = eqb-true y p t in let q : f ≡ g = same-file f g
       (sym (ap (λ (q : Program). q .standing) (put-same P p x z c)) ∙ ap (stands (put P p x)) (sym d) ∙ u) in
-      put-case (λ q. Asked q g) P p x z c y i (λ _. subst (Asked x) q (record { claimed = m .claimed; shut = m .shut })) (λ v. absurd (v d)))
+      put-case (λ q. Asked q g) P p x z c y i (λ _. subst (Asked x) q (record { claimed = m .claimed; shut = m .shut }))
+      (λ v. absurd (v d)))
       (λ t. let v = eqb-false y p t in subst (λ q. Asked q g) (sym (put-other P p y x c i v))
       (k .asked y g i (ap (λ (q : Program). q .standing) (sym (put-other P p y x c i v)) ∙ u)));
-  fav-waits = λ v. let (i, u) = k .fav-waits v in (i, test-other isWaiting P p x c fav i (λ d. never u (ap (waitsIn P) d ∙ ap isWaiting r)) ∙ u);
+  fav-waits = λ v. let (i, u) = k .fav-waits v in (
+    i,
+    test-other isWaiting P p x c fav i
+        (λ d. never u (ap (waitsIn P) d ∙ ap isWaiting r)) ∙ u,
+  );
   count = λ v. let (i, u) = k .count v in (ap (λ q. l + length q) (ins-same P p x z c (sym (ap isAdmitted r))) ∙ i, u);
   nobody = k .nobody;
 }
@@ -473,7 +488,8 @@ loose-admit P w e e′ n l p x c out a b s o h k = record {
   helds = h;
   asked = λ y g i u. let m : y ≢ p = (λ q. never {t = false} (sym (ap isWaiting s) ∙ sym (test-same isWaiting P p x z c)
       ∙ ap (λ j. isWaiting (stands (put P p x) j)) (sym q) ∙ ap isWaiting u) refl) in
-      subst (λ q. Asked q g) (sym (put-other P p y x c i m)) (k .asked y g i (ap (λ (q : Program). q .standing) (sym (put-other P p y x c i m)) ∙ u));
+      subst (λ q. Asked q g) (sym (put-other P p y x c i m)) (k .asked y g i (ap (λ (q : Program). q .standing)
+      (sym (put-other P p y x c i m)) ∙ u));
   fav-waits = λ m. absurd (m refl);
   count = λ m. absurd (m refl);
   nobody = k .nobody;
@@ -540,7 +556,8 @@ loose-hold P w e fav n l p v q c s m t k = record {
   helds = line-more e _ _ p c (ap isHeld s) (test-same isHeld P p x z c) (test-other isHeld P p x c) (k .helds);
   asked = λ y g i u. let d : y ≢ p = (λ r. never {t = false} (sym (test-same isWaiting P p x z c)
       ∙ ap (λ j. isWaiting (stands (put P p x) j)) (sym r) ∙ ap isWaiting u) refl) in
-      subst (λ r. Asked r g) (sym (put-other P p y x c i d)) (k .asked y g i (ap (λ (r : Program). r .standing) (sym (put-other P p y x c i d)) ∙ u));
+      subst (λ r. Asked r g) (sym (put-other P p y x c i d)) (k .asked y g i (ap (λ (r : Program). r .standing)
+      (sym (put-other P p y x c i d)) ∙ u));
   fav-waits = λ d. let (i, u) = k .fav-waits d in (i, test-put isWaiting P p x z c (sym (ap isWaiting s)) fav i ∙ u);
   count = λ d. let (i, u) = k .count d in (ap (λ h. l + length h) (ins-same P p x z c adm) ∙ i, u);
   nobody = k .nobody;

@@ -11,9 +11,9 @@ use mathlib.Core.List.{Memᴰ·append-right, List·Memᴰ·append-cases, List·M
 use lib.Dec.{eqb}
 use lib.ListN.{length}
 use borrow.Author.Tests.{eqb-true, eqb-false, ne-eqb}
-use Rattle.files.proofs.Tests.{by-test, never, and-right, and-both, no-true, not-true, true-not}
+use Rattle.files.proofs.Tests.{by-test, by-option, never, and-right, and-both, no-true, not-true, true-not}
 use Rattle.rules.specs.Lists.{any, first, withFound, without}
-use Rattle.theory.specs.Lists.{_∈_, Pairs, NoRepeat, by-mem, by-option, here, no-some, some-same, any-some, some-any, first-some}
+use Rattle.theory.specs.Lists.{_∈_, Pairs, NoRepeat, by-mem, here, no-some, some-same, any-some, some-any, first-some}
 use Rattle.theory.specs.Lists.{first-none, without-mem, mem-without, Pairs-without, length-without, Pairs-map₂, Pairs-append}
 use Rattle.theory.specs.Lists.{Pairs-split}
 
@@ -63,10 +63,12 @@ pub order-nil : (h : ℕ → ℕ → Bool) → IsOrder h [] []
 unfolding Pairs
 order-nil h = record { all = λ a m. m; only = λ a m. m; once = tt; clear = tt }
 
-pub order-cons : (h : ℕ → ℕ → Bool) (l o : List ℕ) (p : ℕ) → p ∈ l → not (heldIn h l p) ≡ true → IsOrder h (without p l) o → IsOrder h l (p ∷ o)
+pub order-cons : (h : ℕ → ℕ → Bool) (l o : List ℕ) (p : ℕ) → p ∈ l → not (heldIn h l p) ≡ true
+    → IsOrder h (without p l) o → IsOrder h l (p ∷ o)
 unfolding Pairs
 order-cons h l o p m f c = record {
-  all = λ a k. by-test (eqb a p) (λ t. List·Memᴰ·head (eqb-true a p t)) (λ t. List·Memᴰ·tail (c .all a (mem-without p l a k (eqb-false a p t))));
+  all = λ a k. by-test (eqb a p) (λ t. List·Memᴰ·head (eqb-true a p t))
+      (λ t. List·Memᴰ·tail (c .all a (mem-without p l a k (eqb-false a p t))));
   only = λ a k. by-mem k (λ d. Memᴰ·cast d m) (λ k′. (at a k′) .0);
   once = (λ b k e. (at b k) .1 (sym e), c .once);
   clear = (λ b k. free-clear h l p f b ((at b k) .0) ((at b k) .1), c .clear);
@@ -109,7 +111,8 @@ search-sound h (suc n) l o r k e =
     rw w (order-cons h l o′ p (f .0) (f .1) (search-sound h n (without p l) o′ (Pairs-without _ p l r) (omega arith) v))
 
 -- Where an order exists, one comes back.
-pub search-complete : (h : ℕ → ℕ → Bool) (n : ℕ) (l o : List ℕ) → NoRepeat l → length l ≡ n → IsOrder h l o → (o′ : List ℕ) × (search h n l ≡ some o′)
+pub search-complete : (h : ℕ → ℕ → Bool) (n : ℕ) (l o : List ℕ) → NoRepeat l → length l ≡ n → IsOrder h l o
+    → (o′ : List ℕ) × (search h n l ≡ some o′)
 unfolding search
 search-complete h zero l o r k c = ([], refl)
 search-complete h (suc n) [] o r k c = absurd (omega arith)
@@ -128,7 +131,11 @@ orderIn h l = search h (length l) l
 
 -- It comes back exactly when an order exists, and then it is one.
 pub orderIn-iff : (h : ℕ → ℕ → Bool) (l : List ℕ) → NoRepeat l → ((o : List ℕ) × (orderIn h l ≡ some o)) ↔ ((o : List ℕ) × IsOrder h l o)
-orderIn-iff h l n = (λ r. (r .0, search-sound h (length l) l (r .0) n refl (r .1)), λ r. search-complete h (length l) l (r .0) n refl (r .1))
+orderIn-iff h l n = (
+  λ r. (r .0, search-sound h (length l) l (r .0) n refl (r .1)),
+  λ r. search-complete h (length l) l
+      (r .0) n refl (r .1),
+)
 
 -- A program of the list that a later one holds back.
 pub record HeldLater (h : ℕ → ℕ → Bool) (o : List ℕ) : Type 0 where
@@ -159,7 +166,8 @@ unfolding Pairs
 clear-or-held h [] = inl tt
 clear-or-held h (a ∷ o) = go (some-or-none (λ b. h b a) o) (clear-or-held h o)
   where
-    go : ((b : ℕ) → b ∈ o → h b a ≡ false) ⊎ ((b : ℕ) × (b ∈ o) × (h b a ≡ true)) → Clear h o ⊎ HeldLater h o → Clear h (a ∷ o) ⊎ HeldLater h (a ∷ o)
+    go : ((b : ℕ) → b ∈ o → h b a ≡ false) ⊎ ((b : ℕ) × (b ∈ o) × (h b a ≡ true)) → Clear h o ⊎ HeldLater h o
+        → Clear h (a ∷ o) ⊎ HeldLater h (a ∷ o)
     go (inr r) c = inr (record { before = []; held = a; after = o; split = refl; by = r .0; later = r .1; holds = r .2 })
     go (inl f) (inl c) = inl (f, c)
     go (inl f) (inr r) = inr (record {
@@ -196,7 +204,8 @@ order-below h h′ l o f c = record {
 }
 
 -- The same order for another list with the same members.
-pub order-members : (h : ℕ → ℕ → Bool) (l l′ o : List ℕ) → ((a : ℕ) → a ∈ l′ → a ∈ l) → ((a : ℕ) → a ∈ l → a ∈ l′) → IsOrder h l o → IsOrder h l′ o
+pub order-members : (h : ℕ → ℕ → Bool) (l l′ o : List ℕ) → ((a : ℕ) → a ∈ l′ → a ∈ l) → ((a : ℕ) → a ∈ l → a ∈ l′)
+    → IsOrder h l o → IsOrder h l′ o
 order-members h l l′ o f g c = record { all = λ a m. c .all a (f a m); only = λ a m. g a (c .only a m); once = c .once; clear = c .clear }
 
 -- One more program p, which holds back nobody, at the end.

@@ -11,7 +11,7 @@ use lib.Dec.{eqb, leb}
 use lib.ListN.{length, getD, set, length-set}
 use lib.Seq.{getD-set-same, getD-set-other}
 use borrow.Author.Tests.{eqb-true, eqb-false, ne-eqb, leb-true, le-leb}
-use Rattle.files.proofs.Tests.{by-test, never, or-cases, or-left, or-right, and-left, and-right, and-both, no-true, not-true, true-not}
+use Rattle.files.proofs.Tests.{by-test, by-option, never, or-cases, or-left, or-right, and-left, and-right, and-both, no-true, not-true, true-not}
 use Rattle.files.specs.declared.FileSet.{FileSet}
 use Rattle.files.specs.Sets.{noFiles, member, meets, adding}
 use Rattle.files.proofs.Laws.{_⊑_, meets-mono, meets-sym, meets-at, none-meets, meets-none, adding-⊒, adding-⊑, adding-mono, adding-meets}
@@ -21,7 +21,7 @@ use Rattle.rules.specs.declared.Board.{Board}
 use Rattle.rules.specs.Lists.{any, keep, rising, without, found, first}
 use Rattle.rules.specs.Boards.{noProgram, isAdmitted, isProgram, everyone, at, admitted, opening}
 use Rattle.rules.specs.Orders.{conflict, holdsBack, heldBack, carriedFrom, carried, withGiven, inUse, safe, canGive}
-use Rattle.theory.specs.Lists.{_∈_, Pairs, NoRepeat, by-mem, by-option, any-some, some-any, found-some, keep-mem, mem-keep, keep-same}
+use Rattle.theory.specs.Lists.{_∈_, Pairs, NoRepeat, by-mem, any-some, some-any, found-some, keep-mem, mem-keep, keep-same}
 use Rattle.theory.specs.Lists.{keep-but, Pairs-keep, length-keep, without-mem, mem-without, rising-mem, mem-rising, rising-pairs}
 use Rattle.theory.specs.Lists.{length-rising, Pairs-map}
 use Rattle.theory.specs.Order.{Names, IsOrder, heldIn, search, orderIn, orderIn-iff, orderIn-none, HeldLater, held-not-clear}
@@ -276,7 +276,8 @@ pub put-less : (P : Progs) (p : ℕ) (x : Program) → Sized P → Is p → With
 put-less P p x z c d i k = put-case (λ y. Within (prog P i) y) P p x z c i k (λ e. mathlib.Core.Path.subst
     (λ j. Within (prog P j) x) (sym e) d) (λ n. within-refl (prog P i))
 
-own-put : (P : Progs) (p : ℕ) (x : Program) → Sized P → Is p → ((i : ℕ) → Is i → Own (prog P i)) → Own x → (i : ℕ) → Is i → Own (prog (put P p x) i)
+own-put : (P : Progs) (p : ℕ) (x : Program) → Sized P → Is p → ((i : ℕ) → Is i → Own (prog P i)) → Own x → (i : ℕ)
+    → Is i → Own (prog (put P p x) i)
 own-put P p x z c f o i k = put-case Own P p x z c i k (λ e. o) (λ n. f i k)
 
 apart-less : (P′ P : Progs) → Less P′ P → ((i j : ℕ) → Is i → Is j → i ≢ j → conflict (prog P i) (prog P j) ≡ false)
@@ -310,7 +311,8 @@ base-shrink P p x c d o e b = record {
 
 -- ── Leave ──
 
-pub base-leave : (P : Progs) (p : ℕ) (x : Program) → Is p → Within x (prog P p) → Own x → isAdmitted (x .standing) ≡ false → Base P → Base (put P p x)
+pub base-leave : (P : Progs) (p : ℕ) (x : Program) → Is p → Within x (prog P p) → Own x → isAdmitted (x .standing) ≡ false
+    → Base P → Base (put P p x)
 base-leave P p x c d o e b = record {
   size = sized-put P p x (b .size);
   own = own-put P p x (b .size) c (b .own) o;
@@ -318,7 +320,8 @@ base-leave P p x c d o e b = record {
   order = (
     without p (b .order .0),
     rw (ins-out P p x (b .size) c e) (order-below (holds P) (holds (put P p x)) _ _
-        (λ i j m k n. holdsBack-mono _ _ _ _ (l i (is i m)) (l j (is j k))) (order-without (holds P) (ins P) (b .order .0) p (b .order .1))),
+        (λ i j m k n. holdsBack-mono _ _ _ _ (l i (is i m)) (l j (is j k))) (order-without (holds P) (ins P)
+        (b .order .0) p (b .order .1))),
   );
 }
   where
@@ -340,7 +343,8 @@ base-enter P p x c out a r o e b = record {
     b .order .0 ++ (p ∷ []),
     order-last (holds P′) (ins P) (ins P′) (b .order .0) p new old mine (λ m. never (ins-mem P p m .1) out)
         (λ i m. ap (λ y. holdsBack y (prog P′ i)) (put-same P p x z c) ∙ idle-holds x (prog P′ i) a r)
-        (order-below (holds P) (holds P′) (ins P) (b .order .0) (λ i j m k n u. sym (ap₂ holdsBack (same i m) (same j k)) ∙ u) (b .order .1)),
+        (order-below (holds P) (holds P′) (ins P) (b .order .0) (λ i j m k n u. sym (ap₂ holdsBack (same i m) (same j k))
+        ∙ u) (b .order .1)),
   );
 }
   where
@@ -393,7 +397,13 @@ Claims x f = (member (x .writable) f ≡ true) ⊎ (member (x .readable) f ≡ t
 pub opening-own : (x : Program) (f : ℕ) → Claims x f → isAdmitted (x .standing) ≡ true → Own x → Own (opening x f)
 unfolding opening
 opening-own x f m a o = by-test (member (x .writable) f)
-    (λ t. rw t (record { wv = adding-⊑ (x .writing) (x .writable) f (o .wv) t; rq = o .rq; vq = o .vq; idle = λ e. never a e; gone = o .gone }))
+    (λ t. rw t (record {
+      wv = adding-⊑ (x .writing) (x .writable) f (o .wv) t;
+      rq = o .rq;
+      vq = o .vq;
+      idle = λ e. never a e;
+      gone = o .gone;
+    }))
     (λ t. rw t (record {
       wv = o .wv;
       rq = adding-⊑ (x .reading) (x .readable) f (o .rq) (⊎-elim (λ u. never u t)
@@ -446,7 +456,8 @@ pub can-order : (P : Progs) (p f : ℕ) → can P p f ≡ true → (o : List ℕ
 unfolding can
 can-order P p f e = ordered-order (give P p f) (and-right (not (used P p f)) (ordered (give P p f)) e)
 
-pub can-of : (P : Progs) (p f : ℕ) → used P p f ≡ false → (o : List ℕ) → IsOrder (holds (give P p f)) (ins (give P p f)) o → can P p f ≡ true
+pub can-of : (P : Progs) (p f : ℕ) → used P p f ≡ false → (o : List ℕ) → IsOrder (holds (give P p f)) (ins (give P p f)) o
+    → can P p f ≡ true
 unfolding can
 can-of P p f e o c = rw (e, order-ordered (give P p f) o c)
 
@@ -496,7 +507,8 @@ pub can-mono : (P P′ : Progs) (y g : ℕ) → Sized P → Sized P′ → Is y 
     → can P′ y g ≡ true → can P y g ≡ true
 can-mono P P′ y g z z′ c l e f u =
     let s = can-order P′ y g u in
-    let t = f (holds (give P′ y g)) (s .0) (mathlib.Core.Path.subst (λ m. IsOrder (holds (give P′ y g)) m (s .0)) (ins-give P′ y g z′ c) (s .1)) in
+    let t = f (holds (give P′ y g)) (s .0) (mathlib.Core.Path.subst (λ m. IsOrder (holds (give P′ y g)) m (s .0))
+    (ins-give P′ y g z′ c) (s .1)) in
     can-of P y g (no-true _ (λ w. never (used-mono P P′ y g c l e w) (can-unused P′ y g u))) (t .0)
     (mathlib.Core.Path.subst (λ m. IsOrder (holds (give P y g)) m (t .0)) (sym (ins-give P y g z c))
     (order-below (holds (give P′ y g)) (holds (give P y g)) (ins P) (t .0) (λ i j m k n. holdsBack-mono _ _ _ _
@@ -545,7 +557,8 @@ claimed-use x y f m e = by-test (member (x .writable) f)
 holdsBack-claims : (x y : Program) (f : ℕ) → holdsBack x (opening y f) ≡ holdsBack x y
 holdsBack-claims x y f = rw (opening-v y f, opening-q y f)
 
-pub first-can : (P : Progs) (p f : ℕ) (o : List ℕ) → Base P → Is p → IsOrder (holds P) (ins P) (p ∷ o) → Claims (prog P p) f → can P p f ≡ true
+pub first-can : (P : Progs) (p f : ℕ) (o : List ℕ) → Base P → Is p → IsOrder (holds P) (ins P) (p ∷ o)
+    → Claims (prog P p) f → can P p f ≡ true
 unfolding Pairs give
 first-can P p f o b c r m = can-of P p f (no-true _ (λ t. let (i, k, n, u) = used-by P p f t in bad i k n u)) (p ∷ o)
     (mathlib.Core.Path.subst (λ l. IsOrder (holds (give P p f)) l (p ∷ o)) (sym (ins-give P p f (b .size) c))

@@ -1,4 +1,5 @@
--- What the code of a call finds on a sound board that has passed the call's checks: room in each line and in the reply, and a board to settle.
+-- What the code of a call finds on a sound board that has passed the call's checks: room in each line and in the reply, and a board to
+-- settle.
 -- Assumes nothing.
 use Prim.Native.Nat.{ℕ, suc, _≤_, _<_, _+_}
 use native.Mathlib.Omega.{arith}

@@ -11,7 +11,7 @@ use mathlib.Core.List.{List·Memᴰ·append-cases, List·Memᴰ·eq-of-singleton
 use lib.Dec.{eqb}
 use lib.ListN.{length, length-append}
 use borrow.Author.Tests.{eqb-true, eqb-false, eq-eqb, ne-eqb}
-use Rattle.files.proofs.Tests.{by-test, never, no-true}
+use Rattle.files.proofs.Tests.{by-test, by-option, never, no-true}
 use Rattle.rules.specs.declared.Standing.{Standing}
 use Rattle.rules.specs.declared.Program.{Program}
 use Rattle.rules.specs.declared.Board.{Board}
@@ -21,7 +21,7 @@ use Rattle.rules.specs.Lists.{without, listed, names, padded}
 use Rattle.rules.specs.Boards.{isAbsent, isHeld, isWaiting, isAdmitted, awaitedOf, awaited, setProgram, setEntry, setFavour, setStanding}
 use Rattle.rules.specs.Orders.{withGiven, inUse, canGive}
 use Rattle.rules.specs.Settling.{line, Step, still, andThen, unfavour, resume, tryGive, pass, candidate, favour, runHeld, choose, settle}
-use Rattle.theory.specs.Lists.{_∈_, Pairs, NoRepeat, by-mem, by-option, here, first-some, names-padded, length-without, listed-mem, mem-listed}
+use Rattle.theory.specs.Lists.{_∈_, Pairs, NoRepeat, by-mem, here, first-some, names-padded, length-without, listed-mem, mem-listed}
 use Rattle.theory.specs.Programs.{Is, prog, put, Sized, put-same, put-other, isIn, ins, give, can, canGive-is, admitted-is, length-ins}
 use Rattle.theory.specs.Loose.{stands, waitsIn, heldAt, waiting-file, held-is, line-make, LooseIn, Loose, Stuck, Good, served}
 use Rattle.theory.specs.Loose.{served-runs, served-other, served-ins, served-stuck, loose-serve, loose-admit, stuck-in}
@@ -170,7 +170,8 @@ passed-given p f ps b k c s m r = record {
     eP : given b p f .programs ≡ served (b .programs) p f
     eP = given-programs b p f
 
-    before : (y g : ℕ) → Is y → stands (given b p f .programs) y ≡ Standing.Waiting g → (y ≢ p) × (stands (b .programs) y ≡ Standing.Waiting g)
+    before : (y g : ℕ) → Is y → stands (given b p f .programs) y ≡ Standing.Waiting g
+        → (y ≢ p) × (stands (b .programs) y ≡ Standing.Waiting g)
     before y g i u = let v : stands (served (b .programs) p f) y ≡ Standing.Waiting g = ap (λ P. stands P y) (sym eP) ∙ u in
         let n : y ≢ p = (λ d. never {t = false} (sym (ap isWaiting (served-runs (b .programs) p f z c))
         ∙ ap (λ j. isWaiting (stands (served (b .programs) p f) j)) (sym d) ∙ ap isWaiting v) refl) in
@@ -286,7 +287,12 @@ runHeld-ran (p ∷ hs) b k st n f g =
     (loose-admit P (b .waiting) (padded 0 (p ∷ hs)) (padded 0 hs) (b .initial) (b .leaves) p x c (ap isAdmitted s) (i .0) (i .1) refl
     (record { wv = o .wv; rq = o .rq; vq = o .vq; idle = λ u. never {t = true} refl u; gone = λ u. never {t = false} (ap isAbsent u) refl })
     (line-make hs (heldAt (put P p x)) (n .1) f′ g′) k)
-    (stuck-in P p x z c (ap isAdmitted s) (record { in-v = λ _ u. u; in-q = λ _ u. u; in-w = λ _ u. u; in-r = λ _ u. u }) refl st) (n .1) f′ g′ in
+    (stuck-in P p x z c (ap isAdmitted s) (record {
+      in-v = λ _ u. u;
+      in-q = λ _ u. u;
+      in-w = λ _ u. u;
+      in-r = λ _ u. u;
+    }) refl st) (n .1) f′ g′ in
     record {
       loose = r .loose;
       stuck = r .stuck;
@@ -412,8 +418,13 @@ chosen-none b k st e = record {
         (λ u. List·Memᴰ·not-nil (subst (λ l. p ∈ l) (names-padded [] (λ q m. absurd (List·Memᴰ·not-nil m))) (r .loose .helds .on p c u)));
   };
   many = let i = r .many in omega arith;
-  fav = inr (record { who = r .nobody; number = r .same-initial; left = r .same-leaves }, λ q m d. words-differ (sym (r .only-admit q m) ∙ d));
-  runs = λ p c u. ap (λ (x : Program). x .standing) (r .others p c (λ m. never {t = false} (sym (ap isHeld u) ∙ k .helds .of p m .1) refl)) ∙ u;
+  fav = inr (
+    record { who = r .nobody; number = r .same-initial; left = r .same-leaves },
+    λ q m d. words-differ
+        (sym (r .only-admit q m) ∙ d),
+  );
+  runs = λ p c u. ap (λ (x : Program). x .standing) (r .others p c (λ m. never {t = false} (sym (ap isHeld u)
+      ∙ k .helds .of p m .1) refl)) ∙ u;
   waited = λ y g i u. by-test (listed y (names (b .entry)))
       (λ t. never {t = false} (sym (ap isWaiting (r .now-runs y (listed-mem y (names (b .entry)) t))) ∙ ap isWaiting u) refl)
       (λ t. ap (λ (x : Program). x .standing) (sym (r .others y i (λ m. never (mem-listed y (names (b .entry)) m) t))) ∙ u);
@@ -435,7 +446,8 @@ chosen-none b k st e = record {
 choose-chosen : (b : Board) → Loose b → Stuck (b .programs) → Chosen b (choose b)
 unfolding candidate
 choose-chosen b k st = by-test (eqb (b .favoured) 0)
-    (λ t. let e = eqb-true (b .favoured) 0 t in by-option (candidate b) (λ u. subst (Chosen b) (sym (choose-none b e u)) (chosen-none b k st e))
+    (λ t. let e = eqb-true (b .favoured) 0 t in by-option (candidate b)
+    (λ u. subst (Chosen b) (sym (choose-none b e u)) (chosen-none b k st e))
     (λ p u. subst (Chosen b) (sym (choose-some b p e u)) (chosen-some b p k st e (first-some
     (λ q. not (inUse b q (awaited b q))) (names (b .waiting)) p u .0))))
     (λ t. let n = eqb-false (b .favoured) 0 t in subst (Chosen b) (sym (choose-still b n)) (chosen-still b k st n))
@@ -483,7 +495,8 @@ settle-settled b k = record {
       ))
       (q .fav);
   ended = λ n. ⊎-elim
-      (λ (v : Favour b (s .board)). ⊎-elim (λ x. absurd (n (sym (v .who) ∙ x .0))) (λ x. inl (favour-trans b (s .board) _ v (x .0))) (q .fav))
+      (λ (v : Favour b (s .board)). ⊎-elim (λ x. absurd (n (sym (v .who) ∙ x .0)))
+      (λ x. inl (favour-trans b (s .board) _ v (x .0))) (q .fav))
       (λ (v : Served b s). inr (record {
         line-there = Memᴰ·append-left (choose (s .board) .lines) (v .line-there);
         runs = q .runs (b .favoured) (k .fav-waits n .0) (v .runs);

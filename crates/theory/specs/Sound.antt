@@ -112,7 +112,8 @@ of-standing q Standing.Held d f g = let (a, b) = g d in and-both (isEmpty (q .wr
 
 sets-of : (q : Program) → setsSound q ≡ true → SetsAsAbove q
 unfolding setsSound
-sets-of q e = let a = and-left (within (q .writing) (q .writable) && within (q .reading) (q .readable)) (not (meets (q .writable) (q .readable))) e in
+sets-of q e = let a = and-left (within (q .writing) (q .writable) && within (q .reading) (q .readable))
+    (not (meets (q .writable) (q .readable))) e in
     record {
       w-in-v = and-left (within (q .writing) (q .writable)) (within (q .reading) (q .readable)) a;
       r-in-q = and-right (within (q .writing) (q .writable)) (within (q .reading) (q .readable)) a;
@@ -162,7 +163,8 @@ module _ (b : Board) where
   conflict-of e i j a c n = let u =
       all-each (λ i. all (λ j. eqb i j || not (conflict (at b i) (at b j))) everyone) everyone e i (mem-everyone i a) in
       let v = all-each (λ j. eqb i j || not (conflict (at b i) (at b j))) everyone u j (mem-everyone j c) in
-      or-cases (eqb i j) (not (conflict (at b i) (at b j))) v (λ x. absurd (n (eqb-true i j x))) (λ x. not-true (conflict (at b i) (at b j)) x)
+      or-cases (eqb i j) (not (conflict (at b i) (at b j))) v (λ x. absurd (n (eqb-true i j x)))
+      (λ x. not-true (conflict (at b i) (at b j)) x)
 
   of-conflict : ((i j : ℕ) → Is i → Is j → i ≢ j → conflict (at b i) (at b j) ≡ false) → noConflict b ≡ true
   unfolding noConflict
@@ -195,7 +197,8 @@ module _ (b : Board) where
   of-waiter p f a s =
       let v = member (at b p .writable) f in let q = member (at b p .readable) f in
       let z = not (hasOpen (at b p) f) in let w = not (canGive b p f) in
-      and-both ((v || q) && z) w (and-both (v || q) z (⊎-elim (or-left v q) (or-right v q) (a .claimed)) (true-not (hasOpen (at b p) f) (a .shut)))
+      and-both ((v || q) && z) w (and-both (v || q) z (⊎-elim (or-left v q) (or-right v q) (a .claimed))
+      (true-not (hasOpen (at b p) f) (a .shut)))
       (true-not (canGive b p f) s)
 
   none-of : noneFavoured b ≡ true → ((p : ℕ) → Is p → isHeld (at b p .standing) ≡ false) × (b .initial ≡ 0) × (b .leaves ≡ 0)
@@ -301,7 +304,8 @@ module _ (b : Board) where
       stand : (p : ℕ) → Is p → (at b p .standing ≡ Standing.Absent → (at b p .writable ≡ noFiles) ×
           (at b p .readable ≡ noFiles) × (at b p .writing ≡ noFiles) × (at b p .reading ≡ noFiles)) ×
           (at b p .standing ≡ Standing.Held → (at b p .writing ≡ noFiles) × (at b p .reading ≡ noFiles))
-      stand p i = standing-of (at b p) (at b p .standing) (and-right (setsSound (at b p)) (standingSound (at b p .standing) (at b p)) (each p i)) refl
+      stand p i = standing-of (at b p) (at b p .standing) (and-right (setsSound (at b p))
+          (standingSound (at b p .standing) (at b p)) (each p i)) refl
 
       l : OnLine (b .waiting) (λ p. isWaiting (at b p .standing))
       l = line-of (b .waiting) (λ p. isWaiting (at b p .standing)) (k .part-4)
@@ -325,7 +329,8 @@ module _ (b : Board) where
         ap (waiterSound b p) (ap awaitedOf s) ∙ of-waiter p f (k .waiter-asked p f i s) (k .waiter-stuck p f i s));
     part-7 = by-test (eqb (b .favoured) 0)
         (λ t. rw t (let (h, i, l) = k .nobody-favoured (eqb-true (b .favoured) 0 t) in of-none h i l))
-        (λ t. rw t (let n = eqb-false (b .favoured) 0 t in let (i, u) = k .favoured-waits n in let (c, l) = k .favoured-count n in of-some i u c l));
+        (λ t. rw t (let n = eqb-false (b .favoured) 0 t in let (i, u) = k .favoured-waits n in
+        let (c, l) = k .favoured-count n in of-some i u c l));
   })
 
 -- The test `sound` of the rules is 01's clauses.

@@ -35,16 +35,6 @@ use Rattle.theory.specs.Calls.{take-padded, by-check, apply-accepted, ap
 use Rattle.theory.specs.Carried.{holdsOn, CompletionOrder, carried-sound, carried-complete}
 use Rattle.theory.specs.Sound.{sound-iff, good-sound, sound-good}
 
--- ── Lists ──
-
-pub append-nil : {A : Type 0} (l : List A) → l ++ [] ≡ l
-append-nil [] = refl
-append-nil (x ∷ l) = ap (x ∷_) (append-nil l)
-
-pub append-assoc : {A : Type 0} (l m n : List A) → (l ++ m) ++ n ≡ l ++ (m ++ n)
-append-assoc [] m n = refl
-append-assoc (x ∷ l) m n = ap (x ∷_) (append-assoc l m n)
-
 -- ── The empty board is sound, and every call keeps a board sound ──
 
 empty-sound : sound emptyBoard ≡ true
@@ -181,7 +171,8 @@ replies-number b (c ∷ cs) r q m e = by-mem m (λ d. apply-number b c q (ap (λ
 
 -- "1 never after calls from the empty board."
 pub never-not-sound : (cs : List Call) (r : Reply) → r ∈ directFrom emptyBoard cs → r .answer ≢ Answer.Refuse Refusal.NotSound
-never-not-sound cs r m e = let k = replies-number emptyBoard cs r Refusal.NotSound (subst (λ l. r ∈ l) (direct-worked cs) m) e in omega arith
+never-not-sound cs r m e = let k = replies-number emptyBoard cs r Refusal.NotSound
+    (subst (λ l. r ∈ l) (direct-worked cs) m) e in omega arith
 
 -- ── Every reply carries the order of its board, its lines in 32 places and its order in 32 places ──
 
@@ -245,8 +236,10 @@ apply-fits b c g =
     let r = apply b c in
     let k = apply-reply b c in
     let m = apply-stepped b c g .many in
-    let n = ap (λ (q : Reply). q .count) (k .is) ∙ reply-count (r .board) (r .answer) (k .its-lines) ∙ ap (λ q. length (linesOf q)) (sym (k .is)) in
-    let p = ap (λ (q : Reply). q .placed) (k .is) ∙ reply-placed (r .board) (r .answer) (k .its-lines) ∙ ap (λ q. length (orderOf q)) (sym (k .is)) in
+    let n = ap (λ (q : Reply). q .count) (k .is) ∙ reply-count (r .board) (r .answer) (k .its-lines)
+    ∙ ap (λ q. length (linesOf q)) (sym (k .is)) in
+    let p = ap (λ (q : Reply). q .placed) (k .is) ∙ reply-placed (r .board) (r .answer) (k .its-lines)
+    ∙ ap (λ q. length (orderOf q)) (sym (k .is)) in
     let o = order-of-reply b c g in
     let l = no-longer (orderOf r) everyone (o .once)
     (λ a i. mem-everyone a (ins-mem (r .board .programs) a (subst (λ z. a ∈ z) (admitted-is (r .board)) (o .only a i)) .0)) in
