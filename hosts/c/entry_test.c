@@ -1,0 +1,141 @@
+/*
+ * Tests of the C entry.
+ *
+ *     entry_test NAME.in NAME.host    replays request lines: answers and sums
+ *     entry_test                      what is refused, and what is then kept
+ *
+ * NAME.host has for each request line the answer, the Adler-32 of the image after
+ * the call and the Adler-32 of the journal after it. Each call is handed 512 bytes
+ * of journal that hold 170, and place 0.
+ */
+#include "lock_board.h"
+
+#include <inttypes.h>
+#include <stdio.h>
+#include <stdlib.h>
+#include <string.h>
+
+#define FILL 170
+
+static uint32_t adler32(const uint8_t *bytes, size_t len) {
+    uint32_t a = 1, b = 0;
+    for (size_t i = 0; i < len; i++) {
+        a = (a + bytes[i]) % 65521;
+        b = (b + a) % 65521;
+    }
+    return b * 65536 + a;
+}
+
+static void fail(const char *what, unsigned long at) {
+    fprintf(stderr, "entry_test: %s, %lu\n", what, at);
+    exit(1);
+}
+
+static FILE *open_file(const char *path) {
+    FILE *file = fopen(path, "rb");
+    if (!file) {
+        perror(path);
+        exit(1);
+    }
+    return file;
+}
+
+/* Reads a line, cut; the last may lack its byte 10. 0 at the end of the file. */
+static int read_line(FILE *in, uint8_t *line, size_t *len) {
+    int byte, any = 0;
+    *len = 0;
+    while ((byte = getc(in)) != EOF) {
+        any = 1;
+        if (byte == '\n')
+            break;
+        if (*len < LOCK_BOARD_CUT_LINE)
+            line[(*len)++] = (uint8_t)byte;
+    }
+    return any;
+}
+
+static int replay(const char *in_path, const char *host_path) {
+    uint8_t image[LOCK_BOARD_IMAGE_LEN], journal[LOCK_BOARD_JOURNAL_ROOM];
+    uint8_t line[LOCK_BOARD_CUT_LINE];
+    size_t len;
+    unsigned long number = 0;
+    uint64_t answer;
+    uint32_t image_sum, journal_sum;
+    FILE *in = open_file(in_path), *host = open_file(host_path);
+    lock_board_empty(image, sizeof image);
+    while (read_line(in, line, &len)) {
+        number++;
+        memset(journal, FILL, sizeof journal);
+        if (fscanf(host, "%" SCNu64 " %" SCNu32 " %" SCNu32, &answer, &image_sum, &journal_sum) !=
+            3)
+            fail("no expected answer for line", number);
+        if (lock_board_line(image, sizeof image, line, len, journal, sizeof journal, 0) != answer)
+            fail("another answer to line", number);
+        if (adler32(image, sizeof image) != image_sum)
+            fail("another image after line", number);
+        if (adler32(journal, sizeof journal) != journal_sum)
+            fail("another journal after line", number);
+    }
+    if (fscanf(host, " %*s") != EOF)
+        fail("an expected answer is left after line", number);
+    fclose(in);
+    fclose(host);
+    return 0;
+}
+
+static void all_hold(const uint8_t *bytes, size_t len, int fill, const char *what) {
+    for (size_t i = 0; i < len; i++)
+        if (bytes[i] != fill)
+            fail(what, (unsigned long)i);
+}
+
+/* A call that must be refused with 1 or 2 and write nothing. */
+static void refused(size_t image_len, int standing, size_t journal_len, uint64_t place,
+                    uint64_t answer) {
+    static uint8_t image[LOCK_BOARD_IMAGE_LEN + 1], before[LOCK_BOARD_IMAGE_LEN + 1];
+    static uint8_t journal[2 * LOCK_BOARD_JOURNAL_ROOM];
+    const uint8_t line[] = "ENTER   1LABEL     0  0";
+    memset(journal, FILL, sizeof journal);
+    memset(image, 0, sizeof image);
+    image[32] = (uint8_t)standing;
+    memcpy(before, image, sizeof image);
+    if (lock_board_line(image, image_len, line, sizeof line - 1, journal, journal_len, place) !=
+        answer)
+        fail("another answer with place", (unsigned long)place);
+    if (memcmp(image, before, sizeof image) != 0)
+        fail("the image changed with place", (unsigned long)place);
+    all_hold(journal, sizeof journal, FILL, "a refused call wrote to the journal at");
+}
+
+static int edges(void) {
+    uint8_t image[LOCK_BOARD_IMAGE_LEN + 1];
+    const uint64_t highest = LOCK_BOARD_HIGHEST_PLACE;
+    refused(LOCK_BOARD_IMAGE_LEN, 4, 512, 0, LOCK_BOARD_UNSOUND);
+    refused(LOCK_BOARD_IMAGE_LEN, 3, 512, 0, LOCK_BOARD_UNSOUND);
+    refused(LOCK_BOARD_IMAGE_LEN - 1, 0, 512, 0, LOCK_BOARD_UNSOUND);
+    refused(LOCK_BOARD_IMAGE_LEN + 1, 0, 512, 0, LOCK_BOARD_UNSOUND);
+    refused(0, 0, 0, UINT64_MAX, LOCK_BOARD_UNSOUND);
+    refused(LOCK_BOARD_IMAGE_LEN, 0, 0, 0, LOCK_BOARD_JOURNAL_FULL);
+    refused(LOCK_BOARD_IMAGE_LEN, 0, 511, 0, LOCK_BOARD_JOURNAL_FULL);
+    refused(LOCK_BOARD_IMAGE_LEN, 0, 1024, 513, LOCK_BOARD_JOURNAL_FULL);
+    refused(LOCK_BOARD_IMAGE_LEN, 0, 1024, highest + 1, LOCK_BOARD_JOURNAL_FULL);
+    refused(LOCK_BOARD_IMAGE_LEN, 0, 1024, UINT64_MAX, LOCK_BOARD_JOURNAL_FULL);
+    memset(image, FILL, sizeof image);
+    if (lock_board_empty(image, sizeof image) != LOCK_BOARD_UNSOUND)
+        fail("an empty board for length", sizeof image);
+    all_hold(image, sizeof image, FILL, "a refused image was changed at");
+    if (lock_board_empty(image, LOCK_BOARD_IMAGE_LEN) != 0)
+        fail("no empty board for length", LOCK_BOARD_IMAGE_LEN);
+    all_hold(image, LOCK_BOARD_IMAGE_LEN, 0, "the empty board's image is not 0 at");
+    all_hold(image + LOCK_BOARD_IMAGE_LEN, 1, FILL, "the byte after the image was changed");
+    return 0;
+}
+
+int main(int argc, char **argv) {
+    if (argc == 3)
+        return replay(argv[1], argv[2]);
+    if (argc == 1)
+        return edges();
+    fprintf(stderr, "usage: entry_test [NAME.in NAME.host]\n");
+    return 2;
+}

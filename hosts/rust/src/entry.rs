@@ -1,0 +1,66 @@
+//! The entry of `libhost.a` on slices, as it is: for hosts that keep image and journal themselves.
+//!
+//! Slices cannot be null, and the borrow checker keeps these from overlapping; the board checks
+//! all else. So any bytes, lengths and place are safe. No function keeps any state.
+
+/// The answer for refusal 1.
+pub const UNSOUND: u64 = u64::MAX;
+
+/// The answer for refusal 2.
+pub const JOURNAL_FULL: u64 = u64::MAX - 1;
+
+mod c {
+    extern "C" {
+        pub fn lock_board_empty(image: *mut u8, image_len: usize) -> u64;
+        pub fn lock_board_line(
+            image: *mut u8,
+            image_len: usize,
+            line: *const u8,
+            line_len: usize,
+            journal: *mut u8,
+            journal_len: usize,
+            place: u64,
+        ) -> u64;
+    }
+}
+
+/// Fills an image of [`IMAGE_LEN`](crate::IMAGE_LEN) bytes with the empty board and answers 0.
+/// An image of another length stays as it was; the answer is then [`UNSOUND`].
+///
+/// ```
+/// let mut image = [1; lock_board::IMAGE_LEN];
+/// assert_eq!(lock_board::entry::empty(&mut image), 0);
+/// assert_eq!(image, *lock_board::Board::new().image());
+/// ```
+pub fn empty(image: &mut [u8]) -> u64 {
+    // SAFETY: the slice gives a pointer that is not null and its own length.
+    unsafe { c::lock_board_empty(image.as_mut_ptr(), image.len()) }
+}
+
+/// Serves one request line on the board that the image holds, writes its journal lines from the
+/// place on and answers the new place, [`UNSOUND`] or [`JOURNAL_FULL`].
+///
+/// ```
+/// use lock_board::{entry, IMAGE_LEN, JOURNAL_ROOM};
+///
+/// let (mut image, mut journal) = ([0; IMAGE_LEN], [0; JOURNAL_ROOM]);
+/// entry::empty(&mut image);
+/// assert_eq!(entry::line(&mut image, b"LEAVE   1", &mut journal, 0), 16);
+/// assert_eq!(&journal[..16], b"REFUSE  1  0 11\n");
+/// assert_eq!(entry::line(&mut image, b"LEAVE   1", &mut journal, 1), entry::JOURNAL_FULL);
+/// ```
+pub fn line(image: &mut [u8], line: &[u8], journal: &mut [u8], place: u64) -> u64 {
+    // SAFETY: the slices give pointers that are not null and their own lengths; `image` and
+    // `journal` are borrowed for this call alone, so no two of the three overlap.
+    unsafe {
+        c::lock_board_line(
+            image.as_mut_ptr(),
+            image.len(),
+            line.as_ptr(),
+            line.len(),
+            journal.as_mut_ptr(),
+            journal.len(),
+            place,
+        )
+    }
+}

@@ -1,0 +1,98 @@
+use crate::{Refusal, JOURNAL_LINE};
+
+/// The word of a journal line. `docs/REFUSALS.md` says what comes after each.
+#[derive(Clone, Copy, Debug, PartialEq, Eq, Hash)]
+pub enum Word {
+    /// The program runs.
+    Admit,
+    /// The program is held at entry.
+    Held,
+    /// The program has the file open.
+    Given,
+    /// The program waits: another has the file in conflicting use.
+    Wait,
+    /// The program waits: with the file given there would be no completion order.
+    Unsafe,
+    /// The close, drop or leave is done.
+    Done,
+    /// The waiting program is favoured.
+    Favour,
+    /// The request was refused.
+    Refuse,
+}
+
+impl Word {
+    /// The word in its six columns.
+    pub const fn columns(self) -> &'static [u8; 6] {
+        match self {
+            Word::Admit => b"ADMIT ",
+            Word::Held => b"HELD  ",
+            Word::Given => b"GIVEN ",
+            Word::Wait => b"WAIT  ",
+            Word::Unsafe => b"UNSAFE",
+            Word::Done => b"DONE  ",
+            Word::Favour => b"FAVOUR",
+            Word::Refuse => b"REFUSE",
+        }
+    }
+
+    fn read(columns: &[u8]) -> Option<Word> {
+        use Word::*;
+        let all = [Admit, Held, Given, Wait, Unsafe, Done, Favour, Refuse];
+        all.into_iter().find(|word| word.columns() == columns)
+    }
+}
+
+/// One line of the journal.
+#[derive(Clone, Copy, Debug, PartialEq, Eq, Hash)]
+pub struct Line {
+    /// What the board did.
+    pub word: Word,
+    /// The program, 1 to 32, or 0 where there is none.
+    pub program: u8,
+    /// The file, 1 to 64, or 0 where there is none.
+    pub file: u8,
+    /// Why the request was refused; none for other words than REFUSE.
+    pub refusal: Option<Refusal>,
+}
+
+impl Line {
+    /// Reads a journal line, with its byte 10. `None` if it is not in form.
+    ///
+    /// ```
+    /// use lock_board::{Line, Refusal, Word};
+    ///
+    /// let line = Line::read(b"REFUSE  2  0 13\n").unwrap();
+    /// assert_eq!((line.word, line.program, line.file), (Word::Refuse, 2, 0));
+    /// assert_eq!(line.refusal, Some(Refusal::IsWaiting));
+    /// assert_eq!(Line::read(b"REFUSE  2  0 17\n"), None);
+    /// ```
+    pub fn read(bytes: &[u8; JOURNAL_LINE]) -> Option<Line> {
+        let refusal = match number(&bytes[12..15])? {
+            0 => None,
+            n => Some(Refusal::from_number(n)?),
+        };
+        let word = Word::read(&bytes[..6])?;
+        if bytes[15] != b'\n' || (word == Word::Refuse) != refusal.is_some() {
+            return None;
+        }
+        Some(Line {
+            word,
+            program: number(&bytes[6..9])?,
+            file: number(&bytes[9..12])?,
+            refusal,
+        })
+    }
+}
+
+/// A decimal number, right-justified in its columns, blanks before and no leading zero.
+fn number(columns: &[u8]) -> Option<u8> {
+    let text = std::str::from_utf8(columns).ok()?.trim_start_matches(' ');
+    let in_form =
+        text.bytes().all(|b| b.is_ascii_digit()) && (text == "0" || !text.starts_with('0'));
+    if in_form {
+        text.parse().ok()
+    } else {
+        None
+    }
+}

@@ -1,0 +1,55 @@
+//! The lock board, for hosts in Rust: a safe wrapper of the two functions of `libhost.a`.
+//!
+//! A [`Board`] serves request lines and gives back the journal lines of each:
+//!
+//! ```
+//! use lock_board::{Board, Word};
+//!
+//! let mut board = Board::new();
+//! board.serve(b"ENTER   1STOCK     1  0  3")?;
+//! let reply = board.serve(b"OPEN    1  3")?;
+//! assert_eq!(reply.answer().word, Word::Given);
+//! assert_eq!(reply.journal(), b"GIVEN   1  3  0\n");
+//! # Ok::<(), lock_board::Error>(())
+//! ```
+//!
+//! A refused request changes nothing and tells why:
+//!
+//! ```
+//! # use lock_board::{Board, Refusal};
+//! let mut board = Board::new();
+//! let reply = board.serve(b"LEAVE   7")?;
+//! assert_eq!(reply.refusal(), Some(Refusal::IsAbsent));
+//! assert_eq!(Refusal::IsAbsent.number(), 11);
+//! assert_eq!(Refusal::IsAbsent.to_string(), "The program has not entered");
+//! # Ok::<(), lock_board::Error>(())
+//! ```
+#![deny(unsafe_op_in_unsafe_fn)]
+#![deny(missing_docs)]
+
+mod board;
+pub mod entry;
+mod journal;
+mod refusal;
+
+pub use board::{Board, Error, Reply};
+pub use journal::{Line, Word};
+pub use refusal::Refusal;
+
+/// The bytes of a board's image.
+pub const IMAGE_LEN: usize = 1155;
+
+/// The bytes of journal that a call asks for from its place on.
+pub const JOURNAL_ROOM: usize = 512;
+
+/// The bytes of a journal line, byte 10 among them.
+pub const JOURNAL_LINE: usize = 16;
+
+/// The highest place in a journal that a call takes.
+pub const HIGHEST_PLACE: u64 = 1_000_000_000;
+
+/// The bytes of the longest request line in form.
+pub const LONGEST_LINE: usize = 407;
+
+/// The bytes to which a host may cut a longer request line: it is refused with the same number.
+pub const CUT_LINE: usize = 408;

@@ -1,0 +1,103 @@
+use std::error;
+use std::fmt;
+
+/// Why a request was refused. `docs/REFUSALS.md` says what to do about each.
+#[derive(Clone, Copy, Debug, PartialEq, Eq, Hash)]
+#[repr(u8)]
+pub enum Refusal {
+    /// The board is not sound, or the image is not 1,155 bytes or not of its layout.
+    NotSound = 1,
+    /// The place is above 1,000,000,000, or place + 512 is above the journal's length.
+    JournalFull,
+    /// The line has under 6 bytes, or columns 1–6 are no verb.
+    NoVerb,
+    /// The line has not the length that its verb, and for ENTER its counts, ask for.
+    BadLength,
+    /// A number is not in form or range.
+    BadNumber,
+    /// A byte of the label is outside 32 to 126.
+    BadLabel,
+    /// The files of one group are not strictly rising.
+    NotRising,
+    /// The program or file is out of range. No request line meets this.
+    OutOfRange,
+    /// The program that asks to enter is not absent.
+    NotAbsent,
+    /// The write claim and the read claim have a file in common.
+    ClaimsMeet,
+    /// The program is absent.
+    IsAbsent,
+    /// The program is held.
+    IsHeld,
+    /// The program is waiting.
+    IsWaiting,
+    /// The file is in neither claim.
+    NotClaimed,
+    /// The file is open by the program.
+    IsOpen,
+    /// The file is not open by the program.
+    NotOpen,
+}
+
+impl Refusal {
+    /// All refusals, by number.
+    pub const ALL: [Refusal; 16] = [
+        Refusal::NotSound,
+        Refusal::JournalFull,
+        Refusal::NoVerb,
+        Refusal::BadLength,
+        Refusal::BadNumber,
+        Refusal::BadLabel,
+        Refusal::NotRising,
+        Refusal::OutOfRange,
+        Refusal::NotAbsent,
+        Refusal::ClaimsMeet,
+        Refusal::IsAbsent,
+        Refusal::IsHeld,
+        Refusal::IsWaiting,
+        Refusal::NotClaimed,
+        Refusal::IsOpen,
+        Refusal::NotOpen,
+    ];
+
+    /// The refusal with this number, 1 to 16.
+    pub fn from_number(number: u8) -> Option<Refusal> {
+        let place = usize::from(number).checked_sub(1)?;
+        Self::ALL.get(place).copied()
+    }
+
+    /// The refusal's number, 1 to 16.
+    pub const fn number(self) -> u8 {
+        self as u8
+    }
+
+    /// The refusal in words, as `docs/REFUSALS.md` has them.
+    pub const fn words(self) -> &'static str {
+        match self {
+            Refusal::NotSound => "The image holds no sound board",
+            Refusal::JournalFull => "The journal has no room for the answer",
+            Refusal::NoVerb => "The line begins with no verb",
+            Refusal::BadLength => "The line has a wrong length",
+            Refusal::BadNumber => "A number is not in form or range",
+            Refusal::BadLabel => "The label has a byte outside 32 to 126",
+            Refusal::NotRising => "The files of a claim do not rise",
+            Refusal::OutOfRange => "The program or file number is out of range",
+            Refusal::NotAbsent => "The program has already entered",
+            Refusal::ClaimsMeet => "A file is in both claims",
+            Refusal::IsAbsent => "The program has not entered",
+            Refusal::IsHeld => "The program is held at entry",
+            Refusal::IsWaiting => "The program is waiting for a file",
+            Refusal::NotClaimed => "The file is in neither claim",
+            Refusal::IsOpen => "The program has the file open",
+            Refusal::NotOpen => "The program does not have the file open",
+        }
+    }
+}
+
+impl fmt::Display for Refusal {
+    fn fmt(&self, f: &mut fmt::Formatter) -> fmt::Result {
+        f.write_str(self.words())
+    }
+}
+
+impl error::Error for Refusal {}

@@ -1,0 +1,259 @@
+//! The wrapper: what it gives back, and what it makes of bad images.
+
+use lock_board::{entry, Board, Error, Line, Refusal, Reply, Word};
+use lock_board::{CUT_LINE, HIGHEST_PLACE, IMAGE_LEN, JOURNAL_LINE, JOURNAL_ROOM, LONGEST_LINE};
+
+fn board_after(lines: &[&str]) -> Board {
+    let mut board = Board::new();
+    for line in lines {
+        let reply = board.serve(line.as_bytes()).unwrap();
+        assert_eq!(reply.refusal(), None, "{line}");
+    }
+    board
+}
+
+fn line(word: Word, program: u8, file: u8) -> Line {
+    Line {
+        word,
+        program,
+        file,
+        refusal: None,
+    }
+}
+
+/// The refusal of a line, which must leave the board as it was and write one line.
+fn refusal_of(board: &mut Board, request: &[u8]) -> u8 {
+    let before = board.clone();
+    let reply = board.serve(request).unwrap();
+    assert_eq!(*board, before);
+    assert_eq!(reply.answer().word, Word::Refuse);
+    assert!(reply.settled().is_empty());
+    reply.refusal().unwrap().number()
+}
+
+#[test]
+fn answer_and_settling_are_typed() {
+    let mut board = board_after(&[
+        "ENTER   1STOCK     3  0  1  2  3",
+        "ENTER   2BILLS     2  0  1  2",
+        "OPEN    1  1",
+        "OPEN    1  3",
+    ]);
+    let unsafe_open = board.serve(b"OPEN    2  2").unwrap();
+    assert_eq!(unsafe_open.answer(), line(Word::Unsafe, 2, 2));
+    assert!(unsafe_open.waits());
+    let close = board.serve(b"CLOSE   1  3").unwrap();
+    assert_eq!(close.answer(), line(Word::Done, 1, 3));
+    assert_eq!(close.settled(), [line(Word::Favour, 2, 2)]);
+    let enter = board.serve(b"ENTER   3LISTS     0  1  2").unwrap();
+    assert_eq!(enter.answer(), line(Word::Held, 3, 0));
+    assert!(!enter.waits());
+    let leave = board.serve(b"LEAVE   1").unwrap();
+    let settled = [line(Word::Given, 2, 2), line(Word::Admit, 3, 0)];
+    assert_eq!(leave.settled(), settled);
+    assert_eq!(leave.lines().collect::<Vec<_>>()[1..], settled);
+    let bytes = b"DONE    1  0  0\nGIVEN   2  2  0\nADMIT   3  0  0\n";
+    assert_eq!(leave.journal(), bytes);
+}
+
+#[test]
+fn wait_is_typed() {
+    let mut board = board_after(&[
+        "ENTER   1STOCK     1  0 64",
+        "ENTER   2BILLS     0  1 64",
+        "OPEN    1 64",
+    ]);
+    let reply = board.serve(b"OPEN    2 64").unwrap();
+    assert_eq!(reply.answer(), line(Word::Wait, 2, 64));
+    assert!(reply.waits());
+}
+
+/// 31 readers wait for the file of program 1; its leave gives it to all of them.
+fn fullest_reply() -> Reply {
+    let mut board = board_after(&["ENTER   1WRITER    1  0  1", "OPEN    1  1"]);
+    for program in 2..=32 {
+        let enter = format!("ENTER {program:3}READER    0  1  1");
+        board.serve(enter.as_bytes()).unwrap();
+        let open = board.serve(format!("OPEN  {program:3}  1").as_bytes());
+        assert_eq!(open.unwrap().answer().word, Word::Wait);
+    }
+    board.serve(b"LEAVE   1").unwrap()
+}
+
+#[test]
+fn the_most_lines_fill_the_journal() {
+    let reply = fullest_reply();
+    assert_eq!(reply.journal().len(), JOURNAL_ROOM);
+    assert_eq!(reply.lines().count(), JOURNAL_ROOM / JOURNAL_LINE);
+    let given: Vec<Line> = (2..=32).map(|p| line(Word::Given, p, 1)).collect();
+    assert_eq!(reply.settled(), given);
+}
+
+#[test]
+fn boards_in_several_threads() {
+    let expected = fullest_reply();
+    let threads: Vec<_> = (0..4)
+        .map(|_| std::thread::spawn(|| (0..50).map(|_| fullest_reply()).collect::<Vec<_>>()))
+        .collect();
+    for thread in threads {
+        assert!(thread.join().unwrap().iter().all(|r| *r == expected));
+    }
+}
+
+#[test]
+fn refusals_of_the_line() {
+    let mut board = Board::new();
+    for (request, number) in [
+        (&b""[..], 3),
+        (b"LEAV", 3),
+        (b"leave   1", 3),
+        (b"LEAVE   1 ", 4),
+        (b"OPEN    1", 4),
+        (b"LEAVE  01", 5),
+        (b"LEAVE  33", 5),
+        (b"OPEN    1 65", 5),
+        (b"ENTER   1STO\x1fK     0  0", 6),
+        (b"ENTER   1STOCK     2  0  2  1", 7),
+        (&[b'7'; CUT_LINE], 3),
+    ] {
+        let text = String::from_utf8_lossy(request);
+        assert_eq!(refusal_of(&mut board, request), number, "{text}");
+    }
+    let mut longest = b"ENTER   1LABEL    64 64".to_vec();
+    for file in (1..=64).chain(1..=64) {
+        longest.extend(format!("{file:3}").bytes());
+    }
+    assert_eq!(longest.len(), LONGEST_LINE);
+    assert_eq!(refusal_of(&mut board, &longest), 10);
+    longest.push(b' ');
+    assert_eq!(refusal_of(&mut board, &longest), 4);
+}
+
+#[test]
+fn refusals_of_the_call() {
+    let mut board = board_after(&[
+        "ENTER   1STOCK     3  0  1  2  3",
+        "ENTER   2BILLS     2  0  1  2",
+        "OPEN    1  1",
+        "OPEN    1  3",
+        "OPEN    2  2",
+        "CLOSE   1  3",
+        "ENTER   3LISTS     0  1  2",
+    ]);
+    for (request, number) in [
+        (&b"ENTER   3LISTS     0  1  2"[..], 9),
+        (b"ENTER   4BOTH      1  1  5  5", 10),
+        (b"LEAVE   9", 11),
+        (b"LEAVE   3", 12),
+        (b"CLOSE   2  2", 13),
+        (b"OPEN    1 64", 14),
+        (b"DROP    1  1", 15),
+        (b"CLOSE   1  2", 16),
+    ] {
+        let text = String::from_utf8_lossy(request);
+        assert_eq!(refusal_of(&mut board, request), number, "{text}");
+    }
+}
+
+#[test]
+fn a_board_goes_on_from_its_image() {
+    let mut first = board_after(&["ENTER   1STOCK     1  0  3", "OPEN    1  3"]);
+    let mut second = Board::from_image(first.image()).unwrap();
+    assert_eq!(first, second);
+    assert_eq!(first.serve(b"LEAVE   1"), second.serve(b"LEAVE   1"));
+    assert_eq!(first, second);
+    assert_eq!(second, Board::new());
+}
+
+#[test]
+fn images_of_another_length() {
+    let image = [0; IMAGE_LEN + 1];
+    for len in [0, 1, IMAGE_LEN - 1, IMAGE_LEN + 1] {
+        let refused = Board::from_image(&image[..len]);
+        assert_eq!(refused, Err(Error::ImageLength(len)));
+    }
+}
+
+#[test]
+fn images_that_are_not_sound() {
+    let image = *board_after(&["ENTER   1STOCK     1  0  3", "OPEN    1  3"]).image();
+    // W outside V; no such standing; a running program that awaits a file; a name in each line;
+    // somebody favoured who is not waiting; a count though nobody is favoured.
+    for place in [16, 32, 33, 1088, 1120, 1152, 1153, 1154] {
+        let mut bad = image;
+        bad[place] ^= 8;
+        let refused = Board::from_image(&bad);
+        assert_eq!(
+            refused,
+            Err(Error::Refused(Refusal::NotSound)),
+            "byte {place}"
+        );
+    }
+}
+
+#[test]
+fn the_entry_keeps_what_it_does_not_write() {
+    let empty = *Board::new().image();
+    let mut image = empty;
+    let mut journal = [170; JOURNAL_ROOM + 16];
+    let request = b"ENTER   1STOCK     1  0  3";
+    for place in [17, HIGHEST_PLACE, HIGHEST_PLACE + 1, u64::MAX] {
+        let answer = entry::line(&mut image, request, &mut journal, place);
+        assert_eq!(answer, entry::JOURNAL_FULL, "place {place}");
+        assert_eq!((image, journal), (empty, [170; JOURNAL_ROOM + 16]));
+    }
+    assert_eq!(entry::line(&mut image, request, &mut journal, 16), 32);
+    assert_eq!(&journal[16..32], b"ADMIT   1  0  0\n");
+    let kept = journal[..16].iter().chain(&journal[32..]);
+    assert!(kept.copied().all(|byte| byte == 170));
+    assert_ne!(image, empty);
+    let mut short = [7; IMAGE_LEN - 1];
+    assert_eq!(entry::empty(&mut short), entry::UNSOUND);
+    let answer = entry::line(&mut short, request, &mut journal, 0);
+    assert_eq!(answer, entry::UNSOUND);
+    assert_eq!(short, [7; IMAGE_LEN - 1]);
+}
+
+#[test]
+fn refusals_have_their_numbers() {
+    for (number, refusal) in (1..).zip(Refusal::ALL) {
+        assert_eq!(refusal.number(), number);
+        assert_eq!(Refusal::from_number(number), Some(refusal));
+    }
+    assert_eq!(Refusal::from_number(0), None);
+    assert_eq!(Refusal::from_number(17), None);
+}
+
+#[test]
+fn lines_that_are_not_in_form() {
+    for bytes in [
+        b"ADMIT   1  0  0 ",
+        b"ADMIT   1  0  9\n",
+        b"REFUSE  1  0  0\n",
+        b"REFUSE  0  0 17\n",
+        b"ORDER   1  2  3\n",
+        b"admit   1  0  0\n",
+        b"ADMIT  01  0  0\n",
+        b"ADMIT 1    0  0\n",
+        b"ADMIT      0  0\n",
+        b"ADMIT  +1  0  0\n",
+    ] {
+        assert_eq!(
+            Line::read(bytes),
+            None,
+            "{}",
+            String::from_utf8_lossy(bytes)
+        );
+    }
+}
+
+#[test]
+fn errors_in_words() {
+    let unsound = Error::Refused(Refusal::NotSound);
+    assert_eq!(
+        unsound.to_string(),
+        "refusal 1: The image holds no sound board"
+    );
+    let length = Error::ImageLength(3);
+    assert_eq!(length.to_string(), "an image has 1155 bytes, not 3");
+}
