@@ -4,7 +4,9 @@
 //! each buffer.
 //!
 //! LOCK_BOARD_SEED chooses another seed, LOCK_BOARD_LINES another number of
-//! calls. A difference is printed as the smallest session that shows it.
+//! calls (200,000). A difference is printed as the smallest session that shows
+//! it; `-- --nocapture` prints seed and counters of a run without one.
+//! Run it with --release.
 
 extern crate lock_board as _;
 

@@ -103,7 +103,17 @@ fn every_byte_agrees() {
 fn every_number_agrees() {
     let (image, mut met) = (start(), Counters::default());
     let bytes = *b" 0123456789+-.\0\x2F\x3A\xB1";
-    for (line, at) in [(0, 6), (0, 17), (0, 20), (0, 23), (0, 29), (2, 6), (2, 9), (4, 9), (5, 6)] {
+    for (line, at) in [
+        (0, 6),
+        (0, 17),
+        (0, 20),
+        (0, 23),
+        (0, 29),
+        (2, 6),
+        (2, 9),
+        (4, 9),
+        (5, 6),
+    ] {
         for code in 0..bytes.len().pow(3) {
             let mut changed = LINES[line].to_vec();
             changed[at] = bytes[code % bytes.len()];

@@ -5,9 +5,9 @@ use super::{calls, seed};
 use crate::compare::counters::Counters;
 use crate::compare::session::Session;
 use crate::generate::images::{pool, DAMAGES};
+use crate::generate::lines;
 use crate::generate::random::Random;
 use crate::generate::sessions::{wild, Cast, PROFILES};
-use crate::generate::lines;
 use crate::model::image;
 use crate::model::sound::Fault;
 
@@ -63,7 +63,10 @@ fn damaged_images_agree() {
     }
     met.print("images");
     for fault in ALONE {
-        assert!(met.get(&format!("only {fault:?}")) > 0, "{fault:?} not met alone");
+        assert!(
+            met.get(&format!("only {fault:?}")) > 0,
+            "{fault:?} not met alone"
+        );
     }
     assert!(met.get("Conflict with NoOrder") > 0);
     assert!(met.get("sound") > 0);

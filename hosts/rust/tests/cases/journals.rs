@@ -21,7 +21,15 @@ fn every_journal_length_agrees() {
     let (line, mut met) = (LINE.to_vec(), Counters::default());
     for place in [0, 1, 2, 15, 16, 511, 512, 513, 1000] {
         for journal in 0..=place as usize + 530 {
-            compare(Call { line: line.clone(), journal, place, fill: 1 + place }, &mut met);
+            compare(
+                Call {
+                    line: line.clone(),
+                    journal,
+                    place,
+                    fill: 1 + place,
+                },
+                &mut met,
+            );
         }
     }
     met.print("journals");
@@ -35,7 +43,15 @@ fn far_places_agree() {
     for round in 0..5000 {
         let journal = [0, 511, 512, 513, 4096][round % 5];
         let place = far_place(&mut random);
-        compare(Call { line: line.clone(), journal, place, fill: 1 }, &mut met);
+        compare(
+            Call {
+                line: line.clone(),
+                journal,
+                place,
+                fill: 1,
+            },
+            &mut met,
+        );
     }
     met.print("far places");
     assert_eq!(met.get("refusal 2"), 5000);
@@ -58,7 +74,10 @@ fn highest_place_agrees() {
         let answer = image::line_call(&mut expected_image, LINE, &mut expected, place);
         let (mut image, mut line) = (Guarded::new(&start), Guarded::new(LINE));
         let mut journal = Guarded::zeroed(len as usize);
-        assert_eq!(library_line(&mut image, &mut line, &mut journal, place), answer);
+        assert_eq!(
+            library_line(&mut image, &mut line, &mut journal, place),
+            answer
+        );
         assert!(image.intact() && line.intact() && journal.intact());
         assert!(image.contents() == expected_image && line.contents() == LINE);
         assert!(journal.contents() == expected, "place {place} of {len}");
@@ -75,7 +94,11 @@ fn empty_image_agrees() {
         assert!(image.intact(), "guard bytes of an image of {len} bytes");
         let right = len == image::LENGTH;
         assert_eq!(answer, if right { 0 } else { image::REFUSED_1 });
-        let expected = if right { Session::empty().start } else { before };
+        let expected = if right {
+            Session::empty().start
+        } else {
+            before
+        };
         assert!(image.contents() == expected, "an image of {len} bytes");
     }
 }

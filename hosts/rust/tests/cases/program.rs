@@ -74,7 +74,14 @@ fn output(path: &Path, input: &[u8]) -> Vec<u8> {
     let (mut stdin, input) = (child.stdin.take().unwrap(), input.to_vec());
     let writer = std::thread::spawn(move || stdin.write_all(&input));
     let output = child.wait_with_output().expect("the program's output");
-    writer.join().unwrap().expect("the program reads all of its input");
-    assert!(output.status.success(), "the program ends with {}", output.status);
+    writer
+        .join()
+        .unwrap()
+        .expect("the program reads all of its input");
+    assert!(
+        output.status.success(),
+        "the program ends with {}",
+        output.status
+    );
     output.stdout
 }

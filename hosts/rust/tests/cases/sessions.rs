@@ -40,21 +40,33 @@ fn sessions_agree() {
             let request = cast.request(&run.board, at, &mut random);
             run.call(&request, profile.damaged, &mut random);
         }
-        for script in [scripts::readers_behind_writer, scripts::held_behind_favoured] {
+        for script in [
+            scripts::readers_behind_writer,
+            scripts::held_behind_favoured,
+        ] {
             let (requests, mut run) = (script(&mut random), Run::new(&mut met));
             if round % 10 == 0 {
-                requests.iter().for_each(|request| run.call(request, 0, &mut random));
+                requests
+                    .iter()
+                    .for_each(|request| run.call(request, 0, &mut random));
             }
         }
         round += 1;
     }
     met.print("sessions");
+    assert_all_met(&met);
+}
+
+fn assert_all_met(met: &Counters) {
     let words = Word::ALL.map(|word| std::str::from_utf8(word.text()).unwrap().trim_end());
     for name in words.iter().chain(MET) {
         assert!(met.get(name) > 0, "{name} not met");
     }
     for number in (2..=7).chain(9..=16) {
-        assert!(met.get(&format!("refusal {number}")) > 0, "refusal {number} not met");
+        assert!(
+            met.get(&format!("refusal {number}")) > 0,
+            "refusal {number} not met"
+        );
     }
     assert_eq!(met.get("refusal 1"), 0);
     assert_eq!(met.get_most("admitted"), 32);
@@ -73,7 +85,12 @@ impl Run<'_> {
     fn new(met: &mut Counters) -> Run<'_> {
         let session = Session::empty();
         let image = session.start.clone();
-        Run { session, board: Board::EMPTY, image, met }
+        Run {
+            session,
+            board: Board::EMPTY,
+            image,
+            met,
+        }
     }
 
     fn call(&mut self, request: &Request, damaged: usize, random: &mut Random) {
@@ -83,7 +100,9 @@ impl Run<'_> {
         }
         let call = lines::call(line, random);
         let outcome = self.session.add(&self.image, call.clone());
-        let after = image::layout(&outcome.image).expect("the layout of a board").0;
+        let after = image::layout(&outcome.image)
+            .expect("the layout of a board")
+            .0;
         self.met.answer(&call, &outcome);
         self.met.boards(&self.board, &after);
         self.all_orders(&call.line, &after);
@@ -92,7 +111,9 @@ impl Run<'_> {
 
     /// Demand 3's account of an open, by trying all orders, on small boards.
     fn all_orders(&mut self, text: &[u8], after: &Board) {
-        let Ok(Request::Open { p, f }) = line::read(text) else { return };
+        let Ok(Request::Open { p, f }) = line::read(text) else {
+            return;
+        };
         let before = &self.board;
         let refused = events::refusal(before, &Request::Open { p, f }).is_some();
         if refused || *after == *before || before.admitted().len() > 6 {
@@ -100,7 +121,10 @@ impl Run<'_> {
         }
         let waits = after.waiting.len() > before.waiting.len();
         let conflict = before.conflicting_use(p, f);
-        assert_eq!(waits, conflict || !order::some_order(&before.with_given(p, f)));
+        assert_eq!(
+            waits,
+            conflict || !order::some_order(&before.with_given(p, f))
+        );
         self.met.add("open settled by all orders");
         if waits && !conflict {
             self.met.add("open that waits by all orders");

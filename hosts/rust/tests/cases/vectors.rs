@@ -46,7 +46,12 @@ fn vectors_agree_with_both_hosts() {
 fn sums(input: &[u8], host: fn(&[u8], &Call) -> Outcome) -> String {
     let (mut image, mut text) = (Session::empty().start, String::new());
     for line in program::requests(input) {
-        let call = Call { line: line.to_vec(), journal: 512, place: 0, fill: Call::ALL_170 };
+        let call = Call {
+            line: line.to_vec(),
+            journal: 512,
+            place: 0,
+            fill: Call::ALL_170,
+        };
         let outcome = host(&image, &call);
         let (of_image, of_journal) = (adler(&outcome.image), adler(&outcome.journal));
         text += &format!("{} {of_image} {of_journal}\n", outcome.answer);

@@ -33,7 +33,12 @@ impl Call {
 
     /// A call with just the room that it needs, from place 0 on.
     pub fn plain(line: &[u8]) -> Call {
-        Call { line: line.to_vec(), journal: 512, place: 0, fill: 1 }
+        Call {
+            line: line.to_vec(),
+            journal: 512,
+            place: 0,
+            fill: 1,
+        }
     }
 
     pub fn journal_before(&self) -> Vec<u8> {
@@ -57,7 +62,12 @@ pub struct Outcome {
 pub fn model(image: &[u8], call: &Call) -> Outcome {
     let (mut image, mut journal) = (image.to_vec(), call.journal_before());
     let answer = image::line_call(&mut image, &call.line, &mut journal, call.place);
-    Outcome { answer, image, journal, spilt: None }
+    Outcome {
+        answer,
+        image,
+        journal,
+        spilt: None,
+    }
 }
 
 pub fn library(image: &[u8], call: &Call) -> Outcome {
@@ -75,7 +85,12 @@ pub fn library(image: &[u8], call: &Call) -> Outcome {
     .find(|(kept, _)| !kept)
     .map(|(_, what)| what);
     let (image, journal) = (image.contents().to_vec(), journal.contents().to_vec());
-    Outcome { answer, image, journal, spilt }
+    Outcome {
+        answer,
+        image,
+        journal,
+        spilt,
+    }
 }
 
 pub fn library_line(

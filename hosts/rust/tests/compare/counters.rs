@@ -54,7 +54,10 @@ impl Counters {
 
     fn settling(&mut self, lines: &[&[u8]]) {
         let of = |word: Word| {
-            lines[1..].iter().filter(|line| line.starts_with(word.text())).count()
+            lines[1..]
+                .iter()
+                .filter(|line| line.starts_with(word.text()))
+                .count()
         };
         let (given, favour, admit) = (of(Word::Given), of(Word::Favour), of(Word::Admit));
         for (met, name) in [
@@ -81,8 +84,14 @@ impl Counters {
         let left = before.admitted().len() > after.admitted().len();
         for (met, name) in [
             (after.leaves > before.leaves, "leave counted"),
-            (left && before.favoured == 0 && after.favoured != 0, "leave that favours"),
-            (before.favoured != 0 && after.favoured == 0, "favouring ends"),
+            (
+                left && before.favoured == 0 && after.favoured != 0,
+                "leave that favours",
+            ),
+            (
+                before.favoured != 0 && after.favoured == 0,
+                "favouring ends",
+            ),
             (
                 before.favoured != 0 && after.favoured != 0 && before.favoured != after.favoured,
                 "favouring passes on",

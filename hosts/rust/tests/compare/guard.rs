@@ -39,6 +39,9 @@ impl Guarded {
 
     pub fn intact(&self) -> bool {
         let after = GUARD + self.len();
-        self.bytes[..GUARD].iter().chain(&self.bytes[after..]).all(|&byte| byte == MARK)
+        self.bytes[..GUARD]
+            .iter()
+            .chain(&self.bytes[after..])
+            .all(|&byte| byte == MARK)
     }
 }

@@ -19,8 +19,14 @@ pub fn text(session: &Session, calls_before: usize) -> String {
         return text + "(not met again)\n";
     };
     let call = &session.calls[difference.at];
-    text += &format!("expected {}", outcome(&difference.expected, call, &difference.before));
-    text += &format!("found    {}", outcome(&difference.found, call, &difference.before));
+    text += &format!(
+        "expected {}",
+        outcome(&difference.expected, call, &difference.before)
+    );
+    text += &format!(
+        "found    {}",
+        outcome(&difference.found, call, &difference.before)
+    );
     text
 }
 

@@ -27,7 +27,10 @@ impl Session {
     }
 
     pub fn from(start: Vec<u8>) -> Session {
-        Session { start, calls: Vec::new() }
+        Session {
+            start,
+            calls: Vec::new(),
+        }
     }
 
     /// All calls from the start, up to the first that differs.
@@ -36,7 +39,12 @@ impl Session {
         for (at, call) in self.calls.iter().enumerate() {
             let (expected, found) = (model(&before, call), library(&before, call));
             if expected != found {
-                return Some(Difference { at, before, expected, found });
+                return Some(Difference {
+                    at,
+                    before,
+                    expected,
+                    found,
+                });
             }
             before = expected.image;
         }

@@ -1,6 +1,9 @@
 //! Sound images from the model's sessions, and damage to them: one function
 //! for each clause of the layout and of "A sound board".
 
+// All damages have one type, and one of them changes the length.
+#![allow(clippy::ptr_arg)]
+
 use super::lines::text;
 use super::random::Random;
 use super::sessions::{Cast, PROFILES};
@@ -61,7 +64,11 @@ pub const DAMAGES: &[Damage] = &[
 
 /// A value from a byte's whole range, small ones more often.
 fn byte(random: &mut Random, low: usize) -> u8 {
-    if random.per_mille(500) { low as u8 } else { random.within(low, 255) as u8 }
+    if random.per_mille(500) {
+        low as u8
+    } else {
+        random.within(low, 255) as u8
+    }
 }
 
 fn flip_bits(image: &mut Vec<u8>, _: &Board, random: &mut Random) {
@@ -115,7 +122,11 @@ fn awaited_not_zero(image: &mut Vec<u8>, board: &Board, random: &mut Random) {
 
 fn awaited_range(image: &mut Vec<u8>, board: &Board, random: &mut Random) {
     if let Some(p) = random.pick(&board.waiting) {
-        image[at(p, AWAITED)] = if random.per_mille(500) { 0 } else { byte(random, 65) };
+        image[at(p, AWAITED)] = if random.per_mille(500) {
+            0
+        } else {
+            byte(random, 65)
+        };
     }
 }
 
@@ -193,7 +204,11 @@ fn claims_meet(image: &mut Vec<u8>, board: &Board, random: &mut Random) {
 fn absent_with_sets(image: &mut Vec<u8>, board: &Board, random: &mut Random) {
     if let Some(p) = some_program(board, Standing::Absent, random) {
         let f = random.within(1, 64);
-        let (claim, open) = if random.per_mille(500) { (V, W) } else { (Q, R) };
+        let (claim, open) = if random.per_mille(500) {
+            (V, W)
+        } else {
+            (Q, R)
+        };
         add(image, p, claim, f);
         if random.per_mille(500) {
             add(image, p, open, f);
@@ -204,7 +219,12 @@ fn absent_with_sets(image: &mut Vec<u8>, board: &Board, random: &mut Random) {
 fn held_with_open(image: &mut Vec<u8>, board: &Board, random: &mut Random) {
     if let Some(p) = some_program(board, Standing::Held, random) {
         if let Some(f) = random.pick(&members(board.get(p).claim())) {
-            add(image, p, if board.get(p).v & only(f) != 0 { W } else { R }, f);
+            add(
+                image,
+                p,
+                if board.get(p).v & only(f) != 0 { W } else { R },
+                f,
+            );
         }
     }
 }
@@ -238,9 +258,13 @@ fn awaited_open(image: &mut Vec<u8>, board: &Board, random: &mut Random) {
 /// A running program waits for a file that can be given, or for any claimed
 /// one, which may be sound.
 fn can_be_given(image: &mut Vec<u8>, board: &Board, random: &mut Random) {
-    let Some(p) = some_program(board, Standing::Running, random) else { return };
+    let Some(p) = some_program(board, Standing::Running, random) else {
+        return;
+    };
     let program = board.get(p);
-    let Some(f) = random.pick(&members(program.claim() & !program.open())) else { return };
+    let Some(f) = random.pick(&members(program.claim() & !program.open())) else {
+        return;
+    };
     if would_give(board, p, f) || random.per_mille(300) {
         let mut board = board.clone();
         board.get_mut(p).standing = Standing::Waiting(f);

@@ -6,8 +6,9 @@ use crate::model::events::Request;
 use crate::model::line;
 
 /// Bytes at the edges of what fields and labels admit.
-pub const EDGES: [u8; 20] =
-    [0, 9, 10, 13, 31, 32, 33, 43, 45, 47, 48, 49, 57, 58, 64, 126, 127, 128, 160, 255];
+pub const EDGES: [u8; 20] = [
+    0, 9, 10, 13, 31, 32, 33, 43, 45, 47, 48, 49, 57, 58, 64, 126, 127, 128, 160, 255,
+];
 
 /// A label; now and then of edge bytes.
 pub fn label(random: &mut Random) -> [u8; 8] {
@@ -55,7 +56,11 @@ fn change_byte(line: &mut [u8], random: &mut Random) {
 }
 
 fn lengthen(line: &mut Vec<u8>, random: &mut Random) {
-    let more = if random.per_mille(100) { random.within(0, 400) } else { random.within(1, 6) };
+    let more = if random.per_mille(100) {
+        random.within(0, 400)
+    } else {
+        random.within(1, 6)
+    };
     if random.per_mille(500) {
         line.extend(std::iter::repeat_n(b' ', more));
     } else {
@@ -65,8 +70,10 @@ fn lengthen(line: &mut Vec<u8>, random: &mut Random) {
 
 /// Where a three-column field may begin.
 fn field(line: &[u8], random: &mut Random) -> Option<usize> {
-    let starts: Vec<usize> =
-        [6, 9, 17, 20].into_iter().chain((23..line.len()).step_by(3)).collect();
+    let starts: Vec<usize> = [6, 9, 17, 20]
+        .into_iter()
+        .chain((23..line.len()).step_by(3))
+        .collect();
     let at = random.pick(&starts)?;
     (at + 3 <= line.len()).then_some(at)
 }
@@ -110,8 +117,18 @@ fn change_count(line: &mut Vec<u8>, random: &mut Random) {
 
 fn change_verb(line: &mut [u8], random: &mut Random) {
     const VERBS: [&[u8; 6]; 12] = [
-        b"ENTER ", b"OPEN  ", b"CLOSE ", b"DROP  ", b"LEAVE ", b"enter ", b"OPENS ", b"LEAVES",
-        b"      ", b" OPEN ", b"DROP\0\0", b"ORDER ",
+        b"ENTER ",
+        b"OPEN  ",
+        b"CLOSE ",
+        b"DROP  ",
+        b"LEAVE ",
+        b"enter ",
+        b"OPENS ",
+        b"LEAVES",
+        b"      ",
+        b" OPEN ",
+        b"DROP\0\0",
+        b"ORDER ",
     ];
     if line.len() >= 6 {
         line[..6].copy_from_slice(VERBS[random.below(VERBS.len())]);
@@ -129,7 +146,12 @@ pub fn call(line: Vec<u8>, random: &mut Random) -> Call {
         2..=100 => 512,
         _ => 512 + random.below(64),
     };
-    let mut call = Call { line, journal: place as usize + room, place, fill };
+    let mut call = Call {
+        line,
+        journal: place as usize + room,
+        place,
+        fill,
+    };
     if random.per_mille(4) {
         call.place = far_place(random);
     }
@@ -141,7 +163,15 @@ pub fn call(line: Vec<u8>, random: &mut Random) -> Call {
 
 /// Places around the highest one and up to the largest number.
 pub fn far_place(random: &mut Random) -> u64 {
-    let base = [1_000_000_000, 1 << 31, 1 << 32, 1 << 63, u64::MAX - 512, u64::MAX];
+    let base = [
+        1_000_000_000,
+        1 << 31,
+        1 << 32,
+        1 << 63,
+        u64::MAX - 512,
+        u64::MAX,
+    ];
     let base = base[random.below(base.len())];
-    base.saturating_add(random.below(5) as u64).saturating_sub(random.below(5) as u64)
+    base.saturating_add(random.below(5) as u64)
+        .saturating_sub(random.below(5) as u64)
 }

@@ -51,12 +51,45 @@ pub const PROFILES: &[Profile] = &[
     profile!("pair", 3, 3, (1, 3), (0, 1), STEADY, DRAIN, 50, 20, 100),
     profile!("readers", 24, 5, (0, 1), (1, 4), FILL, DRAIN, 10, 10, 300),
     profile!("unsafe", 12, 12, (3, 7), (0, 2), FILL, STEADY, 10, 10, 400),
-    profile!("favour", 20, 16, (2, 5), (0, 3), FILL, [8, 6, 2, 1, 5], 10, 10, 400),
+    profile!(
+        "favour",
+        20,
+        16,
+        (2, 5),
+        (0, 3),
+        FILL,
+        [8, 6, 2, 1, 5],
+        10,
+        10,
+        400
+    ),
     profile!("wide", 10, 64, (8, 40), (0, 24), FILL, DRAIN, 10, 10, 200),
-    profile!("whole", 6, 64, (20, 64), (0, 64), STEADY, DRAIN, 10, 10, 100),
+    profile!(
+        "whole",
+        6,
+        64,
+        (20, 64),
+        (0, 64),
+        STEADY,
+        DRAIN,
+        10,
+        10,
+        100
+    ),
     profile!("crowd", 32, 40, (1, 4), (0, 4), FILL, DRAIN, 5, 5, 500),
     profile!("loose", 32, 64, (0, 2), (0, 3), FILL, DRAIN, 5, 5, 300),
-    profile!("refusals", 12, 10, (0, 4), (0, 4), STEADY, STEADY, 500, 100, 200),
+    profile!(
+        "refusals",
+        12,
+        10,
+        (0, 4),
+        (0, 4),
+        STEADY,
+        STEADY,
+        500,
+        100,
+        200
+    ),
     profile!("damage", 6, 8, (0, 3), (0, 3), STEADY, DRAIN, 50, 700, 200),
 ];
 
@@ -74,16 +107,29 @@ impl<'a> Cast<'a> {
         programs.truncate(profile.programs);
         let mut files = random.shuffled(64);
         files.truncate(profile.files);
-        Cast { profile, programs, files, phase: random.within(10, 80) }
+        Cast {
+            profile,
+            programs,
+            files,
+            phase: random.within(10, 80),
+        }
     }
 
     /// The next request for a board, as call number `at` of the session.
     pub fn request(&self, board: &Board, at: usize, random: &mut Random) -> Request {
         if random.per_mille(self.profile.wild) {
-            return if random.per_mille(300) { wild(random) } else { self.near(board, random) };
+            return if random.per_mille(300) {
+                wild(random)
+            } else {
+                self.near(board, random)
+            };
         }
         let draining = at / self.phase % 2 == 1;
-        let weights = if draining { self.profile.drain } else { self.profile.fill };
+        let weights = if draining {
+            self.profile.drain
+        } else {
+            self.profile.fill
+        };
         for _ in 0..12 {
             let kind = random.weighted(&weights);
             if let Some(request) = self.fitting(kind, board, random) {
@@ -126,10 +172,18 @@ impl<'a> Cast<'a> {
     fn near(&self, board: &Board, random: &mut Random) -> Request {
         let p = self.programs[random.below(self.programs.len())];
         let claim = members(board.get(p).claim());
-        let files = if claim.is_empty() || random.per_mille(300) { &self.files } else { &claim };
+        let files = if claim.is_empty() || random.per_mille(300) {
+            &self.files
+        } else {
+            &claim
+        };
         let f = files[random.below(files.len())];
         match random.below(5) {
-            0 => Request::Enter { p, v: only(f), q: 0 },
+            0 => Request::Enter {
+                p,
+                v: only(f),
+                q: 0,
+            },
             1 => Request::Close { p, f },
             2 => Request::Drop { p, f },
             3 if random.per_mille(200) => Request::Leave { p },
@@ -156,8 +210,16 @@ impl<'a> Cast<'a> {
 pub fn wild(random: &mut Random) -> Request {
     let (p, f) = (random.within(1, 32), random.within(1, 64));
     match random.below(6) {
-        0 => Request::Enter { p, v: random.next() & random.next(), q: random.next() },
-        1 => Request::Enter { p, v: only(f), q: only(random.within(1, 64)) },
+        0 => Request::Enter {
+            p,
+            v: random.next() & random.next(),
+            q: random.next(),
+        },
+        1 => Request::Enter {
+            p,
+            v: only(f),
+            q: only(random.within(1, 64)),
+        },
         2 => Request::Open { p, f },
         3 => Request::Close { p, f },
         4 => Request::Drop { p, f },

@@ -35,7 +35,13 @@ pub struct Program {
 }
 
 impl Program {
-    pub const ABSENT: Program = Program { standing: Standing::Absent, v: 0, q: 0, w: 0, r: 0 };
+    pub const ABSENT: Program = Program {
+        standing: Standing::Absent,
+        v: 0,
+        q: 0,
+        w: 0,
+        r: 0,
+    };
 
     pub fn admitted(&self) -> bool {
         matches!(self.standing, Standing::Running | Standing::Waiting(_))
@@ -61,7 +67,11 @@ impl Program {
 
     /// This program with file f given, in the way that its claim says.
     pub fn given(&self, f: usize) -> Program {
-        Program { w: self.w | only(f) & self.v, r: self.r | only(f) & self.q, ..*self }
+        Program {
+            w: self.w | only(f) & self.v,
+            r: self.r | only(f) & self.q,
+            ..*self
+        }
     }
 }
 

@@ -72,8 +72,18 @@ pub fn call(before: &Board, request: &Request) -> Result<(Board, Vec<Entry>), us
 
 fn enter(board: &mut Board, p: usize, v: Files, q: Files) -> Entry {
     let held = board.favoured != 0;
-    let standing = if held { Standing::Held } else { Standing::Running };
-    *board.get_mut(p) = Program { standing, v, q, w: 0, r: 0 };
+    let standing = if held {
+        Standing::Held
+    } else {
+        Standing::Running
+    };
+    *board.get_mut(p) = Program {
+        standing,
+        v,
+        q,
+        w: 0,
+        r: 0,
+    };
     if held {
         board.entry.push(p);
     }
@@ -85,7 +95,11 @@ fn open(board: &mut Board, p: usize, f: usize) -> Entry {
         *board = board.with_given(p, f);
         return Entry::new(Word::Given, p, f);
     }
-    let word = if board.conflicting_use(p, f) { Word::Wait } else { Word::Unsafe };
+    let word = if board.conflicting_use(p, f) {
+        Word::Wait
+    } else {
+        Word::Unsafe
+    };
     board.get_mut(p).standing = Standing::Waiting(f);
     board.waiting.push(p);
     Entry::new(word, p, f)

@@ -58,7 +58,11 @@ pub fn write(board: &Board) -> Vec<u8> {
 pub fn read(image: &[u8]) -> Result<Board, Vec<Fault>> {
     let (board, mut found) = layout(image)?;
     found.extend(sound::faults(&board));
-    if found.is_empty() { Ok(board) } else { Err(found) }
+    if found.is_empty() {
+        Ok(board)
+    } else {
+        Err(found)
+    }
 }
 
 /// The board of an image of the right layout, with the gaps in its lines.
@@ -70,14 +74,19 @@ pub fn layout(image: &[u8]) -> Result<(Board, Vec<Fault>), Vec<Fault>> {
     for p in 1..=PROGRAMS {
         *board.get_mut(p) = program(&image[PROGRAM * (p - 1)..PROGRAM * p], &mut broken);
     }
-    board.waiting = names(&image[WAITING_LINE..ENTRY_LINE], Fault::WaitingLineGap, &mut gaps);
+    board.waiting = names(
+        &image[WAITING_LINE..ENTRY_LINE],
+        Fault::WaitingLineGap,
+        &mut gaps,
+    );
     board.entry = names(&image[ENTRY_LINE..FAVOURED], Fault::EntryLineGap, &mut gaps);
     board.favoured = usize::from(image[FAVOURED]);
     board.number = usize::from(image[NUMBER]);
     board.leaves = usize::from(image[LEAVES]);
-    for (line, fault) in
-        [(&board.waiting, Fault::WaitingLineRange), (&board.entry, Fault::EntryLineRange)]
-    {
+    for (line, fault) in [
+        (&board.waiting, Fault::WaitingLineRange),
+        (&board.entry, Fault::EntryLineRange),
+    ] {
         if line.iter().any(|&p| p > PROGRAMS) {
             broken.push(fault);
         }
@@ -85,7 +94,11 @@ pub fn layout(image: &[u8]) -> Result<(Board, Vec<Fault>), Vec<Fault>> {
     if board.favoured > PROGRAMS {
         broken.push(Fault::FavouredRange);
     }
-    if broken.is_empty() { Ok((board, gaps)) } else { Err(broken) }
+    if broken.is_empty() {
+        Ok((board, gaps))
+    } else {
+        Err(broken)
+    }
 }
 
 fn program(bytes: &[u8], broken: &mut Vec<Fault>) -> Program {
@@ -107,16 +120,28 @@ fn program(bytes: &[u8], broken: &mut Vec<Fault>) -> Program {
     if bytes[STANDING] == 2 && !(1..=FILES).contains(&awaited) {
         broken.push(Fault::AwaitedRange);
     }
-    Program { standing, v: set(V), q: set(Q), w: set(W), r: set(R) }
+    Program {
+        standing,
+        v: set(V),
+        q: set(Q),
+        w: set(W),
+        r: set(R),
+    }
 }
 
 /// The names of a line; one that follows a 0 is a gap.
 fn names(line: &[u8], gap: Fault, gaps: &mut Vec<Fault>) -> Vec<usize> {
-    let end = line.iter().position(|&byte| byte == 0).unwrap_or(line.len());
+    let end = line
+        .iter()
+        .position(|&byte| byte == 0)
+        .unwrap_or(line.len());
     if line[end..].iter().any(|&byte| byte != 0) {
         gaps.push(gap);
     }
-    line.iter().filter(|&&byte| byte != 0).map(|&byte| usize::from(byte)).collect()
+    line.iter()
+        .filter(|&&byte| byte != 0)
+        .map(|&byte| usize::from(byte))
+        .collect()
 }
 
 /// The C host's line call.

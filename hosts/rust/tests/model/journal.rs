@@ -51,11 +51,21 @@ pub struct Entry {
 
 impl Entry {
     pub fn new(word: Word, program: usize, file: usize) -> Entry {
-        Entry { word, program, file, refusal: 0 }
+        Entry {
+            word,
+            program,
+            file,
+            refusal: 0,
+        }
     }
 
     pub fn refused(refusal: usize, program: usize, file: usize) -> Entry {
-        Entry { word: Word::Refuse, program, file, refusal }
+        Entry {
+            word: Word::Refuse,
+            program,
+            file,
+            refusal,
+        }
     }
 
     /// 15 columns and byte 10.

@@ -56,7 +56,11 @@ fn enter(line: &[u8]) -> Result<Request, usize> {
         files.push(number(field, 1, FILES)?);
     }
     let (v, q) = files.split_at(w);
-    Ok(Request::Enter { p, v: group(v)?, q: group(q)? })
+    Ok(Request::Enter {
+        p,
+        v: group(v)?,
+        q: group(q)?,
+    })
 }
 
 /// The set of one group, whose files must rise strictly.

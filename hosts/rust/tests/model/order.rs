@@ -43,14 +43,18 @@ pub fn carried(board: &Board) -> Option<Vec<usize>> {
 /// Whether none in the list is held back by a later one.
 pub fn completes(board: &Board, list: &[usize]) -> bool {
     list.iter().enumerate().all(|(at, &p)| {
-        list[at + 1..].iter().all(|&later| !board.get(later).holds_back(board.get(p)))
+        list[at + 1..]
+            .iter()
+            .all(|&later| !board.get(later).holds_back(board.get(p)))
     })
 }
 
 /// Whether some list of all the admitted programs is a completion order,
 /// found by trying every list. For few programs only.
 pub fn some_order(board: &Board) -> bool {
-    lists(&board.admitted()).iter().any(|list| completes(board, list))
+    lists(&board.admitted())
+        .iter()
+        .any(|list| completes(board, list))
 }
 
 /// Every list that names each of the programs once.

@@ -11,7 +11,10 @@ pub fn requests(input: &[u8]) -> Vec<&[u8]> {
     if lines.last().is_some_and(|last| last.is_empty()) {
         lines.pop();
     }
-    lines.into_iter().map(|line| if line.len() > 407 { &line[..408] } else { line }).collect()
+    lines
+        .into_iter()
+        .map(|line| if line.len() > 407 { &line[..408] } else { line })
+        .collect()
 }
 
 pub fn output(input: &[u8]) -> Vec<u8> {

@@ -56,5 +56,7 @@ fn favour_or_admit(board: &mut Board) -> Vec<Entry> {
     for &p in &held {
         board.get_mut(p).standing = Standing::Running;
     }
-    held.into_iter().map(|p| Entry::new(Word::Admit, p, 0)).collect()
+    held.into_iter()
+        .map(|p| Entry::new(Word::Admit, p, 0))
+        .collect()
 }

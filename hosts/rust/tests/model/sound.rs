@@ -52,9 +52,17 @@ pub fn faults(board: &Board) -> Vec<Fault> {
     let mut found = Vec::new();
     let waiting = board.which(|program| matches!(program.standing, Standing::Waiting(_)));
     let held = board.which(|program| program.standing == Standing::Held);
-    let names = [Fault::WaiterMissing, Fault::WaiterTwice, Fault::WaitingLineStranger];
+    let names = [
+        Fault::WaiterMissing,
+        Fault::WaiterTwice,
+        Fault::WaitingLineStranger,
+    ];
     line(&board.waiting, &waiting, names, &mut found);
-    let names = [Fault::HeldMissing, Fault::HeldTwice, Fault::EntryLineStranger];
+    let names = [
+        Fault::HeldMissing,
+        Fault::HeldTwice,
+        Fault::EntryLineStranger,
+    ];
     line(&board.entry, &held, names, &mut found);
     for p in board.which(|_| true) {
         sets(board.get(p), &mut found);
@@ -140,7 +148,10 @@ fn favouring(board: &Board, found: &mut Vec<Fault>) {
         return;
     }
     let standing = board.get(board.favoured).standing;
-    check(matches!(standing, Standing::Waiting(_)), Fault::FavouredNotWaiting);
+    check(
+        matches!(standing, Standing::Waiting(_)),
+        Fault::FavouredNotWaiting,
+    );
     let sum = board.leaves + board.admitted().len();
     check(sum == board.number, Fault::SumWrong);
     check(board.number <= 32, Fault::NumberAbove32);
