@@ -1,0 +1,28 @@
+//! The tests, and what they share.
+
+mod bytes;
+mod images;
+mod journals;
+mod program;
+mod sessions;
+mod vectors;
+
+fn number(name: &str, default: u64) -> u64 {
+    match std::env::var(name) {
+        Ok(text) => text
+            .parse()
+            .unwrap_or_else(|_| panic!("{name} is no number: {text}")),
+        Err(_) => default,
+    }
+}
+
+fn seed() -> u64 {
+    let seed = number("LOCK_BOARD_SEED", 1972);
+    println!("seed {seed}");
+    seed
+}
+
+/// Calls of the sessions; the other tests take a share of it.
+fn calls() -> u64 {
+    number("LOCK_BOARD_LINES", 200_000)
+}

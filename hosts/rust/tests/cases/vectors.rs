@@ -1,0 +1,69 @@
+//! The model replays the vectors: the program's output with its order, and the
+//! host entry's answers, images and journals. The library replays them too.
+
+use crate::compare::call::{library, model, Call, Outcome};
+use crate::compare::session::Session;
+use crate::model::program;
+use std::path::PathBuf;
+
+fn data() -> PathBuf {
+    PathBuf::from(env!("CARGO_MANIFEST_DIR")).join("../../crates/vectors/data")
+}
+
+/// The inputs' names, without their ending.
+fn names() -> Vec<PathBuf> {
+    let mut names: Vec<PathBuf> = std::fs::read_dir(data())
+        .expect("the vectors' directory")
+        .map(|entry| entry.expect("a vector").path())
+        .filter(|path| path.extension().is_some_and(|ending| ending == "in"))
+        .collect();
+    names.sort();
+    assert!(!names.is_empty());
+    names
+}
+
+#[test]
+fn vectors_agree_with_the_model() {
+    for input in names() {
+        let text = std::fs::read(&input).unwrap();
+        let expected = std::fs::read(input.with_extension("out")).unwrap();
+        assert!(program::output(&text) == expected, "{}", input.display());
+    }
+}
+
+#[test]
+fn vectors_agree_with_both_hosts() {
+    for input in names() {
+        let text = std::fs::read(&input).unwrap();
+        let expected = std::fs::read_to_string(input.with_extension("host")).unwrap();
+        for host in [model, library] {
+            assert!(sums(&text, host) == expected, "{}", input.display());
+        }
+    }
+}
+
+/// The lines of NAME.host: answer, sum of the image, sum of the journal.
+fn sums(input: &[u8], host: fn(&[u8], &Call) -> Outcome) -> String {
+    let (mut image, mut text) = (Session::empty().start, String::new());
+    for line in program::requests(input) {
+        let call = Call {
+            line: line.to_vec(),
+            journal: 512,
+            place: 0,
+            fill: Call::ALL_170,
+        };
+        let outcome = host(&image, &call);
+        let (of_image, of_journal) = (adler(&outcome.image), adler(&outcome.journal));
+        text += &format!("{} {of_image} {of_journal}\n", outcome.answer);
+        image = outcome.image;
+    }
+    text
+}
+
+fn adler(bytes: &[u8]) -> u32 {
+    let (a, b) = bytes.iter().fold((1u32, 0u32), |(a, b), &byte| {
+        let a = (a + u32::from(byte)) % 65521;
+        (a, (b + a) % 65521)
+    });
+    b * 65536 + a
+}

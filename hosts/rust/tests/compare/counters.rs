@@ -1,0 +1,115 @@
+//! What the sessions have met: words, refusals, settlings, states.
+
+use super::call::{Call, Outcome};
+use crate::model::board::Board;
+use crate::model::image::{REFUSED_1, REFUSED_2};
+use crate::model::journal::{Word, LINE};
+use std::collections::BTreeMap;
+
+#[derive(Default)]
+pub struct Counters {
+    pub calls: u64,
+    counts: BTreeMap<String, u64>,
+    most: BTreeMap<&'static str, u64>,
+}
+
+impl Counters {
+    pub fn add(&mut self, name: &str) {
+        *self.counts.entry(name.to_string()).or_default() += 1;
+    }
+
+    fn most(&mut self, name: &'static str, count: usize) {
+        let most = self.most.entry(name).or_default();
+        *most = (*most).max(count as u64);
+    }
+
+    pub fn get(&self, name: &str) -> u64 {
+        self.counts.get(name).copied().unwrap_or(0)
+    }
+
+    pub fn get_most(&self, name: &str) -> u64 {
+        self.most.get(name).copied().unwrap_or(0)
+    }
+
+    /// Counts the lines of an answer.
+    pub fn answer(&mut self, call: &Call, outcome: &Outcome) {
+        self.calls += 1;
+        match outcome.answer {
+            REFUSED_1 => return self.add("refusal 1"),
+            REFUSED_2 => return self.add("refusal 2"),
+            _ => {}
+        }
+        let (from, to) = (call.place as usize, outcome.answer as usize);
+        let lines: Vec<&[u8]> = outcome.journal[from..to].chunks(LINE).collect();
+        for line in &lines {
+            self.add(std::str::from_utf8(&line[..6]).unwrap().trim_end());
+        }
+        if lines[0].starts_with(Word::Refuse.text()) {
+            let number = std::str::from_utf8(&lines[0][12..15]).unwrap().trim_start();
+            self.add(&format!("refusal {number}"));
+        }
+        self.settling(&lines);
+        self.most("lines of one call", lines.len());
+    }
+
+    fn settling(&mut self, lines: &[&[u8]]) {
+        let of = |word: Word| {
+            lines[1..]
+                .iter()
+                .filter(|line| line.starts_with(word.text()))
+                .count()
+        };
+        let (given, favour, admit) = (of(Word::Given), of(Word::Favour), of(Word::Admit));
+        for (met, name) in [
+            (given > 0, "settling gives"),
+            (given > 1, "settling gives several"),
+            (favour > 0, "settling favours"),
+            (given > 0 && favour > 0, "settling gives and favours"),
+            (admit > 0, "settling admits"),
+            (admit > 1, "settling admits several"),
+            (given > 0 && admit > 0, "settling gives and admits"),
+        ] {
+            if met {
+                self.add(name);
+            }
+        }
+    }
+
+    /// Counts the states that a call has led to.
+    pub fn boards(&mut self, before: &Board, after: &Board) {
+        self.most("admitted", after.admitted().len());
+        self.most("waiting", after.waiting.len());
+        self.most("held", after.entry.len());
+        self.most("leaves counted", after.leaves);
+        let left = before.admitted().len() > after.admitted().len();
+        for (met, name) in [
+            (after.leaves > before.leaves, "leave counted"),
+            (
+                left && before.favoured == 0 && after.favoured != 0,
+                "leave that favours",
+            ),
+            (
+                before.favoured != 0 && after.favoured == 0,
+                "favouring ends",
+            ),
+            (
+                before.favoured != 0 && after.favoured != 0 && before.favoured != after.favoured,
+                "favouring passes on",
+            ),
+        ] {
+            if met {
+                self.add(name);
+            }
+        }
+    }
+
+    pub fn print(&self, title: &str) {
+        println!("{title}: {} calls", self.calls);
+        for (name, count) in &self.counts {
+            println!("  {name:<28}{count:>9}");
+        }
+        for (name, count) in &self.most {
+            println!("  most {name:<23}{count:>9}");
+        }
+    }
+}

@@ -1,0 +1,9 @@
+//! The comparison: one call on the library and on the model, whole sessions of
+//! calls, their shrinking, the printed difference and the counters.
+
+pub mod call;
+pub mod counters;
+pub mod guard;
+pub mod report;
+pub mod session;
+pub mod shrink;

@@ -1,0 +1,134 @@
+//! Makes a session that shows a difference as small as it goes while some
+//! difference remains.
+
+use super::call::Call;
+use super::session::Session;
+use crate::model::image;
+
+pub fn shrink(mut session: Session) -> Session {
+    loop {
+        let size = size(&session);
+        cut(&mut session);
+        drop_calls(&mut session);
+        if session.start.len() == image::LENGTH {
+            drop_programs(&mut session);
+            drop_files(&mut session);
+        }
+        clear_start(&mut session);
+        plain_journals(&mut session);
+        if self::size(&session) == size {
+            return session;
+        }
+    }
+}
+
+fn size(session: &Session) -> (usize, usize, usize) {
+    let set = session.start.iter().filter(|&&byte| byte != 0).count();
+    let odd = session
+        .calls
+        .iter()
+        .filter(|call| **call != Call::plain(&call.line))
+        .count();
+    (session.calls.len(), set, odd)
+}
+
+/// Replaces the session if the change does something and a difference remains.
+fn keep(session: &mut Session, change: impl Fn(&mut Session)) -> bool {
+    let mut changed = session.clone();
+    change(&mut changed);
+    let same = changed.start == session.start && changed.calls == session.calls;
+    let smaller = !same && changed.difference().is_some();
+    if smaller {
+        *session = changed;
+    }
+    smaller
+}
+
+/// Leaves out what comes after the call that differs.
+fn cut(session: &mut Session) {
+    if let Some(difference) = session.difference() {
+        session.calls.truncate(difference.at + 1);
+    }
+}
+
+/// Leaves out runs of calls, long ones first.
+fn drop_calls(session: &mut Session) {
+    let mut run = session.calls.len() / 2;
+    while run > 0 {
+        let mut from = 0;
+        while from + run <= session.calls.len() {
+            if !keep(session, |changed| {
+                drop(changed.calls.drain(from..from + run))
+            }) {
+                from += run;
+            }
+        }
+        run /= 2;
+    }
+    cut(session);
+}
+
+/// Takes single programs out of the image, also out of its lines; with one
+/// less at favouring if that is needed.
+fn drop_programs(session: &mut Session) {
+    for p in 1..=32u8 {
+        let from = image::PROGRAM * usize::from(p - 1);
+        let whole = from..from + image::PROGRAM;
+        if session.start[whole.clone()].iter().all(|&byte| byte == 0) {
+            continue;
+        }
+        for less in [1, 0] {
+            keep(session, |changed| {
+                changed.start[whole.clone()].fill(0);
+                for line in [image::WAITING_LINE, image::ENTRY_LINE] {
+                    let names = &mut changed.start[line..line + 32];
+                    if let Some(at) = names.iter().position(|&name| name == p) {
+                        names[at..].rotate_left(1);
+                        names[31] = 0;
+                    }
+                }
+                let number = &mut changed.start[image::NUMBER];
+                *number = number.saturating_sub(less);
+            });
+        }
+    }
+}
+
+/// Takes single files out of all sets of one program, or of all programs.
+fn drop_files(session: &mut Session) {
+    for f in 0..64 {
+        let clear = |start: &mut [u8], p: usize| {
+            for set in [image::V, image::Q, image::W, image::R] {
+                start[image::PROGRAM * p + set + f / 8] &= !(1 << (f % 8));
+            }
+        };
+        keep(session, |changed| {
+            (0..32).for_each(|p| clear(&mut changed.start, p))
+        });
+        for p in 0..32 {
+            keep(session, |changed| clear(&mut changed.start, p));
+        }
+    }
+}
+
+/// Puts 0 into the image's bytes, whole programs first.
+fn clear_start(session: &mut Session) {
+    for run in [34, 8, 1] {
+        for from in (0..session.start.len()).step_by(run) {
+            let to = session.start.len().min(from + run);
+            if session.start[from..to].iter().any(|&byte| byte != 0) {
+                keep(session, |changed| changed.start[from..to].fill(0));
+            }
+        }
+    }
+}
+
+/// Gives each call a journal of just the room it needs, if it can.
+fn plain_journals(session: &mut Session) {
+    for at in 0..session.calls.len() {
+        let plain = Call::plain(&session.calls[at].line);
+        if session.calls[at] != plain {
+            keep(session, |changed| changed.calls[at] = plain.clone());
+        }
+    }
+}

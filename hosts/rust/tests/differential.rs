@@ -1,0 +1,16 @@
+//! Compares the library, through its C entry, with a model of document 01: on
+//! random sessions, damaged lines, damaged images and all kinds of journals.
+//! Every answer, image and journal byte is compared, with guard bytes around
+//! each buffer.
+//!
+//! LOCK_BOARD_SEED chooses another seed, LOCK_BOARD_LINES another number of
+//! calls (200,000). A difference is printed as the smallest session that shows
+//! it; `-- --nocapture` prints seed and counters of a run without one.
+//! Run it with --release.
+
+extern crate lock_board as _;
+
+mod cases;
+mod compare;
+mod generate;
+mod model;

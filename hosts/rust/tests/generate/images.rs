@@ -1,0 +1,311 @@
+//! Sound images from the model's sessions, and damage to them: one function
+//! for each clause of the layout and of "A sound board".
+
+// All damages have one type, and one of them changes the length.
+#![allow(clippy::ptr_arg)]
+
+use super::lines::text;
+use super::random::Random;
+use super::sessions::{Cast, PROFILES};
+use crate::model::board::{members, only, Board, Standing};
+use crate::model::image::{self, *};
+use crate::model::settle::{awaited, would_give};
+
+/// Sound images of many kinds, by the model alone.
+pub fn pool(size: usize, random: &mut Random) -> Vec<Vec<u8>> {
+    let mut images = Vec::new();
+    while images.len() < size {
+        let profile = &PROFILES[random.below(PROFILES.len())];
+        let (cast, mut board) = (Cast::new(profile, random), Board::EMPTY);
+        for at in 0..random.within(1, 120) {
+            let request = text(&cast.request(&board, at, random), random);
+            board = image::step(&board, &request).0;
+            if random.per_mille(80) {
+                images.push(image::write(&board));
+            }
+        }
+        images.push(image::write(&board));
+    }
+    images
+}
+
+/// One way to damage the image of a board.
+pub type Damage = fn(&mut Vec<u8>, &Board, &mut Random);
+
+pub const DAMAGES: &[Damage] = &[
+    flip_bits,
+    set_byte,
+    wrong_length,
+    noise,
+    standing_byte,
+    awaited_not_zero,
+    awaited_range,
+    name_range,
+    favoured_range,
+    line_gap,
+    name_missing,
+    name_twice,
+    stranger,
+    outside_claim,
+    claims_meet,
+    absent_with_sets,
+    held_with_open,
+    give_anyway,
+    awaited_unclaimed,
+    awaited_open,
+    can_be_given,
+    other_favoured,
+    nobody_favoured,
+    number,
+    leaves,
+    number_and_leaves,
+    still_sound,
+];
+
+/// A value from a byte's whole range, small ones more often.
+fn byte(random: &mut Random, low: usize) -> u8 {
+    if random.per_mille(500) {
+        low as u8
+    } else {
+        random.within(low, 255) as u8
+    }
+}
+
+fn flip_bits(image: &mut Vec<u8>, _: &Board, random: &mut Random) {
+    for _ in 0..random.within(1, 3) {
+        image[random.below(LENGTH)] ^= 1 << random.below(8);
+    }
+}
+
+fn set_byte(image: &mut Vec<u8>, _: &Board, random: &mut Random) {
+    image[random.below(LENGTH)] = byte(random, 1);
+}
+
+fn wrong_length(image: &mut Vec<u8>, _: &Board, random: &mut Random) {
+    const LENGTHS: [usize; 12] = [0, 1, 33, 34, 1087, 1088, 1152, 1154, 1156, 1157, 1189, 2310];
+    let len = if random.per_mille(500) {
+        LENGTHS[random.below(LENGTHS.len())]
+    } else {
+        random.below(2400)
+    };
+    image.resize(len, 0);
+}
+
+fn noise(image: &mut Vec<u8>, _: &Board, random: &mut Random) {
+    *image = random.bytes(LENGTH);
+}
+
+/// The first byte of a field of program p.
+fn at(p: usize, field: usize) -> usize {
+    PROGRAM * (p - 1) + field
+}
+
+/// Adds file f to a set of program p.
+fn add(image: &mut [u8], p: usize, set: usize, f: usize) {
+    image[at(p, set) + (f - 1) / 8] |= 1 << ((f - 1) % 8);
+}
+
+fn some_program(board: &Board, standing: Standing, random: &mut Random) -> Option<usize> {
+    random.pick(&board.which(|program| program.standing == standing))
+}
+
+fn standing_byte(image: &mut Vec<u8>, _: &Board, random: &mut Random) {
+    image[at(random.within(1, 32), STANDING)] = byte(random, 4);
+}
+
+fn awaited_not_zero(image: &mut Vec<u8>, board: &Board, random: &mut Random) {
+    let idle = board.which(|program| !matches!(program.standing, Standing::Waiting(_)));
+    if let Some(p) = random.pick(&idle) {
+        image[at(p, AWAITED)] = byte(random, 1);
+    }
+}
+
+fn awaited_range(image: &mut Vec<u8>, board: &Board, random: &mut Random) {
+    if let Some(p) = random.pick(&board.waiting) {
+        image[at(p, AWAITED)] = if random.per_mille(500) {
+            0
+        } else {
+            byte(random, 65)
+        };
+    }
+}
+
+/// One of the two lines: where it begins, and its names.
+fn some_line<'a>(board: &'a Board, random: &mut Random) -> (usize, &'a Vec<usize>) {
+    if random.per_mille(500) {
+        (WAITING_LINE, &board.waiting)
+    } else {
+        (ENTRY_LINE, &board.entry)
+    }
+}
+
+fn name_range(image: &mut Vec<u8>, board: &Board, random: &mut Random) {
+    let (line, names) = some_line(board, random);
+    image[line + random.within(0, names.len().min(31))] = byte(random, 33);
+}
+
+fn favoured_range(image: &mut Vec<u8>, _: &Board, random: &mut Random) {
+    image[FAVOURED] = byte(random, 33);
+}
+
+/// A 0 before a name.
+fn line_gap(image: &mut Vec<u8>, board: &Board, random: &mut Random) {
+    let (line, names) = some_line(board, random);
+    if (1..32).contains(&names.len()) {
+        let gap = line + random.below(names.len());
+        image[gap..line + 32].rotate_right(1);
+    }
+}
+
+fn name_missing(image: &mut Vec<u8>, board: &Board, random: &mut Random) {
+    let (line, names) = some_line(board, random);
+    if !names.is_empty() {
+        let out = line + random.below(names.len());
+        image[out..line + 32].rotate_left(1);
+        image[line + 31] = 0;
+    }
+}
+
+fn name_twice(image: &mut Vec<u8>, board: &Board, random: &mut Random) {
+    let (line, names) = some_line(board, random);
+    if let (Some(p), true) = (random.pick(names), names.len() < 32) {
+        let before = line + random.within(0, names.len());
+        image[before..line + 32].rotate_right(1);
+        image[before] = p as u8;
+    }
+}
+
+/// A name that does not belong in the line.
+fn stranger(image: &mut Vec<u8>, board: &Board, random: &mut Random) {
+    let (line, names) = some_line(board, random);
+    let p = random.within(1, 32);
+    if names.len() < 32 && !names.contains(&p) {
+        image[line + names.len()] = p as u8;
+    }
+}
+
+/// W outside of V, or R outside of Q.
+fn outside_claim(image: &mut Vec<u8>, board: &Board, random: &mut Random) {
+    let set = if random.per_mille(500) { W } else { R };
+    if let Some(p) = random.pick(&board.admitted()) {
+        add(image, p, set, random.within(1, 64));
+    }
+}
+
+fn claims_meet(image: &mut Vec<u8>, board: &Board, random: &mut Random) {
+    if let Some(p) = random.pick(&board.which(|program| program.claim() != 0)) {
+        let set = if random.per_mille(500) { V } else { Q };
+        if let Some(f) = random.pick(&members(board.get(p).claim())) {
+            add(image, p, set, f);
+        }
+    }
+}
+
+fn absent_with_sets(image: &mut Vec<u8>, board: &Board, random: &mut Random) {
+    if let Some(p) = some_program(board, Standing::Absent, random) {
+        let f = random.within(1, 64);
+        let (claim, open) = if random.per_mille(500) {
+            (V, W)
+        } else {
+            (Q, R)
+        };
+        add(image, p, claim, f);
+        if random.per_mille(500) {
+            add(image, p, open, f);
+        }
+    }
+}
+
+fn held_with_open(image: &mut Vec<u8>, board: &Board, random: &mut Random) {
+    if let Some(p) = some_program(board, Standing::Held, random) {
+        if let Some(f) = random.pick(&members(board.get(p).claim())) {
+            add(
+                image,
+                p,
+                if board.get(p).v & only(f) != 0 { W } else { R },
+                f,
+            );
+        }
+    }
+}
+
+/// A waiter runs with its file, though it can't be given.
+fn give_anyway(image: &mut Vec<u8>, board: &Board, random: &mut Random) {
+    if let Some(p) = random.pick(&board.waiting) {
+        let mut board = board.with_given(p, awaited(board, p));
+        board.get_mut(p).standing = Standing::Running;
+        board.waiting.retain(|&other| other != p);
+        *image = image::write(&board);
+    }
+}
+
+fn awaited_unclaimed(image: &mut Vec<u8>, board: &Board, random: &mut Random) {
+    if let Some(p) = random.pick(&board.waiting) {
+        if let Some(f) = random.pick(&members(!board.get(p).claim())) {
+            image[at(p, AWAITED)] = f as u8;
+        }
+    }
+}
+
+fn awaited_open(image: &mut Vec<u8>, board: &Board, random: &mut Random) {
+    if let Some(p) = random.pick(&board.waiting) {
+        if let Some(f) = random.pick(&members(board.get(p).open())) {
+            image[at(p, AWAITED)] = f as u8;
+        }
+    }
+}
+
+/// A running program waits for a file that can be given, or for any claimed
+/// one, which may be sound.
+fn can_be_given(image: &mut Vec<u8>, board: &Board, random: &mut Random) {
+    let Some(p) = some_program(board, Standing::Running, random) else {
+        return;
+    };
+    let program = board.get(p);
+    let Some(f) = random.pick(&members(program.claim() & !program.open())) else {
+        return;
+    };
+    if would_give(board, p, f) || random.per_mille(300) {
+        let mut board = board.clone();
+        board.get_mut(p).standing = Standing::Waiting(f);
+        board.waiting.push(p);
+        *image = image::write(&board);
+    }
+}
+
+/// Another favoured program, which may be sound.
+fn other_favoured(image: &mut Vec<u8>, board: &Board, random: &mut Random) {
+    image[FAVOURED] = random.within(1, 32) as u8;
+    if board.favoured == 0 {
+        image[NUMBER] = board.admitted().len() as u8;
+    }
+}
+
+fn nobody_favoured(image: &mut Vec<u8>, _: &Board, _: &mut Random) {
+    image[FAVOURED..].fill(0);
+}
+
+fn number(image: &mut Vec<u8>, _: &Board, random: &mut Random) {
+    image[NUMBER] = random.below(256) as u8;
+}
+
+fn leaves(image: &mut Vec<u8>, _: &Board, random: &mut Random) {
+    image[LEAVES] = random.below(256) as u8;
+}
+
+/// Both numbers up by as much: sound while the number is at most 32.
+fn number_and_leaves(image: &mut Vec<u8>, board: &Board, random: &mut Random) {
+    let highest = if random.per_mille(700) { 33 } else { 255 };
+    let more = random.below(highest + 1 - board.number.min(highest)) as u8;
+    image[NUMBER] = image[NUMBER].wrapping_add(more);
+    image[LEAVES] = image[LEAVES].wrapping_add(more);
+}
+
+/// No damage: the lines in another sequence.
+fn still_sound(image: &mut Vec<u8>, board: &Board, random: &mut Random) {
+    for (line, names) in [(WAITING_LINE, &board.waiting), (ENTRY_LINE, &board.entry)] {
+        for k in 1..names.len() {
+            image.swap(line + k, line + random.below(k + 1));
+        }
+    }
+}

@@ -1,0 +1,127 @@
+//! "Programs and files": standings, claims, open files, conflict, holding
+//! back, and the board that keeps them with its two lines.
+
+pub const PROGRAMS: usize = 32;
+pub const FILES: usize = 64;
+
+/// A set of files; file 1 is the lowest bit.
+pub type Files = u64;
+
+/// The set of one file.
+pub fn only(f: usize) -> Files {
+    1 << (f - 1)
+}
+
+/// The files of a set, rising.
+pub fn members(set: Files) -> Vec<usize> {
+    (1..=FILES).filter(|&f| set & only(f) != 0).collect()
+}
+
+#[derive(Clone, Copy, PartialEq, Eq, Debug)]
+pub enum Standing {
+    Absent,
+    Running,
+    Waiting(usize),
+    Held,
+}
+
+#[derive(Clone, Copy, PartialEq, Eq, Debug)]
+pub struct Program {
+    pub standing: Standing,
+    pub v: Files,
+    pub q: Files,
+    pub w: Files,
+    pub r: Files,
+}
+
+impl Program {
+    pub const ABSENT: Program = Program {
+        standing: Standing::Absent,
+        v: 0,
+        q: 0,
+        w: 0,
+        r: 0,
+    };
+
+    pub fn admitted(&self) -> bool {
+        matches!(self.standing, Standing::Running | Standing::Waiting(_))
+    }
+
+    pub fn open(&self) -> Files {
+        self.w | self.r
+    }
+
+    pub fn claim(&self) -> Files {
+        self.v | self.q
+    }
+
+    /// W of one meets W or R of the other.
+    pub fn conflicts(&self, other: &Program) -> bool {
+        self.w & other.open() != 0 || other.w & self.open() != 0
+    }
+
+    /// W of this one meets V or Q of the other, or R of this one its V.
+    pub fn holds_back(&self, other: &Program) -> bool {
+        self.w & other.claim() != 0 || self.r & other.v != 0
+    }
+
+    /// This program with file f given, in the way that its claim says.
+    pub fn given(&self, f: usize) -> Program {
+        Program {
+            w: self.w | only(f) & self.v,
+            r: self.r | only(f) & self.q,
+            ..*self
+        }
+    }
+}
+
+#[derive(Clone, PartialEq, Eq, Debug)]
+pub struct Board {
+    programs: [Program; PROGRAMS],
+    pub waiting: Vec<usize>,
+    pub entry: Vec<usize>,
+    pub favoured: usize,
+    pub number: usize,
+    pub leaves: usize,
+}
+
+impl Board {
+    pub const EMPTY: Board = Board {
+        programs: [Program::ABSENT; PROGRAMS],
+        waiting: Vec::new(),
+        entry: Vec::new(),
+        favoured: 0,
+        number: 0,
+        leaves: 0,
+    };
+
+    pub fn get(&self, p: usize) -> &Program {
+        &self.programs[p - 1]
+    }
+
+    pub fn get_mut(&mut self, p: usize) -> &mut Program {
+        &mut self.programs[p - 1]
+    }
+
+    /// The programs that pass a test, lowest first.
+    pub fn which(&self, test: impl Fn(&Program) -> bool) -> Vec<usize> {
+        (1..=PROGRAMS).filter(|&p| test(self.get(p))).collect()
+    }
+
+    pub fn admitted(&self) -> Vec<usize> {
+        self.which(Program::admitted)
+    }
+
+    /// Whether, with f given to p, another program and p would conflict.
+    pub fn conflicting_use(&self, p: usize, f: usize) -> bool {
+        let given = self.get(p).given(f);
+        (1..=PROGRAMS).any(|other| other != p && self.get(other).conflicts(&given))
+    }
+
+    /// The board with f given to p, all else as before.
+    pub fn with_given(&self, p: usize, f: usize) -> Board {
+        let mut board = self.clone();
+        *board.get_mut(p) = self.get(p).given(f);
+        board
+    }
+}

@@ -1,0 +1,128 @@
+//! "Events": the five calls with their refusals 9 to 16. Refusal 8 is met only
+//! in direct calls, which the model does not have.
+
+use super::board::{only, Board, Files, Program, Standing};
+use super::journal::{Entry, Word};
+use super::settle::{settle, would_give};
+
+#[derive(Clone, Copy, PartialEq, Eq, Debug)]
+pub enum Request {
+    Enter { p: usize, v: Files, q: Files },
+    Open { p: usize, f: usize },
+    Close { p: usize, f: usize },
+    Drop { p: usize, f: usize },
+    Leave { p: usize },
+}
+
+impl Request {
+    /// The program, and the file or 0.
+    pub fn numbers(&self) -> (usize, usize) {
+        match *self {
+            Request::Enter { p, .. } | Request::Leave { p } => (p, 0),
+            Request::Open { p, f } | Request::Close { p, f } | Request::Drop { p, f } => (p, f),
+        }
+    }
+}
+
+/// The refusal of a call, if it is refused.
+pub fn refusal(board: &Board, request: &Request) -> Option<usize> {
+    let (p, f) = request.numbers();
+    let program = board.get(p);
+    if let Request::Enter { v, q, .. } = *request {
+        return match program.standing {
+            Standing::Absent if v & q == 0 => None,
+            Standing::Absent => Some(10),
+            _ => Some(9),
+        };
+    }
+    match program.standing {
+        Standing::Absent => return Some(11),
+        Standing::Held => return Some(12),
+        Standing::Waiting(_) => return Some(13),
+        Standing::Running => {}
+    }
+    match request {
+        Request::Open { .. } | Request::Drop { .. } => {
+            if program.claim() & only(f) == 0 {
+                Some(14)
+            } else if program.open() & only(f) != 0 {
+                Some(15)
+            } else {
+                None
+            }
+        }
+        Request::Close { .. } if program.open() & only(f) == 0 => Some(16),
+        _ => None,
+    }
+}
+
+/// The board after the call and its lines, or the refusal.
+pub fn call(before: &Board, request: &Request) -> Result<(Board, Vec<Entry>), usize> {
+    if let Some(number) = refusal(before, request) {
+        return Err(number);
+    }
+    let mut board = before.clone();
+    let lines = match *request {
+        Request::Enter { p, v, q } => vec![enter(&mut board, p, v, q)],
+        Request::Open { p, f } => vec![open(&mut board, p, f)],
+        _ => release(&mut board, request),
+    };
+    Ok((board, lines))
+}
+
+fn enter(board: &mut Board, p: usize, v: Files, q: Files) -> Entry {
+    let held = board.favoured != 0;
+    let standing = if held {
+        Standing::Held
+    } else {
+        Standing::Running
+    };
+    *board.get_mut(p) = Program {
+        standing,
+        v,
+        q,
+        w: 0,
+        r: 0,
+    };
+    if held {
+        board.entry.push(p);
+    }
+    Entry::new(if held { Word::Held } else { Word::Admit }, p, 0)
+}
+
+fn open(board: &mut Board, p: usize, f: usize) -> Entry {
+    if would_give(board, p, f) {
+        *board = board.with_given(p, f);
+        return Entry::new(Word::Given, p, f);
+    }
+    let word = if board.conflicting_use(p, f) {
+        Word::Wait
+    } else {
+        Word::Unsafe
+    };
+    board.get_mut(p).standing = Standing::Waiting(f);
+    board.waiting.push(p);
+    Entry::new(word, p, f)
+}
+
+/// Close, drop and leave: DONE, then settle.
+fn release(board: &mut Board, request: &Request) -> Vec<Entry> {
+    let (p, f) = request.numbers();
+    match request {
+        Request::Close { .. } => {
+            board.get_mut(p).w &= !only(f);
+            board.get_mut(p).r &= !only(f);
+        }
+        Request::Drop { .. } => {
+            board.get_mut(p).v &= !only(f);
+            board.get_mut(p).q &= !only(f);
+        }
+        _ => {
+            *board.get_mut(p) = Program::ABSENT;
+            board.leaves += usize::from(board.favoured != 0);
+        }
+    }
+    let mut lines = vec![Entry::new(Word::Done, p, f)];
+    lines.extend(settle(board));
+    lines
+}

@@ -1,0 +1,173 @@
+//! "Image and hosts": the board as 1,155 bytes, and the C host's line call.
+
+use super::board::{Board, Program, Standing, FILES, PROGRAMS};
+use super::events;
+use super::journal::Entry;
+use super::line;
+use super::sound::{self, Fault};
+
+pub const LENGTH: usize = 1155;
+/// Bytes of one program, and where its fields begin in them.
+pub const PROGRAM: usize = 34;
+pub const V: usize = 0;
+pub const Q: usize = 8;
+pub const W: usize = 16;
+pub const R: usize = 24;
+pub const STANDING: usize = 32;
+pub const AWAITED: usize = 33;
+/// Where the rest of the image begins.
+pub const WAITING_LINE: usize = PROGRAM * PROGRAMS;
+pub const ENTRY_LINE: usize = WAITING_LINE + 32;
+pub const FAVOURED: usize = ENTRY_LINE + 32;
+pub const NUMBER: usize = FAVOURED + 1;
+pub const LEAVES: usize = NUMBER + 1;
+
+/// Answers of the line call.
+pub const REFUSED_1: u64 = u64::MAX;
+pub const REFUSED_2: u64 = u64::MAX - 1;
+
+/// The highest place, and the room that a call must find from the place on.
+pub const HIGHEST_PLACE: u64 = 1_000_000_000;
+pub const ROOM: u64 = 512;
+
+pub fn write(board: &Board) -> Vec<u8> {
+    let mut image = Vec::with_capacity(LENGTH);
+    for p in 1..=PROGRAMS {
+        let program = board.get(p);
+        for set in [program.v, program.q, program.w, program.r] {
+            image.extend(set.to_le_bytes());
+        }
+        let (standing, awaited) = match program.standing {
+            Standing::Absent => (0, 0),
+            Standing::Running => (1, 0),
+            Standing::Waiting(f) => (2, f as u8),
+            Standing::Held => (3, 0),
+        };
+        image.extend([standing, awaited]);
+    }
+    for line in [&board.waiting, &board.entry] {
+        let end = image.len() + 32;
+        image.extend(line.iter().map(|&p| p as u8));
+        image.resize(end, 0);
+    }
+    image.extend([board.favoured as u8, board.number as u8, board.leaves as u8]);
+    image
+}
+
+/// The board of an image, or all the faults found in it.
+pub fn read(image: &[u8]) -> Result<Board, Vec<Fault>> {
+    let (board, mut found) = layout(image)?;
+    found.extend(sound::faults(&board));
+    if found.is_empty() {
+        Ok(board)
+    } else {
+        Err(found)
+    }
+}
+
+/// The board of an image of the right layout, with the gaps in its lines.
+pub fn layout(image: &[u8]) -> Result<(Board, Vec<Fault>), Vec<Fault>> {
+    if image.len() != LENGTH {
+        return Err(vec![Fault::Length]);
+    }
+    let (mut board, mut broken, mut gaps) = (Board::EMPTY, Vec::new(), Vec::new());
+    for p in 1..=PROGRAMS {
+        *board.get_mut(p) = program(&image[PROGRAM * (p - 1)..PROGRAM * p], &mut broken);
+    }
+    board.waiting = names(
+        &image[WAITING_LINE..ENTRY_LINE],
+        Fault::WaitingLineGap,
+        &mut gaps,
+    );
+    board.entry = names(&image[ENTRY_LINE..FAVOURED], Fault::EntryLineGap, &mut gaps);
+    board.favoured = usize::from(image[FAVOURED]);
+    board.number = usize::from(image[NUMBER]);
+    board.leaves = usize::from(image[LEAVES]);
+    for (line, fault) in [
+        (&board.waiting, Fault::WaitingLineRange),
+        (&board.entry, Fault::EntryLineRange),
+    ] {
+        if line.iter().any(|&p| p > PROGRAMS) {
+            broken.push(fault);
+        }
+    }
+    if board.favoured > PROGRAMS {
+        broken.push(Fault::FavouredRange);
+    }
+    if broken.is_empty() {
+        Ok((board, gaps))
+    } else {
+        Err(broken)
+    }
+}
+
+fn program(bytes: &[u8], broken: &mut Vec<Fault>) -> Program {
+    let set = |at: usize| u64::from_le_bytes(bytes[at..at + 8].try_into().unwrap());
+    let awaited = usize::from(bytes[AWAITED]);
+    let standing = match bytes[STANDING] {
+        0 => Standing::Absent,
+        1 => Standing::Running,
+        2 => Standing::Waiting(awaited),
+        3 => Standing::Held,
+        _ => {
+            broken.push(Fault::StandingByte);
+            Standing::Absent
+        }
+    };
+    if bytes[STANDING] != 2 && awaited != 0 {
+        broken.push(Fault::AwaitedNotZero);
+    }
+    if bytes[STANDING] == 2 && !(1..=FILES).contains(&awaited) {
+        broken.push(Fault::AwaitedRange);
+    }
+    Program {
+        standing,
+        v: set(V),
+        q: set(Q),
+        w: set(W),
+        r: set(R),
+    }
+}
+
+/// The names of a line; one that follows a 0 is a gap.
+fn names(line: &[u8], gap: Fault, gaps: &mut Vec<Fault>) -> Vec<usize> {
+    let end = line
+        .iter()
+        .position(|&byte| byte == 0)
+        .unwrap_or(line.len());
+    if line[end..].iter().any(|&byte| byte != 0) {
+        gaps.push(gap);
+    }
+    line.iter()
+        .filter(|&&byte| byte != 0)
+        .map(|&byte| usize::from(byte))
+        .collect()
+}
+
+/// The C host's line call.
+pub fn line_call(image: &mut [u8], request: &[u8], journal: &mut [u8], place: u64) -> u64 {
+    let Ok(board) = read(image) else {
+        return REFUSED_1;
+    };
+    if place > HIGHEST_PLACE || place + ROOM > journal.len() as u64 {
+        return REFUSED_2;
+    }
+    let (after, lines) = step(&board, request);
+    image.copy_from_slice(&write(&after));
+    let bytes: Vec<u8> = lines.iter().flat_map(Entry::bytes).collect();
+    let from = place as usize;
+    journal[from..from + bytes.len()].copy_from_slice(&bytes);
+    place + bytes.len() as u64
+}
+
+/// The board after a line and the lines written, a refusal's one among them.
+pub fn step(board: &Board, request: &[u8]) -> (Board, Vec<Entry>) {
+    let request = match line::read(request) {
+        Ok(request) => request,
+        Err(number) => return (board.clone(), vec![Entry::refused(number, 0, 0)]),
+    };
+    events::call(board, &request).unwrap_or_else(|number| {
+        let (p, f) = request.numbers();
+        (board.clone(), vec![Entry::refused(number, p, f)])
+    })
+}

@@ -1,0 +1,95 @@
+//! "Request lines": how a line is read, with the refusals 3 to 7, and how a
+//! request is written as a line.
+
+use super::board::{members, only, Files, FILES, PROGRAMS};
+use super::events::Request;
+use super::journal::columns;
+
+/// A number right-justified in three columns, within a range.
+fn number(field: &[u8], low: usize, high: usize) -> Result<usize, usize> {
+    let digits = |text: &str| text.trim_start_matches(' ').parse::<usize>().ok();
+    match std::str::from_utf8(field).ok().and_then(digits) {
+        Some(n) if (low..=high).contains(&n) && columns(n) == *field => Ok(n),
+        _ => Err(5),
+    }
+}
+
+/// The request of a line, or its refusal.
+pub fn read(line: &[u8]) -> Result<Request, usize> {
+    let verb = line.get(..6).ok_or(3usize)?;
+    match verb {
+        b"ENTER " => return enter(line),
+        b"OPEN  " | b"CLOSE " | b"DROP  " | b"LEAVE " => {}
+        _ => return Err(3),
+    }
+    if line.len() != if verb == b"LEAVE " { 9 } else { 12 } {
+        return Err(4);
+    }
+    let p = number(&line[6..9], 1, PROGRAMS)?;
+    if verb == b"LEAVE " {
+        return Ok(Request::Leave { p });
+    }
+    let f = number(&line[9..12], 1, FILES)?;
+    Ok(match verb {
+        b"OPEN  " => Request::Open { p, f },
+        b"CLOSE " => Request::Close { p, f },
+        _ => Request::Drop { p, f },
+    })
+}
+
+/// ENTER, left to right: program, label, w, r, then the length, then the files.
+fn enter(line: &[u8]) -> Result<Request, usize> {
+    if line.len() < 23 {
+        return Err(4);
+    }
+    let p = number(&line[6..9], 1, PROGRAMS)?;
+    if !line[9..17].iter().all(|byte| (32..=126).contains(byte)) {
+        return Err(6);
+    }
+    let w = number(&line[17..20], 0, FILES)?;
+    let r = number(&line[20..23], 0, FILES)?;
+    if line.len() != 23 + 3 * (w + r) {
+        return Err(4);
+    }
+    let mut files = Vec::new();
+    for field in line[23..].chunks(3) {
+        files.push(number(field, 1, FILES)?);
+    }
+    let (v, q) = files.split_at(w);
+    Ok(Request::Enter {
+        p,
+        v: group(v)?,
+        q: group(q)?,
+    })
+}
+
+/// The set of one group, whose files must rise strictly.
+fn group(files: &[usize]) -> Result<Files, usize> {
+    if files.windows(2).any(|pair| pair[0] >= pair[1]) {
+        return Err(7);
+    }
+    Ok(files.iter().fold(0, |set, &f| set | only(f)))
+}
+
+/// The line of a request; the label is used for ENTER only.
+pub fn write(request: &Request, label: &[u8; 8]) -> Vec<u8> {
+    let (verb, (p, f)) = match request {
+        Request::Enter { .. } => (b"ENTER ", request.numbers()),
+        Request::Open { .. } => (b"OPEN  ", request.numbers()),
+        Request::Close { .. } => (b"CLOSE ", request.numbers()),
+        Request::Drop { .. } => (b"DROP  ", request.numbers()),
+        Request::Leave { .. } => (b"LEAVE ", request.numbers()),
+    };
+    let mut line = verb.to_vec();
+    line.extend(columns(p));
+    if let Request::Enter { v, q, .. } = *request {
+        line.extend(label);
+        let (v, q) = (members(v), members(q));
+        line.extend(columns(v.len()));
+        line.extend(columns(q.len()));
+        line.extend(v.into_iter().chain(q).flat_map(columns));
+    } else if f != 0 {
+        line.extend(columns(f));
+    }
+    line
+}

@@ -1,0 +1,158 @@
+//! "A sound board": every clause that a board breaks, each under its own name.
+//! The layout's faults stand in the same list.
+
+use super::board::{only, Board, Program, Standing};
+use super::order;
+use super::settle::would_give;
+
+#[derive(Clone, Copy, PartialEq, Eq, PartialOrd, Ord, Debug)]
+pub enum Fault {
+    // The image's layout.
+    Length,
+    StandingByte,
+    AwaitedNotZero,
+    AwaitedRange,
+    WaitingLineRange,
+    EntryLineRange,
+    FavouredRange,
+    // Each line names its programs once and is then 0.
+    WaitingLineGap,
+    WaiterMissing,
+    WaiterTwice,
+    WaitingLineStranger,
+    EntryLineGap,
+    HeldMissing,
+    HeldTwice,
+    EntryLineStranger,
+    // Sets.
+    WriteOutsideClaim,
+    ReadOutsideClaim,
+    ClaimsMeet,
+    AbsentWithSets,
+    HeldWithOpen,
+    // Conflict and order.
+    Conflict,
+    NoOrder,
+    // A waiter's file.
+    AwaitedUnclaimed,
+    AwaitedOpen,
+    AwaitedCanBeGiven,
+    // Favouring.
+    FavouredNotWaiting,
+    HeldWithoutFavoured,
+    NumberWithoutFavoured,
+    LeavesWithoutFavoured,
+    SumWrong,
+    NumberAbove32,
+}
+
+/// The broken clauses of a board whose layout is right, save the gaps in its
+/// lines, which only the image shows.
+pub fn faults(board: &Board) -> Vec<Fault> {
+    let mut found = Vec::new();
+    let waiting = board.which(|program| matches!(program.standing, Standing::Waiting(_)));
+    let held = board.which(|program| program.standing == Standing::Held);
+    let names = [
+        Fault::WaiterMissing,
+        Fault::WaiterTwice,
+        Fault::WaitingLineStranger,
+    ];
+    line(&board.waiting, &waiting, names, &mut found);
+    let names = [
+        Fault::HeldMissing,
+        Fault::HeldTwice,
+        Fault::EntryLineStranger,
+    ];
+    line(&board.entry, &held, names, &mut found);
+    for p in board.which(|_| true) {
+        sets(board.get(p), &mut found);
+    }
+    conflict_and_order(board, &mut found);
+    for p in waiting {
+        waiter(board, p, &mut found);
+    }
+    favouring(board, &mut found);
+    found.sort();
+    found.dedup();
+    found
+}
+
+/// A line against the programs it should name: missing, twice, stranger.
+fn line(line: &[usize], programs: &[usize], names: [Fault; 3], found: &mut Vec<Fault>) {
+    for p in programs {
+        match line.iter().filter(|&name| name == p).count() {
+            0 => found.push(names[0]),
+            1 => {}
+            _ => found.push(names[1]),
+        }
+    }
+    if line.iter().any(|name| !programs.contains(name)) {
+        found.push(names[2]);
+    }
+}
+
+fn sets(program: &Program, found: &mut Vec<Fault>) {
+    if program.w & !program.v != 0 {
+        found.push(Fault::WriteOutsideClaim);
+    }
+    if program.r & !program.q != 0 {
+        found.push(Fault::ReadOutsideClaim);
+    }
+    if program.v & program.q != 0 {
+        found.push(Fault::ClaimsMeet);
+    }
+    if program.standing == Standing::Absent && program.claim() | program.open() != 0 {
+        found.push(Fault::AbsentWithSets);
+    }
+    if program.standing == Standing::Held && program.open() != 0 {
+        found.push(Fault::HeldWithOpen);
+    }
+}
+
+fn conflict_and_order(board: &Board, found: &mut Vec<Fault>) {
+    let all = board.which(|_| true);
+    let conflict = |i: usize, j: usize| i != j && board.get(i).conflicts(board.get(j));
+    if all.iter().any(|&i| all.iter().any(|&j| conflict(i, j))) {
+        found.push(Fault::Conflict);
+    }
+    if order::carried(board).is_none() {
+        found.push(Fault::NoOrder);
+    }
+}
+
+fn waiter(board: &Board, p: usize, found: &mut Vec<Fault>) {
+    let program = board.get(p);
+    let Standing::Waiting(f) = program.standing else {
+        return;
+    };
+    if program.claim() & only(f) == 0 {
+        found.push(Fault::AwaitedUnclaimed);
+    } else if program.open() & only(f) != 0 {
+        found.push(Fault::AwaitedOpen);
+    } else if would_give(board, p, f) {
+        found.push(Fault::AwaitedCanBeGiven);
+    }
+}
+
+fn favouring(board: &Board, found: &mut Vec<Fault>) {
+    let mut check = |holds: bool, fault: Fault| {
+        if !holds {
+            found.push(fault);
+        }
+    };
+    if board.favoured == 0 {
+        let held = board.which(|program| program.standing == Standing::Held);
+        check(held.is_empty(), Fault::HeldWithoutFavoured);
+        check(board.number == 0, Fault::NumberWithoutFavoured);
+        check(board.leaves == 0, Fault::LeavesWithoutFavoured);
+        return;
+    }
+    let standing = board.get(board.favoured).standing;
+    check(
+        matches!(standing, Standing::Waiting(_)),
+        Fault::FavouredNotWaiting,
+    );
+    let sum = board.leaves + board.admitted().len();
+    check(sum == board.number, Fault::SumWrong);
+    check(board.number <= 32, Fault::NumberAbove32);
+}
