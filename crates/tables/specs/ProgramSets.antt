@@ -3,7 +3,7 @@
 use Prim.Native.Nat.{ℕ}
 use mathlib.Core.Bool.{Bool}
 use Rattle.files.specs.Bits.{hasNumber, withNumber, withoutNumber, share}
-use Rattle.search.specs.declared.ProgramSet.{ProgramSet}
+use Rattle.tables.specs.declared.ProgramSet.{ProgramSet}
 
 abbrev pub noPrograms : ProgramSet
 noPrograms = record { bits = 0 }

@@ -1,7 +1,7 @@
 // Sets of programs, by value.
 use crate::ProgramSet;
 ghost use mathlib.Core.Path.{_≡_};
-ghost use Rattle.search.specs.ProgramSets.{hasProgram, withProgram, withoutProgram, programsMeet};
+ghost use Rattle.tables.specs.ProgramSets.{hasProgram, withProgram, withoutProgram, programsMeet};
 
 impl ProgramSet {
     // No program.

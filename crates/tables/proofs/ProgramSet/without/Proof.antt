@@ -2,10 +2,10 @@
 use borrow.Author.Needs.{needs}
 use mathlib.Core.Path.{ap}
 use Prim.Native.Nat.{_-_}
-use Rattle.search.specs.declared.ProgramSet.{ProgramSet}
+use Rattle.tables.specs.declared.ProgramSet.{ProgramSet}
 use Rattle.files.proofs.Bits.{no-number, far-number, mask-le, mask-without}
-use Rattle.search.proofs.ProgramSet.without.Statement.{statement}
-use Rattle.search.proofs.ProgramSet.without.Tie as tie
+use Rattle.tables.proofs.ProgramSet.without.Statement.{statement}
+use Rattle.tables.proofs.ProgramSet.without.Tie as tie
 
 returns : tie.Need-returns
 returns c = rw (no-number 32 (c .before .args .p) (c .if1 .taken))

@@ -1,8 +1,8 @@
 -- `has` meets its contract. Assumes nothing.
 use borrow.Author.Needs.{needs}
 use Rattle.files.proofs.Bits.{no-number, far-number, is-number}
-use Rattle.search.proofs.ProgramSet.has.Statement.{statement}
-use Rattle.search.proofs.ProgramSet.has.Tie as tie
+use Rattle.tables.proofs.ProgramSet.has.Statement.{statement}
+use Rattle.tables.proofs.ProgramSet.has.Tie as tie
 
 returns : tie.Need-returns
 returns c = rw (no-number 32 (c .before .args .p) (c .if1 .taken))

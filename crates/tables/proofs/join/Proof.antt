@@ -1,7 +1,7 @@
 -- `join` meets its contract. Assumes nothing.
 use borrow.Author.Needs.{needs}
-use Rattle.search.proofs.join.Statement.{statement}
-use Rattle.search.proofs.join.Tie as tie
+use Rattle.tables.proofs.join.Statement.{statement}
+use Rattle.tables.proofs.join.Tie as tie
 
 returns : tie.Need-returns
 returns c = rw (c .before .if1 .taken) (c .with .ensures)

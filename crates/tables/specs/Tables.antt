@@ -1,0 +1,67 @@
+-- The arrays of a board: the sets of its programs, and for each program the set of those that hold it back.
+-- Assumes nothing.
+use Prim.Native.Nat.{ℕ, zero, suc, _+_, _-_, _<_}
+use mathlib.Core.Path.{_≡_}
+use mathlib.Core.Bool.{Bool, not, cond, _&&_, _||_}
+use mathlib.Core.List.{List}
+use lib.Dec.{eqb}
+use lib.ListN.{length, getD}
+use Rattle.files.specs.Bits.{share}
+use Rattle.rules.specs.declared.Program.{Program}
+use Rattle.rules.specs.declared.Board.{Board}
+use Rattle.rules.specs.Boards.{noProgram, at}
+use Rattle.rules.specs.Orders.{holdsBack}
+use Rattle.tables.specs.declared.ProgramSet.{ProgramSet}
+use Rattle.tables.specs.ProgramSets.{noPrograms, withProgram}
+
+-- the program at place i
+abbrev pub inPlace : Board → ℕ → Program
+inPlace b i = getD (b .programs) i noProgram
+
+-- the sets of the first n programs stand in their places
+abbrev pub SetsTo : Board → ℕ → List ℕ → Type 0
+SetsTo b n l = (i : ℕ) → i < n → (getD l i 0 ≡ inPlace b i .writable .bits) × (getD l (32 + i) 0 ≡ inPlace b i .readable .bits)
+    × (getD l (64 + i) 0 ≡ inPlace b i .writing .bits) × (getD l (96 + i) 0 ≡ inPlace b i .reading .bits)
+
+-- the sets of all programs, in 128 places
+abbrev pub SetsOf : Board → List ℕ → Type 0
+SetsOf b l = (length l ≡ 128) × SetsTo b 32 l
+
+-- s, and n where the test passes
+abbrev pub joined : ProgramSet → ℕ → Bool → ProgramSet
+joined s n t = cond t (withProgram s n) s
+
+-- the set of those of 1 to n that pass the test
+unfoldable pub packed : (ℕ → Bool) → ℕ → ProgramSet
+packed t zero = noPrograms
+packed t (suc n) = joined (packed t n) (suc n) (t (suc n))
+
+-- i is another program than p, and holds it back
+abbrev pub stops : Board → ℕ → ℕ → Bool
+stops b p i = not (eqb i p) && holdsBack (at b i) (at b p)
+
+-- the programs that hold p back
+unfoldable pub holders : Board → ℕ → ProgramSet
+holders b p = packed (stops b p) 32
+
+-- the row of the program at place i holds those of the first n programs that hold it back
+abbrev pub RowsUpTo : Board → ℕ → List ℕ → Type 0
+RowsUpTo b n l = (i : ℕ) → i < 32 → record { bits = getD l i 0 } ≡ packed (stops b (suc i)) n
+
+-- the row of every program, in 32 places
+abbrev pub RowsOf : Board → List ℕ → Type 0
+RowsOf b l = (length l ≡ 32) × RowsUpTo b 32 l
+
+-- W and R hold back a program with claims V and Q
+abbrev pub holdsBits : ℕ → ℕ → ℕ → ℕ → Bool
+holdsBits w r v q = share w v || share w q || share r v
+
+-- the program at place i has joined the rows of those it holds back
+abbrev pub HolderAdded : List ℕ → ℕ → List ℕ → List ℕ → Type 0
+HolderAdded sets i before after = (length after ≡ 32) × ((j : ℕ) → j < 32 → record { bits = getD after j 0 }
+    ≡ joined (record { bits = getD before j 0 }) (suc i) (not (eqb i j)
+    && holdsBits (getD sets (64 + i) 0) (getD sets (96 + i) 0) (getD sets j 0) (getD sets (32 + j) 0)))
+
+-- the rows are those of every board that has the sets
+abbrev pub RowsFor : List ℕ → List ℕ → Type 0
+RowsFor sets rows = (b : Board) → SetsOf b sets → RowsOf b rows
