@@ -22,11 +22,12 @@ use Rattle.rules.specs.declared.Board.{Board}
 use Rattle.rules.specs.Lists.{rising, any, all, keep, first, found, withFound, without, padded}
 use Rattle.rules.specs.Boards.{everyone, at, admitted, isAdmitted}
 use Rattle.rules.specs.Orders.{heldBack, carriedFrom, carried}
-use Rattle.search.specs.declared.ProgramSet.{ProgramSet}
+use Rattle.tables.specs.declared.ProgramSet.{ProgramSet}
 use Rattle.search.specs.declared.Search.{Search}
 use Rattle.search.specs.declared.Order.{Order}
-use Rattle.search.specs.ProgramSets.{noPrograms, hasProgram, withProgram, withoutProgram, programsMeet}
-use Rattle.search.specs.Rows.{joined, packed, stops, holders, RowsOf, admits, admittedSet, free, lowest, orderFrom, placed, asOrder}
+use Rattle.tables.specs.ProgramSets.{noPrograms, hasProgram, withProgram, withoutProgram, programsMeet}
+use Rattle.tables.specs.Tables.{joined, packed, stops, holders, RowsOf}
+use Rattle.search.specs.Rows.{rowOf, RowsAt, admits, admittedSet, free, lowest, orderFrom, placed, asOrder}
 
 -- ---- the numbers from p to 32
 
@@ -221,7 +222,7 @@ left-without l p h =
         ∙ sym (ap (hasProgram (withoutProgram l p)) z ∙ without-number-same 32 (l .bits) p)))
         (λ y. let z : x ≢ p = eqb-false x p y in rw y (and-true (hasProgram l x) ∙ sym (without-number-other 32 (l .bits) p x z)))
 
-pub first-is : (b : Board) (rows : List ProgramSet) (l : ProgramSet) → RowsOf b rows
+pub first-is : (b : Board) (rows : List ℕ) (l : ProgramSet) → RowsAt b rows
     → first (λ p. not (heldBack b (keep (hasProgram l) everyone) p)) (keep (hasProgram l) everyone) ≡ first (free rows l) everyone
 unfolding everyone
 first-is b rows l f =
@@ -233,7 +234,7 @@ first-from : (t : ℕ → Bool) (p : ℕ) → first t everyone ≡ some p → 1 
 unfolding everyone
 first-from t p e = first-in t 32 1 p e .0
 
-pub order-is : (b : Board) (rows : List ProgramSet) → RowsOf b rows → (n : ℕ) (l : ProgramSet)
+pub order-is : (b : Board) (rows : List ℕ) → RowsAt b rows → (n : ℕ) (l : ProgramSet)
     → carriedFrom n b (keep (hasProgram l) everyone) ≡ orderFrom n rows l
 unfolding carriedFrom orderFrom
 order-is b rows f zero l = refl
@@ -248,20 +249,20 @@ admitted-is b = keep-same (admits b) (hasProgram (packed (admits b) 32)) 32 1
     (λ p k h. sym (packed-has (admits b) 32 p (omega arith) k (omega arith)))
 
 -- the search from the admitted programs is the carried order
-pub carried-is : (b : Board) (rows : List ProgramSet) → RowsOf b rows → orderFrom (length (admitted b)) rows (admittedSet b) ≡ carried b
+pub carried-is : (b : Board) (rows : List ℕ) → RowsAt b rows → orderFrom (length (admitted b)) rows (admittedSet b) ≡ carried b
 unfolding carried
 carried-is b rows f =
     sym (ap (carriedFrom (length (admitted b)) b) (admitted-is b) ∙ order-is b rows f (length (admitted b)) (admittedSet b))
 
 -- ---- the lowest
 
-pub lowest-none : (rows : List ProgramSet) (l : ProgramSet) → lowest rows l ≡ 0 → first (free rows l) everyone ≡ none
+pub lowest-none : (rows : List ℕ) (l : ProgramSet) → lowest rows l ≡ 0 → first (free rows l) everyone ≡ none
 unfolding lowest everyone
 lowest-none rows l e =
     by-option (first (free rows l) (rising 32 1)) (λ z. z)
     (λ p z. let a = first-in (free rows l) 32 1 p z .0 in let w : p ≡ 0 = rw z at e in absurd (omega arith))
 
-pub lowest-some : (rows : List ProgramSet) (l : ProgramSet) (p : ℕ) → p ≡ lowest rows l → p ≢ 0 → first (free rows l) everyone ≡ some p
+pub lowest-some : (rows : List ℕ) (l : ProgramSet) (p : ℕ) → p ≡ lowest rows l → p ≢ 0 → first (free rows l) everyone ≡ some p
 unfolding lowest everyone
 lowest-some rows l p e n =
     by-option (first (free rows l) (rising 32 1))
@@ -298,7 +299,7 @@ placed-more at k p (some l) h =
 
 -- ---- one call of the search
 
-module _ (rows : List ProgramSet) (l : ProgramSet) (at : List ℕ) where
+module _ (rows : List ℕ) (l : ProgramSet) (at : List ℕ) where
   pub order-done : (n k : ℕ) → n ≡ 0 → _≡_ {A = Order} (record { kind = Search.Found k; at = at }) (placed at k (orderFrom n rows l))
   unfolding orderFrom
   order-done n k e = rw e (placed-none at k)
@@ -316,18 +317,11 @@ module _ (rows : List ProgramSet) (l : ProgramSet) (at : List ℕ) where
   order-more (suc n) k p ne e z h =
       rw (lowest-some rows l p e z, sub-one (suc n)) (placed-more at k p (orderFrom n rows (withoutProgram l p)) h)
 
--- ---- the rows, one after another
+-- ---- the rows
 
--- the rows up to p are written
-abbrev pub RowsTo : Board → ℕ → List ProgramSet → Type 0
-RowsTo b p rows = (i : ℕ) → 1 ≤ i → i < p → getD rows (i - 1) noPrograms ≡ holders b i
-
-pub rows-more : (b : Board) (p : ℕ) (rows : List ProgramSet) (r : ProgramSet) → 1 ≤ p → p - 1 < length rows
-    → r ≡ holders b p → RowsTo b p rows → RowsTo b (p + 1) (set rows (p - 1) r)
-rows-more b p rows r l h e f i k m =
-    by-test (eqb i p)
-    (λ y. let z : i ≡ p = eqb-true i p y in rw z (getD-set-same rows (p - 1) r noPrograms h ∙ e))
-    (λ y. let z : i ≢ p = eqb-false i p y in getD-set-other rows (p - 1) (i - 1) r noPrograms (omega arith) ∙ f i k (omega arith))
+pub rows-at : (b : Board) (rows : List ℕ) → RowsOf b rows → RowsAt b rows
+unfolding holders
+rows-at b rows f p h k = let z : suc (p - 1) ≡ p = omega arith in f .1 (p - 1) (omega arith) ∙ ap (λ (x : ℕ). packed (stops b x) 32) z
 
 -- ---- whether an order was found
 

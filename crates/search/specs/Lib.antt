@@ -1,3 +1,2 @@
 -- The definitions that the contracts of search cite.
-pub mod ProgramSets
 pub mod Rows

@@ -12,7 +12,7 @@ use borrow.Fn.PlainCycle.{Measures, is, falls, and}
 use Rattle.search.proofs.search_rest.Reads as search-rest
 use Rattle.search.proofs.search_rest.Kinds as search-rest-kinds
 use Rattle.search.proofs.+search_rest.Lts-search_rest as search-rest-lts
-use Rattle.search.proofs.ProgramSet.without.Reads as without-reads
+use Rattle.tables.proofs.ProgramSet.without.Reads as without-reads
 use Rattle.search.proofs.lowest_free.Reads as lowest-free-reads
 use Rattle.search.proofs.+search_rest.{statement}
 use Rattle.search.proofs.+search_rest.Tie.{close}
