@@ -4,21 +4,33 @@
 -- one exists if some set has all that reach p and nobody whom p now holds back (order-by-closed, and safe-by-closed on a board);
 -- none exists if p now holds back one that reaches it (no-order-by-reach, and unsafe-by-reach on a board).
 -- Assumes nothing.
-use Prim.Native.Nat.{ℕ, zero, suc, _<_}
+use Prim.Native.Nat.{ℕ, zero, suc, _<_, _-_}
 use native.Mathlib.Omega.{arith}
-use mathlib.Core.Path.{_≡_, refl, sym, _∙_, ap}
-use mathlib.Core.Logic.{_↔_, _≢_, _⊎_, inl, inr, ⊎-elim}
-use mathlib.Core.Bool.{Bool, true, false, not, cond, _&&_, _||_}
-use mathlib.Core.Option.{Option, none, some}
+use mathlib.Core.Path.{_≡_, refl, sym, _∙_, ap, ap₂, subst}
+use mathlib.Core.Logic.{_↔_, _≢_, ⊎-elim}
+use mathlib.Core.Bool.{Bool, true, false, not, cond, _&&_, _||_, or-assoc}
 use mathlib.Core.List.{List, [], _∷_, _++_, List·Memᴰ·head, List·Memᴰ·tail, List·Memᴰ·not-nil, Memᴰ·cast, Memᴰ·append-left}
 use mathlib.Core.List.{Memᴰ·append-right, List·Memᴰ·append-cases}
-use lib.Dec.{eqb}
-use borrow.Author.Tests.{eqb-true, eqb-false, ne-eqb}
-use Rattle.files.proofs.Tests.{by-test, never, and-left, and-right, and-both, no-true, not-true, true-not}
+use lib.Dec.{eqb, leb}
+use lib.ListN.{length, List·getD-eq-default}
+use lib.Seq.{getD-set-same}
+use borrow.Author.Tests.{eqb-true, eqb-false, ne-eqb, leb-true, leb-false}
+use Rattle.files.proofs.Tests.{by-test, never, or-cases, or-left, or-right, and-left, and-right, and-both, no-true, not-true, true-not}
+use Rattle.files.proofs.Tests.{same-test}
+use Rattle.files.specs.declared.FileSet.{FileSet}
+use Rattle.files.specs.Sets.{member, meets, adding}
+use Rattle.files.proofs.Laws.{member-file, adding-same, meets-mono, meets-at, adding-⊒, adding-meets}
+use Rattle.rules.specs.declared.Program.{Program}
+use Rattle.rules.specs.declared.Board.{Board}
 use Rattle.rules.specs.Lists.{any, keep, found, without, listed}
-use Rattle.theory.specs.Lists.{_∈_, Pairs, NoRepeat, by-mem, here, any-some, some-any, found-some, keep-mem, mem-keep, Pairs-keep}
-use Rattle.theory.specs.Lists.{without-mem, mem-without, Pairs-without, Pairs-map₂, Pairs-append, listed-mem, mem-listed}
+use Rattle.rules.specs.Boards.{noProgram, isAdmitted, isProgram, everyone, at, admitted, claims, opening}
+use Rattle.rules.specs.Orders.{holdsBack, carried, withGiven, safe}
+use Rattle.theory.specs.Lists.{_∈_, Pairs, NoRepeat, by-mem, here, any-some, some-any, found-some, keep-mem, mem-keep, keep-same}
+use Rattle.theory.specs.Lists.{Pairs-keep, without-mem, mem-without, Pairs-without, Pairs-map₂, Pairs-append, listed-mem, mem-listed}
 use Rattle.theory.specs.Order.{Clear, IsOrder, orderIn, orderIn-iff}
+use Rattle.theory.specs.Programs.{Is, is-of, of-is, mem-everyone, everyone-is, holdsBack-mono, within-refl, put-other}
+use Rattle.theory.specs.Programs.{carried-is, admitted-is, ins-once, opening-standing, opening-more, holdsBack-claims}
+use Rattle.theory.specs.Carried.{holdsOn, order-of, of-order}
 
 -- ── Statements, over any relation h of holding back ──
 
@@ -45,7 +57,7 @@ around : (R : ℕ → ℕ → Type 0) (s : ℕ → Bool) (p : ℕ) (w : List ℕ
 unfolding Pairs
 around R s p w c f g k = Pairs-append R (keep s w) (p ∷ keep t w) (Pairs-keep R s w c)
     (λ b m. let r = off b m in g b (r .0) (r .1), Pairs-keep R t w c)
-    (λ a b m n. let q = keep-mem s w a m in by-mem n (λ d. mathlib.Core.Path.subst (R a) (sym d) (f a (q .0) (q .1)))
+    (λ a b m n. let q = keep-mem s w a m in by-mem n (λ d. subst (R a) (sym d) (f a (q .0) (q .1)))
     (λ n′. let r = off b n′ in k a b (q .0) (r .0) (q .1) (r .1)))
   where
     t : ℕ → Bool
@@ -209,3 +221,149 @@ no-order-iff h h′ l o p n c i g = (
       base = λ x m d e. mem-listed x r (reachers-closed h p o (c .clear) x p (c .all x m) (reachers-p h p o) d e);
       step = λ x y m k d d′ n u e. mem-listed x r (reachers-closed h p o (c .clear) x y (c .all x m) (listed-mem y r u) n e);
     }
+
+-- ── A file given ──
+
+meets-adding : (s t : FileSet) (f : ℕ) → meets (adding s f) t ≡ meets s t || member t f
+meets-adding s t f = same-test (meets (adding s f) t) (meets s t || member t f)
+    (λ e. adding-meets s t f e (or-left (meets s t) (member t f)) (or-right (meets s t) (member t f)))
+    (λ e. or-cases (meets s t) (member t f) e (meets-mono s t (adding s f) t (adding-⊒ s f) (λ i u. u))
+    (λ u. meets-at (adding s f) t f (adding-same s f (member-file t f u)) u))
+
+-- What q holds back with f given: what it held back, and who claims f, for writing only where q reads it.
+pub given-holds : (q j : Program) (f : ℕ) → holdsBack (opening q f) j
+    ≡ holdsBack q j || cond (member (q .writable) f) (claims j f) (member (j .writable) f)
+unfolding opening
+given-holds q j f = by-test (member (q .writable) f)
+    (λ t. rw (t, meets-adding (q .writing) (j .writable) f, meets-adding (q .writing) (j .readable) f)
+    (regroup (meets (q .writing) (j .writable)) (member (j .writable) f) (meets (q .writing) (j .readable))
+    (member (j .readable) f) (meets (q .reading) (j .writable))))
+    (λ t. rw (t, meets-adding (q .reading) (j .writable) f) (sym (or-assoc (meets (q .writing) (j .writable) ||
+    meets (q .writing) (j .readable)) (meets (q .reading) (j .writable)) (member (j .writable) f))))
+  where
+    regroup : (a b c d e : Bool) → (a || b) || (c || d) || e ≡ (a || c || e) || (b || d)
+    regroup true b c d e = refl
+    regroup false true true d e = refl
+    regroup false true false d true = refl
+    regroup false true false d false = refl
+    regroup false false true d e = refl
+    regroup false false false true true = refl
+    regroup false false false true false = refl
+    regroup false false false false true = refl
+    regroup false false false false false = refl
+
+-- ── On a board ──
+
+-- x is an admitted program other than p
+abbrev pub isOther : Board → ℕ → ℕ → Bool
+isOther b p x = isProgram x && isAdmitted (at b x .standing) && not (eqb x p)
+
+abbrev pub ReachesOn : Board → ℕ → ℕ → Type 0
+ReachesOn b p x = Reaches (holdsOn b) (admitted b) p x
+
+-- s finds every other program that holds back p, or holds back another one that s finds.
+pub record ClosedOn (b : Board) (p : ℕ) (s : ℕ → Bool) : Type 0 where
+  pub base : (x : ℕ) → isOther b p x ≡ true → holdsOn b x p ≡ true → s x ≡ true
+  pub step : (x y : ℕ) → isOther b p x ≡ true → isOther b p y ≡ true → eqb x y ≡ false → s y ≡ true → holdsOn b x y ≡ true → s x ≡ true
+
+mem-admitted : (b : Board) (x : ℕ) → isProgram x ≡ true → isAdmitted (at b x .standing) ≡ true → x ∈ admitted b
+unfolding admitted
+mem-admitted b x c e = mem-keep (λ p. isAdmitted (at b p .standing)) everyone x (mem-everyone x (is-of x c)) e
+
+admitted-mem : (b : Board) (x : ℕ) → x ∈ admitted b → Is x × (isAdmitted (at b x .standing) ≡ true)
+unfolding admitted
+admitted-mem b x m = let r = keep-mem (λ p. isAdmitted (at b p .standing)) everyone x m in (everyone-is x (r .0), r .1)
+
+other-mem : (b : Board) (p x : ℕ) → isOther b p x ≡ true → (x ∈ admitted b) × (x ≢ p)
+other-mem b p x e =
+    let c = isProgram x in let a = isAdmitted (at b x .standing) in let n = not (eqb x p) in
+    let u = and-left (c && a) n e in
+    (mem-admitted b x (and-left c a u) (and-right c a u), eqb-false x p (not-true (eqb x p) (and-right (c && a) n e)))
+
+mem-other : (b : Board) (p x : ℕ) → x ∈ admitted b → x ≢ p → isOther b p x ≡ true
+mem-other b p x m n =
+    let (c, e) = admitted-mem b x m in let a = isAdmitted (at b x .standing) in
+    and-both (isProgram x && a) (not (eqb x p)) (and-both (isProgram x) a (of-is x c) e) (true-not (eqb x p) (ne-eqb x p n))
+
+-- The two ways to reach p, by tests.
+pub reaches-direct : (b : Board) (p x : ℕ) → isOther b p x ≡ true → holdsOn b x p ≡ true → ReachesOn b p x
+reaches-direct b p x c e = let r = other-mem b p x c in direct (r .0) (r .1) e
+
+pub reaches-through : (b : Board) (p x y : ℕ) → isOther b p x ≡ true → eqb x y ≡ false → holdsOn b x y ≡ true → ReachesOn b p y
+    → ReachesOn b p x
+reaches-through b p x y c n e k = let r = other-mem b p x c in through (r .0) (r .1) (eqb-false x y n) e k
+
+module _ (b : Board) (p f : ℕ) (c : isProgram p ≡ true) (a : isAdmitted (at b p .standing) ≡ true) where
+  given-same : at (withGiven b p f) p ≡ opening (at b p) f
+  unfolding withGiven
+  given-same = getD-set-same (b .programs) (p - 1) (opening (at b p) f) noProgram (by-test (leb (length (b .programs)) (p - 1))
+      (λ t. never a (ap (λ (q : Program). isAdmitted (q .standing)) (List·getD-eq-default (b .programs) noProgram (leb-true _ _ t))))
+      (λ t. leb-false _ _ t))
+
+  given-other : (i : ℕ) → Is i → i ≢ p → at (withGiven b p f) i ≡ at b i
+  unfolding withGiven
+  given-other i k n = put-other (b .programs) p i (opening (at b p) f) (is-of p c) k n
+
+  pub given-admitted : admitted (withGiven b p f) ≡ admitted b
+  unfolding admitted
+  given-admitted = keep-same _ _ everyone (λ i m. by-test (eqb i p)
+      (λ t. let d = eqb-true i p t in ap (λ j. isAdmitted (at (withGiven b p f) j .standing)) d ∙ ap standing-in given-same
+      ∙ ap isAdmitted (opening-standing (at b p) f) ∙ ap (λ j. isAdmitted (at b j .standing)) (sym d))
+      (λ t. ap standing-in (given-other i (everyone-is i m) (eqb-false i p t))))
+    where
+      standing-in : Program → Bool
+      standing-in q = isAdmitted (q .standing)
+
+  -- whom p holds back with f given
+  given-by : (x : ℕ) → x ∈ admitted b → x ≢ p → holdsOn (withGiven b p f) p x ≡ holdsBack (opening (at b p) f) (at b x)
+  given-by x m n = ap₂ holdsBack given-same (given-other x (admitted-mem b x m .0) n)
+
+  pub given-grown : Grown (holdsOn b) (holdsOn (withGiven b p f)) (admitted b) p
+  given-grown = record {
+    same = λ x y m k n d. ap (λ q. holdsBack q (at (withGiven b p f) y)) (given-other x (admitted-mem b x m .0) d) ∙ by-test (eqb y p)
+        (λ t. let e = eqb-true y p t in ap (λ j. holdsBack (at b x) (at (withGiven b p f) j)) e ∙ ap (holdsBack (at b x)) given-same
+        ∙ holdsBack-claims (at b x) (at b p) f ∙ ap (holdsOn b x) (sym e))
+        (λ t. ap (holdsBack (at b x)) (given-other y (admitted-mem b y k .0) (eqb-false y p t)));
+    more = λ x m n e. given-by x m (λ d. n (sym d)) ∙ holdsBack-mono (at b p) (at b x) (opening (at b p) f) (at b x)
+        (opening-more (at b p) f) (within-refl (at b x)) e;
+  }
+
+  -- f can safely be given to p if p with f holds back nobody of a closed set.
+  pub safe-by-closed : (s : ℕ → Bool) → found (carried b) ≡ true → ClosedOn b p s
+      → ((x : ℕ) → isOther b p x ≡ true → s x ≡ true → holdsBack (opening (at b p) f) (at b x) ≡ false) → safe b p f ≡ true
+  unfolding safe
+  safe-by-closed s e k g =
+      let (o, u) = order-of b e in
+      let (o′, v) = order-by-closed (holdsOn b) (holdsOn (withGiven b p f)) (admitted b) o p s u (mem-admitted b p c a) given-grown
+      (record {
+        base = λ x m n w. k .base x (mem-other b p x m n) w;
+        step = λ x y m m′ n n′ d t w. k .step x y (mem-other b p x m n) (mem-other b p y m′ n′) (ne-eqb x y d) t w;
+      })
+      (λ x m n w. given-by x m n ∙ g x (mem-other b p x m n) w) in
+      of-order (withGiven b p f) o′ (subst (λ l. IsOrder (holdsOn (withGiven b p f)) l o′) (sym given-admitted) v)
+
+  safe-is-in : safe b p f ≡ found (orderIn (holdsOn (withGiven b p f)) (admitted b))
+  unfolding safe
+  safe-is-in = ap found (carried-is (withGiven b p f))
+      ∙ ap (λ l. found (orderIn (holdsOn (withGiven b p f)) l)) (sym (admitted-is (withGiven b p f)) ∙ given-admitted)
+
+  -- It can't if p with f holds back one that reaches p.
+  pub unsafe-by-reach : (x : ℕ) → ReachesOn b p x → holdsBack (opening (at b p) f) (at b x) ≡ true → safe b p f ≡ false
+  unfolding safe
+  unsafe-by-reach x r e = no-true (safe b p f) (λ t. let (o, u) = order-of (withGiven b p f) t in
+      no-order-by-reach (holdsOn b) (holdsOn (withGiven b p f)) (admitted b) o p x (mem-admitted b p c a) given-grown r
+      (given-by x (reaches-in r) (reaches-off r) ∙ e) (subst (λ l. IsOrder (holdsOn (withGiven b p f)) l o) given-admitted u))
+
+  -- On a board that has an order, it can't exactly then.
+  pub unsafe-iff-reach : found (carried b) ≡ true
+      → (safe b p f ≡ false) ↔ ((x : ℕ) × ReachesOn b p x × (holdsBack (opening (at b p) f) (at b x) ≡ true))
+  unsafe-iff-reach e = (
+    λ t. let (o, u) = order-of b e in
+        let (x, m, n, v, r) = no-order-iff (holdsOn b) (holdsOn (withGiven b p f)) (admitted b) o p once u (mem-admitted b p c a)
+        given-grown .0 (sym safe-is-in ∙ t) in
+        (x, r, sym (given-by x m n) ∙ v),
+    λ (x, r, v). unsafe-by-reach x r v,
+  )
+    where
+      once : NoRepeat (admitted b)
+      once = subst NoRepeat (sym (admitted-is b)) (ins-once (b .programs))
