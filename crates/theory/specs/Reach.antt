@@ -1,14 +1,14 @@
 -- One program p comes to hold back more, and all else stays: does a completion order still exist?
--- x *reaches* p if x holds back p, or holds back another one that reaches p.
--- Where an order existed, one still exists exactly if p now holds back nobody that reaches it. More handily for code, two halves:
--- one exists if some set has all that reach p and nobody whom p now holds back (order-by-closed, and safe-by-closed on a board);
--- none exists if p now holds back one that reaches it (no-order-by-reach, and unsafe-by-reach on a board).
+-- x *reaches* p if x holds back p, or holds back another one that reaches p. Where an order existed, none exists any more exactly if p
+-- now holds back one that reaches it: `no-order-iff`, and on a board, where p is given a file, `unsafe-iff-reach`.
+-- For code, each half by itself. One exists if some set has everyone that reaches p, and p now holds back nobody in it:
+-- `order-by-closed`, `safe-by-closed`. None exists if p now holds back one that reaches it: `no-order-by-reach`, `unsafe-by-reach`.
 -- Assumes nothing.
-use Prim.Native.Nat.{ℕ, zero, suc, _<_, _-_}
+use Prim.Native.Nat.{ℕ, suc, _<_, _-_}
 use native.Mathlib.Omega.{arith}
 use mathlib.Core.Path.{_≡_, refl, sym, _∙_, ap, ap₂, subst}
 use mathlib.Core.Logic.{_↔_, _≢_, ⊎-elim}
-use mathlib.Core.Bool.{Bool, true, false, not, cond, _&&_, _||_, or-assoc}
+use mathlib.Core.Bool.{Bool, true, false, not, cond, _&&_, _||_, or-assoc, or-true, or-false}
 use mathlib.Core.List.{List, [], _∷_, _++_, List·Memᴰ·head, List·Memᴰ·tail, List·Memᴰ·not-nil, Memᴰ·cast, Memᴰ·append-left}
 use mathlib.Core.List.{Memᴰ·append-right, List·Memᴰ·append-cases}
 use lib.Dec.{eqb, leb}
@@ -28,13 +28,13 @@ use Rattle.rules.specs.Orders.{holdsBack, carried, withGiven, safe}
 use Rattle.theory.specs.Lists.{_∈_, Pairs, NoRepeat, by-mem, here, any-some, some-any, found-some, keep-mem, mem-keep, keep-same}
 use Rattle.theory.specs.Lists.{Pairs-keep, without-mem, mem-without, Pairs-without, Pairs-map₂, Pairs-append, listed-mem, mem-listed}
 use Rattle.theory.specs.Order.{Clear, IsOrder, orderIn, orderIn-iff}
-use Rattle.theory.specs.Programs.{Is, is-of, of-is, mem-everyone, everyone-is, holdsBack-mono, within-refl, put-other}
-use Rattle.theory.specs.Programs.{carried-is, admitted-is, ins-once, opening-standing, opening-more, holdsBack-claims}
+use Rattle.theory.specs.Programs.{Is, is-of, of-is, everyone-is, ins, mem-ins, ins-mem, ins-once, carried-is, admitted-is}
+use Rattle.theory.specs.Programs.{put-other, within-refl, holdsBack-mono, holdsBack-claims, opening-standing, opening-more}
 use Rattle.theory.specs.Carried.{holdsOn, order-of, of-order}
 
--- ── Statements, over any relation h of holding back ──
+-- ── Over any relation h of holding back ──
 
--- x holds back p, or holds back another one that reaches p; all of them are in l, and none but the last is p.
+-- x holds back p, or holds back another one that reaches p: a chain in l that ends at p and has p nowhere else.
 pub data Reaches (h : ℕ → ℕ → Bool) (l : List ℕ) (p : ℕ) : ℕ → Type 0 where
   direct : {x : ℕ} → x ∈ l → x ≢ p → h x p ≡ true → Reaches h l p x
   through : {x y : ℕ} → x ∈ l → x ≢ p → x ≢ y → h x y ≡ true → Reaches h l p y → Reaches h l p x
@@ -68,23 +68,26 @@ around R s p w c f g k = Pairs-append R (keep s w) (p ∷ keep t w) (Pairs-keep 
 
 pub order-by-closed : (h h′ : ℕ → ℕ → Bool) (l o : List ℕ) (p : ℕ) (s : ℕ → Bool) → IsOrder h l o → p ∈ l → Grown h h′ l p
     → Closed h l p s → ((b : ℕ) → b ∈ l → b ≢ p → s b ≡ true → h′ p b ≡ false) → (o′ : List ℕ) × IsOrder h′ l o′
-order-by-closed h h′ l o p s c i g k f = (keep s w ++ (p ∷ keep t w), record {
-  all = λ a m. by-test (eqb a p) (λ e. Memᴰ·append-right (keep s w) (List·Memᴰ·head (eqb-true a p e)))
-      (λ e. let m′ = mem-without p o a (c .all a m) (eqb-false a p e) in by-test (s a)
-      (λ u. Memᴰ·append-left (p ∷ keep t w) (mem-keep s w a m′ u))
-      (λ u. Memᴰ·append-right (keep s w) (List·Memᴰ·tail (mem-keep t w a m′ (true-not (s a) u)))));
-  only = λ a m. ⊎-elim (λ m′. in-l a (keep-mem s w a m′ .0) .0)
-      (λ m′. by-mem m′ (λ d. Memᴰ·cast d i) (λ n. in-l a (keep-mem t w a n .0) .0)) (List·Memᴰ·append-cases (keep s w) m);
-  once = around (λ a b. a ≢ b) s p w once-w (λ a m u. in-l a m .1) (λ b m u d. in-l b m .1 (sym d))
-      (λ a b m n u v d. never u (ap s d ∙ v));
-  clear = around (λ a b. h′ b a ≡ false) s p w
-      (Pairs-map₂ (λ a b. a ≢ b) (λ a b. h b a ≡ false) _ w (λ a b m n d u. was b a n m (λ e. d (sym e)) ∙ u) once-w
-      (Pairs-without _ p o (c .clear)))
-      (λ a m u. let r = in-l a m in f a (r .0) (r .1) u)
-      (λ b m u. let r = in-l b m in g .same b p (r .0) i (r .1) (r .1) ∙ no-true (h b p) (λ e. never (k .base b (r .0) (r .1) e) u))
-      (λ a b m n u v. let q = in-l a m in let r = in-l b n in let d : b ≢ a = λ e. never u (ap s (sym e) ∙ v) in
-      was b a n m d ∙ no-true (h b a) (λ e. never (k .step b a (r .0) (q .0) (r .1) (q .1) d u e) v));
-})
+order-by-closed h h′ l o p s c i g k f = (
+  keep s w ++ (p ∷ keep t w),
+  record {
+    all = λ a m. by-test (eqb a p) (λ e. Memᴰ·append-right (keep s w) (List·Memᴰ·head (eqb-true a p e)))
+        (λ e. let m′ = mem-without p o a (c .all a m) (eqb-false a p e) in by-test (s a)
+        (λ u. Memᴰ·append-left (p ∷ keep t w) (mem-keep s w a m′ u))
+        (λ u. Memᴰ·append-right (keep s w) (List·Memᴰ·tail (mem-keep t w a m′ (true-not (s a) u)))));
+    only = λ a m. ⊎-elim (λ m′. in-l a (keep-mem s w a m′ .0) .0)
+        (λ m′. by-mem m′ (λ d. Memᴰ·cast d i) (λ n. in-l a (keep-mem t w a n .0) .0)) (List·Memᴰ·append-cases (keep s w) m);
+    once = around (λ a b. a ≢ b) s p w once-w (λ a m u. in-l a m .1) (λ b m u d. in-l b m .1 (sym d))
+        (λ a b m n u v d. never u (ap s d ∙ v));
+    clear = around (λ a b. h′ b a ≡ false) s p w
+        (Pairs-map₂ (λ a b. a ≢ b) (λ a b. h b a ≡ false) _ w (λ a b m n d u. was b a n m (λ e. d (sym e)) ∙ u) once-w
+        (Pairs-without _ p o (c .clear)))
+        (λ a m u. let r = in-l a m in f a (r .0) (r .1) u)
+        (λ b m u. let r = in-l b m in g .same b p (r .0) i (r .1) (r .1) ∙ no-true (h b p) (λ e. never (k .base b (r .0) (r .1) e) u))
+        (λ a b m n u v. let q = in-l a m in let r = in-l b n in let d : b ≢ a = λ e. never u (ap s (sym e) ∙ v) in
+        was b a n m d ∙ no-true (h b a) (λ e. never (k .step b a (r .0) (q .0) (r .1) (q .1) d u e) v));
+  },
+)
   where
     t : ℕ → Bool
     t x = not (s x)
@@ -230,7 +233,7 @@ meets-adding s t f = same-test (meets (adding s f) t) (meets s t || member t f)
     (λ e. or-cases (meets s t) (member t f) e (meets-mono s t (adding s f) t (adding-⊒ s f) (λ i u. u))
     (λ u. meets-at (adding s f) t f (adding-same s f (member-file t f u)) u))
 
--- What q holds back with f given: what it held back, and who claims f, for writing only where q reads it.
+-- Whom q holds back with f given: whom it held back, and who claims f; where q opens f for reading, who claims it for writing.
 pub given-holds : (q j : Program) (f : ℕ) → holdsBack (opening q f) j
     ≡ holdsBack q j || cond (member (q .writable) f) (claims j f) (member (j .writable) f)
 unfolding opening
@@ -243,14 +246,9 @@ given-holds q j f = by-test (member (q .writable) f)
   where
     regroup : (a b c d e : Bool) → (a || b) || (c || d) || e ≡ (a || c || e) || (b || d)
     regroup true b c d e = refl
-    regroup false true true d e = refl
-    regroup false true false d true = refl
-    regroup false true false d false = refl
-    regroup false false true d e = refl
-    regroup false false false true true = refl
-    regroup false false false true false = refl
-    regroup false false false false true = refl
-    regroup false false false false false = refl
+    regroup false b true d e = rw (or-true b)
+    regroup false b false d true = or-true (b || d)
+    regroup false b false d false = or-false (b || d)
 
 -- ── On a board ──
 
@@ -258,6 +256,7 @@ given-holds q j f = by-test (member (q .writable) f)
 abbrev pub isOther : Board → ℕ → ℕ → Bool
 isOther b p x = isProgram x && isAdmitted (at b x .standing) && not (eqb x p)
 
+-- x reaches p on the board
 abbrev pub ReachesOn : Board → ℕ → ℕ → Type 0
 ReachesOn b p x = Reaches (holdsOn b) (admitted b) p x
 
@@ -267,12 +266,12 @@ pub record ClosedOn (b : Board) (p : ℕ) (s : ℕ → Bool) : Type 0 where
   pub step : (x y : ℕ) → isOther b p x ≡ true → isOther b p y ≡ true → eqb x y ≡ false → s y ≡ true → holdsOn b x y ≡ true → s x ≡ true
 
 mem-admitted : (b : Board) (x : ℕ) → isProgram x ≡ true → isAdmitted (at b x .standing) ≡ true → x ∈ admitted b
-unfolding admitted
-mem-admitted b x c e = mem-keep (λ p. isAdmitted (at b p .standing)) everyone x (mem-everyone x (is-of x c)) e
+unfolding admitted ins
+mem-admitted b x c e = mem-ins (b .programs) x (is-of x c) e
 
 admitted-mem : (b : Board) (x : ℕ) → x ∈ admitted b → Is x × (isAdmitted (at b x .standing) ≡ true)
-unfolding admitted
-admitted-mem b x m = let r = keep-mem (λ p. isAdmitted (at b p .standing)) everyone x m in (everyone-is x (r .0), r .1)
+unfolding admitted ins
+admitted-mem b x m = ins-mem (b .programs) x m
 
 other-mem : (b : Board) (p x : ℕ) → isOther b p x ≡ true → (x ∈ admitted b) × (x ≢ p)
 other-mem b p x e =
@@ -328,7 +327,7 @@ module _ (b : Board) (p f : ℕ) (c : isProgram p ≡ true) (a : isAdmitted (at 
         (opening-more (at b p) f) (within-refl (at b x)) e;
   }
 
-  -- f can safely be given to p if p with f holds back nobody of a closed set.
+  -- With f given an order comes back, if p then holds back nobody that a closed test finds.
   pub safe-by-closed : (s : ℕ → Bool) → found (carried b) ≡ true → ClosedOn b p s
       → ((x : ℕ) → isOther b p x ≡ true → s x ≡ true → holdsBack (opening (at b p) f) (at b x) ≡ false) → safe b p f ≡ true
   unfolding safe
@@ -342,19 +341,19 @@ module _ (b : Board) (p f : ℕ) (c : isProgram p ≡ true) (a : isAdmitted (at 
       (λ x m n w. given-by x m n ∙ g x (mem-other b p x m n) w) in
       of-order (withGiven b p f) o′ (subst (λ l. IsOrder (holdsOn (withGiven b p f)) l o′) (sym given-admitted) v)
 
-  safe-is-in : safe b p f ≡ found (orderIn (holdsOn (withGiven b p f)) (admitted b))
-  unfolding safe
-  safe-is-in = ap found (carried-is (withGiven b p f))
-      ∙ ap (λ l. found (orderIn (holdsOn (withGiven b p f)) l)) (sym (admitted-is (withGiven b p f)) ∙ given-admitted)
-
-  -- It can't if p with f holds back one that reaches p.
+  -- None comes back, if p then holds back one that reaches it.
   pub unsafe-by-reach : (x : ℕ) → ReachesOn b p x → holdsBack (opening (at b p) f) (at b x) ≡ true → safe b p f ≡ false
   unfolding safe
   unsafe-by-reach x r e = no-true (safe b p f) (λ t. let (o, u) = order-of (withGiven b p f) t in
       no-order-by-reach (holdsOn b) (holdsOn (withGiven b p f)) (admitted b) o p x (mem-admitted b p c a) given-grown r
       (given-by x (reaches-in r) (reaches-off r) ∙ e) (subst (λ l. IsOrder (holdsOn (withGiven b p f)) l o) given-admitted u))
 
-  -- On a board that has an order, it can't exactly then.
+  safe-is-in : safe b p f ≡ found (orderIn (holdsOn (withGiven b p f)) (admitted b))
+  unfolding safe
+  safe-is-in = ap found (carried-is (withGiven b p f))
+      ∙ ap (λ l. found (orderIn (holdsOn (withGiven b p f)) l)) (sym (admitted-is (withGiven b p f)) ∙ given-admitted)
+
+  -- On a board that has an order, none comes back exactly then.
   pub unsafe-iff-reach : found (carried b) ≡ true
       → (safe b p f ≡ false) ↔ ((x : ℕ) × ReachesOn b p x × (holdsBack (opening (at b p) f) (at b x) ≡ true))
   unsafe-iff-reach e = (
