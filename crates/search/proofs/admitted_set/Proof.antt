@@ -4,6 +4,7 @@ use Prim.Native.Nat.{_-_, _≤_}
 use native.Mathlib.Omega.{arith}
 use lib.ListN.{set}
 use borrow.Author.Needs.{needs}
+use Rattle.tables.specs.Tables.{joined, packed}
 use Rattle.search.specs.Rows.{admits, admittedSet}
 use Rattle.search.proofs.Laws.{packed-more, packed-all}
 use Rattle.search.proofs.admitted_set.Statement.{statement}
