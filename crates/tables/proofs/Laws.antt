@@ -6,37 +6,18 @@ use mathlib.Core.List.{List, []}
 use Prim.Native.Nat.{ℕ, zero, suc, _+_, _-_, _≤_, _<_}
 use native.Mathlib.Numerals.{add-one}
 use native.Mathlib.Omega.{arith}
-use lib.Bits.{bitAnd, bitOr, or-add-and, and-le-l, and-comm}
+use lib.Bits.{bitOr, or-add-and, and-le-l, and-comm}
 use lib.Dec.{eqb}
 use lib.ListN.{length, getD, set, replicate, length-set, getD-replicate}
 use lib.Seq.{getD-set-same, getD-set-other}
 use borrow.Author.Tests.{eq-eqb, ne-eqb, eqb-true, eqb-false}
 use Rattle.files.proofs.Tests.{by-test, and-false}
-use Rattle.files.specs.Bits.{share}
+use Rattle.files.proofs.Bits.{zero-share}
 use Rattle.rules.specs.declared.Program.{Program}
 use Rattle.rules.specs.declared.Board.{Board}
 use Rattle.rules.specs.Boards.{noProgram, at}
 use Rattle.tables.specs.declared.ProgramSet.{ProgramSet}
 use Rattle.tables.specs.Tables.{inPlace, SetsTo, SetsOf, RowsUpTo, joined, packed, stops, holdsBits, HolderAdded}
-
--- ---- bits
-
--- two numbers or-ed are 0 exactly if both are
-pub or-none : (a b : ℕ) → not (eqb (bitOr a b) 0) ≡ (not (eqb a 0) || not (eqb b 0))
-or-none a b =
-    by-test (eqb a 0)
-    (λ x. let i : a ≡ 0 = eqb-true a 0 x in by-test (eqb b 0)
-    (λ y. let j : b ≡ 0 = eqb-true b 0 y in
-    let e : bitOr a b ≡ 0 = omega (arith, or-add-and a b, and-le-l a b) in rw (x, y, eq-eqb (bitOr a b) 0 e))
-    (λ y. let j : b ≢ 0 = eqb-false b 0 y in
-    let e : bitOr a b ≢ 0 = (λ d. omega (arith, or-add-and a b, and-le-l a b)) in rw (x, y, ne-eqb (bitOr a b) 0 e)))
-    (λ x. let i : a ≢ 0 = eqb-false a 0 x in
-    let k : bitAnd a b ≤ b = rw (and-comm b a) at (and-le-l b a) in
-    let e : bitOr a b ≢ 0 = (λ d. omega (arith, or-add-and a b)) in rw (x, ne-eqb (bitOr a b) 0 e))
-
--- nothing is shared with 0
-zero-share : (a b : ℕ) → a ≡ 0 → share a b ≡ false
-zero-share a b e = let d : bitAnd a b ≡ 0 = omega (arith, and-le-l a b) in rw (eq-eqb (bitAnd a b) 0 d)
 
 -- ---- the sets, one program after another
 

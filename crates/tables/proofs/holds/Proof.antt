@@ -4,7 +4,7 @@ use mathlib.Core.Bool.{Bool, not, _||_}
 use lib.Bits.{bitAnd, bitOr}
 use lib.Dec.{eqb}
 use borrow.Author.Needs.{needs}
-use Rattle.tables.proofs.Laws.{or-none}
+use Rattle.files.proofs.Bits.{or-none}
 use Rattle.tables.proofs.holds.Statement.{statement}
 use Rattle.tables.proofs.holds.Tie as tie
 
