@@ -26,7 +26,8 @@ use Rattle.tables.specs.declared.ProgramSet.{ProgramSet}
 use Rattle.search.specs.declared.Search.{Search}
 use Rattle.search.specs.declared.Order.{Order}
 use Rattle.tables.specs.ProgramSets.{noPrograms, hasProgram, withProgram, withoutProgram, programsMeet}
-use Rattle.tables.specs.Tables.{joined, packed, stops, holders, RowsOf}
+use Rattle.tables.specs.Tables.{packed, stops, holders, RowsOf}
+use Rattle.tables.proofs.Laws.{packed-bit, packed-has}
 use Rattle.search.specs.Rows.{rowOf, RowsAt, admits, admittedSet, free, lowest, orderFrom, placed, asOrder}
 
 -- ---- the numbers from p to 32
@@ -75,56 +76,6 @@ module _ (t : ℕ → Bool) (p : ℕ) where
   pub keep-end : 32 < p → length (keep t (rising (33 - p) p)) ≡ 0
   unfolding keep
   keep-end h = rw (rising-end p h)
-
--- ---- sets of the numbers that pass a test
-
--- the set of those up to i
-pub packed-more : (t : ℕ → Bool) (i : ℕ) (s r : ProgramSet) → 1 ≤ i → s ≡ packed t (i - 1) → r ≡ joined s i (t i) → r ≡ packed t (i + 1 - 1)
-unfolding packed
-packed-more t zero s r h e k = absurd (omega arith)
-packed-more t (suc i) s r h e k =
-    let a : suc i + 1 - 1 ≡ suc i = omega arith in
-    let z : suc i - 1 ≡ i = omega arith in
-    rw a (k ∙ ap (λ (x : ProgramSet). joined x (suc i) (t (suc i))) (e ∙ ap (packed t) z))
-
--- and of all
-pub packed-all : (t : ℕ → Bool) (i : ℕ) (s : ProgramSet) → i ≡ 33 → s ≡ packed t (i - 1) → s ≡ packed t 32
-packed-all t i s h e = e ∙ ap (λ (x : ℕ). packed t (x - 1)) h
-
--- ---- members of a packed set
-
--- a bit of a packed set is that of a number that passes the test
-packed-bit : (t : ℕ → Bool) (n i : ℕ) → n ≤ 32 → hasBit (packed t n .bits) i ≡ true → (i < n) × (t (suc i) ≡ true)
-unfolding packed
-packed-bit t zero i h e = never e (zero-has i)
-packed-bit t (suc n) i h e =
-    by-test (t (suc n))
-    (λ y. by-test (eqb i n) (λ d. let z : i ≡ n = eqb-true i n d in (omega arith, ap (λ x. t (suc x)) z ∙ y))
-    (λ d. let z : i ≢ n = eqb-false i n d in
-    let k : suc n - 1 ≡ n = omega arith in
-    let r = packed-bit t n i (omega arith) (with-only (packed t n .bits) n i (rw (y, is-number 32 (suc n) (omega arith) h, k) at e) z) in
-    (omega (arith, r .0), r .1)))
-    (λ y. let r = packed-bit t n i (omega arith) (rw y at e) in (omega (arith, r .0), r .1))
-
-pub packed-has : (t : ℕ → Bool) (n i : ℕ) → n ≤ 32 → 1 ≤ i → i ≤ n → hasProgram (packed t n) i ≡ t i
-unfolding packed
-packed-has t zero i m l h = absurd (omega arith)
-packed-has t (suc n) i m l h =
-    by-test (eqb i (suc n))
-    (λ e. let z : i ≡ suc n = eqb-true i (suc n) e in rw z last)
-    (λ e. let z : i ≢ suc n = eqb-false i (suc n) e in
-    by-test (t (suc n))
-    (λ y. rw y (with-number-other 32 (packed t n .bits) (suc n) i z ∙ packed-has t n i (omega arith) l (omega arith)))
-    (λ y. rw y (packed-has t n i (omega arith) l (omega arith))))
-  where
-    is : isNumber 32 (suc n) ≡ true
-    is = is-number 32 (suc n) (omega arith) m
-
-    last : hasProgram (joined (packed t n) (suc n) (t (suc n))) (suc n) ≡ t (suc n)
-    last =
-        by-test (t (suc n)) (λ y. rw y (with-number-same 32 (packed t n .bits) (suc n) is))
-        (λ y. rw y (no-true (hasProgram (packed t n) (suc n)) (λ d. let k : suc n - 1 ≡ n = omega arith in
-        let r = packed-bit t n n (omega arith) (rw k at (has-bit 32 (packed t n .bits) (suc n) d)) .0 in omega arith)))
 
 -- ---- tests over a range of numbers
 

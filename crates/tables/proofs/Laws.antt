@@ -6,18 +6,20 @@ use mathlib.Core.List.{List, []}
 use Prim.Native.Nat.{ℕ, zero, suc, _+_, _-_, _≤_, _<_}
 use native.Mathlib.Numerals.{add-one}
 use native.Mathlib.Omega.{arith}
-use lib.Bits.{bitOr, or-add-and, and-le-l, and-comm}
+use lib.Bits.{bitAnd, bitOr, or-add-and, and-le-l, and-comm}
 use lib.Dec.{eqb}
 use lib.ListN.{length, getD, set, replicate, length-set, getD-replicate}
 use lib.Seq.{getD-set-same, getD-set-other}
 use borrow.Author.Tests.{eq-eqb, ne-eqb, eqb-true, eqb-false}
-use Rattle.files.proofs.Tests.{by-test, and-false}
-use Rattle.files.proofs.Bits.{zero-share}
+use Rattle.files.proofs.Tests.{by-test, never, no-true, or-cases, or-left, or-right, and-left, and-right, and-both, and-false}
+use Rattle.files.specs.Bits.{hasBit, isNumber, hasNumber}
+use Rattle.files.proofs.Bits.{or-has, and-has, zero-share, zero-has, with-only, is-number, least, most, has-number, has-bit, with-number-same, with-number-other}
 use Rattle.rules.specs.declared.Program.{Program}
 use Rattle.rules.specs.declared.Board.{Board}
 use Rattle.rules.specs.Boards.{noProgram, at}
 use Rattle.tables.specs.declared.ProgramSet.{ProgramSet}
-use Rattle.tables.specs.Tables.{inPlace, SetsTo, SetsOf, RowsUpTo, joined, packed, stops, holdsBits, HolderAdded}
+use Rattle.tables.specs.ProgramSets.{noPrograms, hasProgram, unionOf, commonOf}
+use Rattle.tables.specs.Tables.{inPlace, SetsTo, SetsOf, RowsUpTo, joined, packed, stops, holdsBits, HolderAdded, rowOf, holdersOf, Chain, Reached}
 
 -- ---- the sets, one program after another
 
@@ -148,3 +150,146 @@ module _ (b : Board) (sets : List ℕ) (s : SetsOf b sets) (i : ℕ) (h : i < 32
 pub rows-none : (b : Board) (rows : List ℕ) → rows ≡ replicate 32 0 → RowsUpTo b 0 rows
 unfolding packed
 rows-none b rows e j k = rw e (ap {B = ProgramSet} (λ x. record { bits = x }) (getD-replicate 32 j 0 0 k))
+
+-- ---- sets of the numbers that pass a test
+
+-- the set of those up to i
+pub packed-more : (t : ℕ → Bool) (i : ℕ) (s r : ProgramSet) → 1 ≤ i → s ≡ packed t (i - 1) → r ≡ joined s i (t i) → r ≡ packed t (i + 1 - 1)
+unfolding packed
+packed-more t zero s r h e k = absurd (omega arith)
+packed-more t (suc i) s r h e k =
+    let a : suc i + 1 - 1 ≡ suc i = omega arith in
+    let z : suc i - 1 ≡ i = omega arith in
+    rw a (k ∙ ap (λ (x : ProgramSet). joined x (suc i) (t (suc i))) (e ∙ ap (packed t) z))
+
+-- and of all
+pub packed-all : (t : ℕ → Bool) (i : ℕ) (s : ProgramSet) → i ≡ 33 → s ≡ packed t (i - 1) → s ≡ packed t 32
+packed-all t i s h e = e ∙ ap (λ (x : ℕ). packed t (x - 1)) h
+
+-- ---- members of a packed set
+
+-- a bit of a packed set is that of a number that passes the test
+pub packed-bit : (t : ℕ → Bool) (n i : ℕ) → n ≤ 32 → hasBit (packed t n .bits) i ≡ true → (i < n) × (t (suc i) ≡ true)
+unfolding packed
+packed-bit t zero i h e = never e (zero-has i)
+packed-bit t (suc n) i h e =
+    by-test (t (suc n))
+    (λ y. by-test (eqb i n) (λ d. let z : i ≡ n = eqb-true i n d in (omega arith, ap (λ x. t (suc x)) z ∙ y))
+    (λ d. let z : i ≢ n = eqb-false i n d in
+    let k : suc n - 1 ≡ n = omega arith in
+    let r = packed-bit t n i (omega arith) (with-only (packed t n .bits) n i (rw (y, is-number 32 (suc n) (omega arith) h, k) at e) z) in
+    (omega (arith, r .0), r .1)))
+    (λ y. let r = packed-bit t n i (omega arith) (rw y at e) in (omega (arith, r .0), r .1))
+
+pub packed-has : (t : ℕ → Bool) (n i : ℕ) → n ≤ 32 → 1 ≤ i → i ≤ n → hasProgram (packed t n) i ≡ t i
+unfolding packed
+packed-has t zero i m l h = absurd (omega arith)
+packed-has t (suc n) i m l h =
+    by-test (eqb i (suc n))
+    (λ e. let z : i ≡ suc n = eqb-true i (suc n) e in rw z last)
+    (λ e. let z : i ≢ suc n = eqb-false i (suc n) e in
+    by-test (t (suc n))
+    (λ y. rw y (with-number-other 32 (packed t n .bits) (suc n) i z ∙ packed-has t n i (omega arith) l (omega arith)))
+    (λ y. rw y (packed-has t n i (omega arith) l (omega arith))))
+  where
+    is : isNumber 32 (suc n) ≡ true
+    is = is-number 32 (suc n) (omega arith) m
+
+    last : hasProgram (joined (packed t n) (suc n) (t (suc n))) (suc n) ≡ t (suc n)
+    last =
+        by-test (t (suc n)) (λ y. rw y (with-number-same 32 (packed t n .bits) (suc n) is))
+        (λ y. rw y (no-true (hasProgram (packed t n) (suc n)) (λ d. let k : suc n - 1 ≡ n = omega arith in
+        let r = packed-bit t n n (omega arith) (rw k at (has-bit 32 (packed t n .bits) (suc n) d)) .0 in omega arith)))
+
+-- ---- those that hold back one of a set
+
+pub holders-more : (rows : List ℕ) (s : ProgramSet) (p : ℕ) (a r : ProgramSet) → 1 ≤ p → a ≡ holdersOf rows s (p - 1)
+    → r ≡ cond (hasProgram s p) (unionOf a (rowOf rows p)) a → r ≡ holdersOf rows s (p + 1 - 1)
+unfolding holdersOf
+holders-more rows s zero a r h e k = absurd (omega arith)
+holders-more rows s (suc p) a r h e k =
+    let y : suc p + 1 - 1 ≡ suc p = omega arith in
+    let z : suc p - 1 ≡ p = omega arith in
+    rw y (k ∙ ap (λ (x : ProgramSet). cond (hasProgram s (suc p)) (unionOf x (rowOf rows (suc p))) x) (e ∙ ap (holdersOf rows s) z))
+
+pub holders-all : (rows : List ℕ) (s : ProgramSet) (p : ℕ) (a : ProgramSet) → p ≡ 33 → a ≡ holdersOf rows s (p - 1) → a ≡ holdersOf rows s 32
+holders-all rows s p a h e = e ∙ ap (λ (x : ℕ). holdersOf rows s (x - 1)) h
+
+-- members of a union, and of what two sets have in common
+pub union-has : (s t : ProgramSet) (x : ℕ) → hasProgram (unionOf s t) x ≡ (hasProgram s x || hasProgram t x)
+union-has s t x = by-test (isNumber 32 x) (λ e. rw e (or-has (s .bits) (t .bits) (x - 1))) (λ e. rw e)
+
+pub common-has : (s t : ProgramSet) (x : ℕ) → hasProgram (commonOf s t) x ≡ (hasProgram s x && hasProgram t x)
+common-has s t x = by-test (isNumber 32 x) (λ e. rw e (and-has (s .bits) (t .bits) (x - 1))) (λ e. rw e)
+
+pub none-has : (x : ℕ) → hasProgram noPrograms x ≡ false
+none-has x = by-test (isNumber 32 x) (λ e. rw e (zero-has (x - 1))) (λ e. rw e)
+
+-- who holds back one of the set is among its holders, and nobody else
+pub holder-in : (rows : List ℕ) (s : ProgramSet) (n x y : ℕ) → 1 ≤ y → y ≤ n → hasProgram s y ≡ true → hasProgram (rowOf rows y) x ≡ true
+    → hasProgram (holdersOf rows s n) x ≡ true
+unfolding holdersOf
+holder-in rows s zero x y l h e k = absurd (omega arith)
+holder-in rows s (suc n) x y l h e k =
+    by-test (eqb y (suc n))
+    (λ t. let z : y ≡ suc n = eqb-true y (suc n) t in
+    rw (rw z at e) (union-has (holdersOf rows s n) (rowOf rows (suc n)) x ∙ or-right (hasProgram (holdersOf rows s n) x) _ (rw z at k)))
+    (λ t. let z : y ≢ suc n = eqb-false y (suc n) t in let r = holder-in rows s n x y l (omega arith) e k in
+    by-test (hasProgram s (suc n))
+    (λ u. rw u (union-has (holdersOf rows s n) (rowOf rows (suc n)) x ∙ or-left _ (hasProgram (rowOf rows (suc n)) x) r)) (λ u. rw u r))
+
+pub in-holder : (rows : List ℕ) (s : ProgramSet) (n x : ℕ) → hasProgram (holdersOf rows s n) x ≡ true
+    → (y : ℕ) × (hasProgram s y ≡ true) × (hasProgram (rowOf rows y) x ≡ true)
+unfolding holdersOf
+in-holder rows s zero x e = never e (none-has x)
+in-holder rows s (suc n) x e =
+    by-test (hasProgram s (suc n))
+    (λ u. or-cases (hasProgram (holdersOf rows s n) x) (hasProgram (rowOf rows (suc n)) x)
+    (sym (union-has (holdersOf rows s n) (rowOf rows (suc n)) x) ∙ rw u at e) (in-holder rows s n x) (λ k. (suc n, u, k)))
+    (λ u. in-holder rows s n x (rw u at e))
+
+-- ---- reaching, one round after another
+
+module _ (rows : List ℕ) (among : ProgramSet) where
+  abbrev pub grownBy : ProgramSet → ProgramSet
+  grownBy s = unionOf s (commonOf (holdersOf rows s 32) among)
+
+  -- what is reached so far: the first ones, and only those with a chain to them
+  abbrev pub SoFar : ProgramSet → ProgramSet → Type 0
+  SoFar start s = ((x : ℕ) → hasProgram start x ≡ true → hasProgram s x ≡ true)
+      × ((x : ℕ) → hasProgram s x ≡ true → Chain rows among start x)
+
+  pub sofar-start : (set start : ProgramSet) → start ≡ commonOf set among → SoFar start start
+  sofar-start set start e = (λ x h. h, λ x h. Chain.first h (and-right (hasProgram set x) (hasProgram among x)
+      (sym (common-has set among x) ∙ ap (λ (s : ProgramSet). hasProgram s x) (sym e) ∙ h)))
+
+  pub sofar-more : (start s : ProgramSet) → SoFar start s → SoFar start (grownBy s)
+  sofar-more start s (f, g) = (
+    λ x h. union-has s (commonOf (holdersOf rows s 32) among) x ∙ or-left (hasProgram s x) _ (f x h),
+    λ x h. or-cases (hasProgram s x) (hasProgram (commonOf (holdersOf rows s 32) among) x)
+        (sym (union-has s (commonOf (holdersOf rows s 32) among) x) ∙ h) (g x)
+        (λ k. let c = sym (common-has (holdersOf rows s 32) among x) ∙ k in
+        let (y, u, v) = in-holder rows s 32 x (and-left (hasProgram (holdersOf rows s 32) x) (hasProgram among x) c) in
+        Chain.next (and-right (hasProgram (holdersOf rows s 32) x) (hasProgram among x) c) v (g y u)),
+  )
+
+  pub grown-le : (s : ProgramSet) → s .bits ≤ grownBy s .bits
+  grown-le s = omega (arith, or-add-and (s .bits) (bitAnd (holdersOf rows s 32 .bits) (among .bits)),
+      and-le-l (bitAnd (holdersOf rows s 32 .bits) (among .bits)) (s .bits),
+      and-comm (s .bits) (bitAnd (holdersOf rows s 32 .bits) (among .bits)))
+
+  -- where a round adds nobody, all are reached
+  pub reached-all : (set start s : ProgramSet) → start ≡ commonOf set among → SoFar start s → grownBy s .bits ≡ s .bits
+      → Reached rows among set s
+  reached-all set start s e (f, g) d = record {
+    starts = λ x h k. f x (rw e (common-has set among x ∙ and-both (hasProgram set x) (hasProgram among x) h k));
+    closed = λ x y h k u. ap (λ (n : ℕ). hasNumber 32 n x) (sym d) ∙ union-has s (commonOf (holdersOf rows s 32) among) x
+        ∙ or-right (hasProgram s x) _ (common-has (holdersOf rows s 32) among x
+        ∙ and-both (hasProgram (holdersOf rows s 32) x) (hasProgram among x)
+        (holder-in rows s 32 x y (least 32 y (has-number 32 (s .bits) y k)) (most 32 y (has-number 32 (s .bits) y k)) k u) h);
+    chained = λ x h. widen x (g x h);
+  }
+    where
+      widen : (x : ℕ) → Chain rows among start x → Chain rows among set x
+      widen x (Chain.first h k) = Chain.first (and-left (hasProgram set x) (hasProgram among x) (sym (common-has set among x) ∙ rw e at h)) k
+      widen x (Chain.next {y = y} h k c) = Chain.next h k (widen y c)

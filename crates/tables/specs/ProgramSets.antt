@@ -2,6 +2,7 @@
 -- Assumes nothing.
 use Prim.Native.Nat.{ℕ}
 use mathlib.Core.Bool.{Bool}
+use lib.Bits.{bitAnd, bitOr}
 use Rattle.files.specs.Bits.{hasNumber, withNumber, withoutNumber, share}
 use Rattle.tables.specs.declared.ProgramSet.{ProgramSet}
 
@@ -23,3 +24,11 @@ withoutProgram s p = record { bits = withoutNumber 32 (s .bits) p }
 -- the sets have a program in common
 abbrev pub programsMeet : ProgramSet → ProgramSet → Bool
 programsMeet s t = share (s .bits) (t .bits)
+
+-- the programs of both
+abbrev pub unionOf : ProgramSet → ProgramSet → ProgramSet
+unionOf s t = record { bits = bitOr (s .bits) (t .bits) }
+
+-- the programs that they have in common
+abbrev pub commonOf : ProgramSet → ProgramSet → ProgramSet
+commonOf s t = record { bits = bitAnd (s .bits) (t .bits) }

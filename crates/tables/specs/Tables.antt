@@ -2,17 +2,18 @@
 -- Assumes nothing.
 use Prim.Native.Nat.{ℕ, zero, suc, _+_, _-_, _<_}
 use mathlib.Core.Path.{_≡_}
-use mathlib.Core.Bool.{Bool, not, cond, _&&_, _||_}
+use mathlib.Core.Bool.{Bool, true, not, cond, _&&_, _||_}
 use mathlib.Core.List.{List}
 use lib.Dec.{eqb}
 use lib.ListN.{length, getD}
 use Rattle.files.specs.Bits.{share}
+use Rattle.files.specs.Sets.{member}
 use Rattle.rules.specs.declared.Program.{Program}
 use Rattle.rules.specs.declared.Board.{Board}
 use Rattle.rules.specs.Boards.{noProgram, at}
 use Rattle.rules.specs.Orders.{holdsBack}
 use Rattle.tables.specs.declared.ProgramSet.{ProgramSet}
-use Rattle.tables.specs.ProgramSets.{noPrograms, withProgram}
+use Rattle.tables.specs.ProgramSets.{noPrograms, hasProgram, withProgram, unionOf}
 
 -- the program at place i
 abbrev pub inPlace : Board → ℕ → Program
@@ -65,3 +66,31 @@ HolderAdded sets i before after = (length after ≡ 32) × ((j : ℕ) → j < 32
 -- the rows are those of every board that has the sets
 abbrev pub RowsFor : List ℕ → List ℕ → Type 0
 RowsFor sets rows = (b : Board) → SetsOf b sets → RowsOf b rows
+
+-- ---- reaching
+
+-- the row of p
+abbrev pub rowOf : List ℕ → ℕ → ProgramSet
+rowOf rows p = record { bits = getD rows (p - 1) 0 }
+
+-- those that hold back one of the programs 1 to n of a set
+unfoldable pub holdersOf : List ℕ → ProgramSet → ℕ → ProgramSet
+holdersOf rows s zero = noPrograms
+holdersOf rows s (suc n) = cond (hasProgram s (suc n)) (unionOf (holdersOf rows s n) (rowOf rows (suc n))) (holdersOf rows s n)
+
+-- x is one of the first, or holds back somebody with a chain to them; all among a set
+pub data Chain (rows : List ℕ) (among start : ProgramSet) : ℕ → Type 0 where
+  first : {x : ℕ} → hasProgram start x ≡ true → hasProgram among x ≡ true → Chain rows among start x
+  next : {x y : ℕ} → hasProgram among x ≡ true → hasProgram (rowOf rows y) x ≡ true → Chain rows among start y → Chain rows among start x
+
+-- the set has those that are among the others with a chain to the first, and nobody else
+pub record Reached (rows : List ℕ) (among start r : ProgramSet) : Type 0 where
+  pub starts : (x : ℕ) → hasProgram start x ≡ true → hasProgram among x ≡ true → hasProgram r x ≡ true
+  pub closed : (x y : ℕ) → hasProgram among x ≡ true → hasProgram r y ≡ true → hasProgram (rowOf rows y) x ≡ true → hasProgram r x ≡ true
+  pub chained : (x : ℕ) → hasProgram r x ≡ true → Chain rows among start x
+
+-- ---- claims of a file
+
+-- the program at place p - 1 may write f or, if both count, read it
+abbrev pub claimsAt : List ℕ → ℕ → Bool → ℕ → Bool
+claimsAt sets f both p = member (record { bits = getD sets (p - 1) 0 }) f || (both && member (record { bits = getD sets (32 + (p - 1)) 0 }) f)

@@ -9,6 +9,7 @@ ghost use lib.ListN.{length, replicate};
 ghost use Rattle.files.specs.Bits.{share};
 ghost use Rattle.tables.specs.Tables.{joined, SetsOf, RowsOf, RowsFor, HolderAdded};
 
+pub mod reach;
 mod sets;
 
 // A set of the programs 1 to 32: bit p - 1 says whether program p is in it.

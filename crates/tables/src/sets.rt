@@ -1,7 +1,7 @@
 // Sets of programs, by value.
 use crate::ProgramSet;
 ghost use mathlib.Core.Path.{_≡_};
-ghost use Rattle.tables.specs.ProgramSets.{hasProgram, withProgram, withoutProgram, programsMeet};
+ghost use Rattle.tables.specs.ProgramSets.{hasProgram, withProgram, withoutProgram, programsMeet, unionOf, commonOf};
 
 impl ProgramSet {
     // No program.
@@ -56,5 +56,23 @@ impl ProgramSet {
         ensures { λ r. ⌜ r ≡ programsMeet self other ⌝ }
     {
         self.bits & other.bits != 0
+    }
+
+    // The programs of both.
+    pub fn or(self, other: ProgramSet) -> ProgramSet
+        ensures { λ r. ⌜ r ≡ unionOf self other ⌝ }
+    {
+        ProgramSet {
+            bits: self.bits | other.bits,
+        }
+    }
+
+    // The programs that they have in common.
+    pub fn and(self, other: ProgramSet) -> ProgramSet
+        ensures { λ r. ⌜ r ≡ commonOf self other ⌝ }
+    {
+        ProgramSet {
+            bits: self.bits & other.bits,
+        }
     }
 }
