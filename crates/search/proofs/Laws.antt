@@ -26,9 +26,9 @@ use Rattle.tables.specs.declared.ProgramSet.{ProgramSet}
 use Rattle.search.specs.declared.Search.{Search}
 use Rattle.search.specs.declared.Order.{Order}
 use Rattle.tables.specs.ProgramSets.{noPrograms, hasProgram, withProgram, withoutProgram, programsMeet}
-use Rattle.tables.specs.Tables.{packed, stops, holders, RowsOf}
+use Rattle.tables.specs.Tables.{packed, stops, holders, rowOf, RowsOf}
 use Rattle.tables.proofs.Laws.{packed-bit, packed-has}
-use Rattle.search.specs.Rows.{rowOf, RowsAt, admits, admittedSet, free, lowest, orderFrom, placed, asOrder}
+use Rattle.search.specs.Rows.{RowsAt, admits, admittedSet, free, lowest, orderFrom, placed, asOrder}
 
 -- ---- the numbers from p to 32
 

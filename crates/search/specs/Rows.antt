@@ -9,18 +9,14 @@ use lib.Dec.{eqb}
 use lib.ListN.{length, getD, take, drop, replicate}
 use Rattle.rules.specs.declared.Program.{Program}
 use Rattle.rules.specs.declared.Board.{Board}
-use Rattle.rules.specs.Lists.{first, withFound, padded}
+use Rattle.rules.specs.Lists.{first, found, withFound, padded}
 use Rattle.rules.specs.Boards.{everyone, at, isAdmitted}
-use Rattle.rules.specs.Orders.{conflict}
+use Rattle.rules.specs.Orders.{conflict, carried, safe}
 use Rattle.tables.specs.declared.ProgramSet.{ProgramSet}
 use Rattle.search.specs.declared.Search.{Search}
 use Rattle.search.specs.declared.Order.{Order}
 use Rattle.tables.specs.ProgramSets.{hasProgram, withoutProgram, programsMeet}
-use Rattle.tables.specs.Tables.{packed, holders}
-
--- the row of p
-abbrev pub rowOf : List ℕ → ℕ → ProgramSet
-rowOf rows p = record { bits = getD rows (p - 1) 0 }
+use Rattle.tables.specs.Tables.{packed, holders, rowOf, SetsOf, RowsOf}
 
 -- the rows of the board: in each program's place, those that hold it back
 abbrev pub RowsAt : Board → List ℕ → Type 0
@@ -62,3 +58,10 @@ placed at k none = record { kind = Search.Stuck; at = replicate 32 0 }
 abbrev pub asOrder : Option (List ℕ) → Order
 asOrder (some l) = record { kind = Search.Found (length l); at = padded 0 l }
 asOrder none = record { kind = Search.Stuck; at = replicate 32 0 }
+
+-- ---- giving a file
+
+-- on every board with these sets, rows and admitted programs that has an order: the test says whether an order comes back with f given to p
+abbrev pub SafeFor : List ℕ → List ℕ → ProgramSet → ℕ → ℕ → Bool → Type 0
+SafeFor sets rows a p f r = (b : Board) → SetsOf b sets → RowsOf b rows → a ≡ admittedSet b → admits b p ≡ true
+    → found (carried b) ≡ true → r ≡ safe b p f

@@ -1,4 +1,5 @@
 // The carried order of a board, and whether a file can be given.
+use files::FileSet;
 use rules::Board;
 use rules::Program;
 use tables::ProgramSet;
@@ -10,7 +11,7 @@ ghost use lib.ListN.{length};
 ghost use Rattle.rules.specs.Lists.{found};
 ghost use Rattle.rules.specs.Boards.{admitted, awaited, setProgram};
 ghost use Rattle.rules.specs.Orders.{conflict, carried, withGiven, inUse, canGive};
-ghost use Rattle.search.specs.Rows.{admittedSet, free, lowest, orderFrom, placed, asOrder};
+ghost use Rattle.search.specs.Rows.{admittedSet, free, lowest, orderFrom, placed, asOrder, SafeFor};
 
 // What a search comes back with: an order of so many programs, or none.
 pub enum Search {
@@ -193,6 +194,21 @@ pub fn in_use(b: Board, p: u8, f: u8) -> bool
         i += 1;
     }
     false
+}
+
+// On a board that has an order: whether an order comes back with f given to p. One does unless somebody whom p would then
+// hold back holds p back, directly or through others.
+pub fn is_safe(sets: &[u64; 128], rows: &[u32; 32], admitted: ProgramSet, p: u8, f: u8) -> bool
+    requires { ⌜ (1 ≤ p) × (p ≤ 32) ⌝ }
+    ensures { λ r. ⌜ SafeFor (now (sets .entry)) (now (rows .entry)) admitted p f r ⌝ }
+{
+    let i = (p - 1) as usize;
+    let v = FileSet { bits: sets[i] };
+    let row = ProgramSet { bits: rows[i] };
+    let claimants = tables::reach::claimants(sets, f, v.has(f));
+    let others = admitted.without(p);
+    let before = tables::reach::reaching(rows, others, row);
+    !before.meets(claimants)
 }
 
 // The board with f given to p.

@@ -292,6 +292,13 @@ pub reaches-through : (b : Board) (p x y : ℕ) → isOther b p x ≡ true → e
     → ReachesOn b p x
 reaches-through b p x y c n e k = let r = other-mem b p x c in through (r .0) (r .1) (eqb-false x y n) e k
 
+-- On a board that has an order, p holds back nobody that reaches it.
+pub no-back : (b : Board) (p x : ℕ) → isProgram p ≡ true → isAdmitted (at b p .standing) ≡ true → found (carried b) ≡ true
+    → ReachesOn b p x → holdsOn b p x ≡ false
+no-back b p x c a e r = no-true (holdsOn b p x) (λ t. let (o, u) = order-of b e in
+    no-order-by-reach (holdsOn b) (holdsOn b) (admitted b) o p x (mem-admitted b p c a)
+    (record { same = λ i j m k n d. refl; more = λ j m n w. w }) r t u)
+
 module _ (b : Board) (p f : ℕ) (c : isProgram p ≡ true) (a : isAdmitted (at b p .standing) ≡ true) where
   given-same : at (withGiven b p f) p ≡ opening (at b p) f
   unfolding withGiven
