@@ -1,0 +1,2 @@
+-- What the program's input does.
+pub mod Input
