@@ -128,7 +128,7 @@ module _ (sets : List ℕ) (i : ℕ) (before : List ℕ) where
 
 -- ---- the rows, one holder after another
 
-at-place : (b : Board) (i : ℕ) → at b (suc i) ≡ inPlace b i
+pub at-place : (b : Board) (i : ℕ) → at b (suc i) ≡ inPlace b i
 at-place b i = let z : suc i - 1 ≡ i = omega arith in ap (λ (x : ℕ). getD (b .programs) x noProgram) z
 
 eqb-suc : (i j : ℕ) → eqb (suc i) (suc j) ≡ eqb i j

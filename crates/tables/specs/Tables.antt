@@ -5,7 +5,9 @@ use mathlib.Core.Path.{_≡_}
 use mathlib.Core.Bool.{Bool, true, not, cond, _&&_, _||_}
 use mathlib.Core.List.{List}
 use lib.Dec.{eqb}
+use lib.Bits.{bitOr}
 use lib.ListN.{length, getD}
+use Rattle.files.specs.declared.FileSet.{FileSet}
 use Rattle.files.specs.Bits.{share}
 use Rattle.files.specs.Sets.{member}
 use Rattle.rules.specs.declared.Program.{Program}
@@ -27,6 +29,15 @@ SetsTo b n l = (i : ℕ) → i < n → (getD l i 0 ≡ inPlace b i .writable .bi
 -- the sets of all programs, in 128 places
 abbrev pub SetsOf : Board → List ℕ → Type 0
 SetsOf b l = (length l ≡ 128) × SetsTo b 32 l
+
+-- the bits of the n sets from place k on
+unfoldable pub gathered : List ℕ → ℕ → ℕ → ℕ
+gathered l k zero = 0
+gathered l k (suc n) = bitOr (gathered l k n) (getD l (k + n) 0)
+
+-- the files of the 32 sets from place k on
+abbrev pub openedFrom : List ℕ → ℕ → FileSet
+openedFrom l k = record { bits = gathered l k 32 }
 
 -- s, and n where the test passes
 abbrev pub joined : ProgramSet → ℕ → Bool → ProgramSet

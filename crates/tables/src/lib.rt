@@ -1,13 +1,14 @@
 // The sets of a board's programs and who holds back whom, in plain arrays that are lent and not copied.
 // In `sets` V of program p stands in place p - 1, Q in place p + 31, W in place p + 63 and R in place p + 95;
 // in `rows` the set of the programs that hold p back stands in place p - 1.
+use files::FileSet;
 use rules::Board;
 ghost use mathlib.Core.Path.{_≡_};
 ghost use mathlib.Core.Bool.{_||_};
-ghost use Prim.Native.Nat.{_+_, _<_};
+ghost use Prim.Native.Nat.{_+_, _<_, _≤_};
 ghost use lib.ListN.{length, replicate};
 ghost use Rattle.files.specs.Bits.{share};
-ghost use Rattle.tables.specs.Tables.{joined, SetsOf, RowsOf, RowsFor, HolderAdded};
+ghost use Rattle.tables.specs.Tables.{openedFrom, joined, SetsOf, RowsOf, RowsFor, HolderAdded};
 
 pub mod reach;
 mod sets;
@@ -31,6 +32,20 @@ fn take_sets(b: Board, sets: &mut [u64; 128])
         sets[96 + i] = q.reading.bits;
         i += 1;
     }
+}
+
+// The files of the 32 sets from place k on: those that are open for writing from 64 on, for reading from 96 on.
+pub fn opened(sets: &[u64; 128], k: usize) -> FileSet
+    requires { ⌜ k + 32 ≤ 128 ⌝ }
+    ensures { λ r. ⌜ r ≡ openedFrom (now (sets .entry)) k ⌝ }
+{
+    let mut files: u64 = 0;
+    let mut i: usize = 0;
+    while i < 32 {
+        files = files | sets[k + i];
+        i += 1;
+    }
+    FileSet { bits: files }
 }
 
 // The set, and p where the test passed.

@@ -227,7 +227,7 @@ no-order-iff h h′ l o p n c i g = (
 
 -- ── A file given ──
 
-meets-adding : (s t : FileSet) (f : ℕ) → meets (adding s f) t ≡ meets s t || member t f
+pub meets-adding : (s t : FileSet) (f : ℕ) → meets (adding s f) t ≡ meets s t || member t f
 meets-adding s t f = same-test (meets (adding s f) t) (meets s t || member t f)
     (λ e. adding-meets s t f e (or-left (meets s t) (member t f)) (or-right (meets s t) (member t f)))
     (λ e. or-cases (meets s t) (member t f) e (meets-mono s t (adding s f) t (adding-⊒ s f) (λ i u. u))
