@@ -8,20 +8,25 @@ use lib.Dec.{eqb}
 use lib.ListN.{getD}
 use borrow.Author.Tests.{eqb-true, eqb-false}
 use Rattle.files.proofs.Tests.{by-test, never, and-left, and-right, and-both, or-right, no-true, not-true, true-not, same-test}
-use Rattle.files.specs.Bits.{hasBit, isNumber}
+use Rattle.files.specs.Bits.{hasBit, isNumber, hasNumber}
 use Rattle.files.specs.Sets.{member}
 use Rattle.files.proofs.Bits.{is-number, has-number, least, most, share-of, of-share, has-bit, without-number-same, without-number-other}
 use Rattle.rules.specs.declared.Program.{Program}
 use Rattle.rules.specs.declared.Board.{Board}
 use Rattle.rules.specs.Lists.{found}
-use Rattle.rules.specs.Boards.{at, isProgram, isAdmitted, claims, opening}
-use Rattle.rules.specs.Orders.{holdsBack, carried, safe}
+use Rattle.rules.specs.Boards.{at, isProgram, isAdmitted, claims, hasOpen, opening}
+use Rattle.rules.specs.Orders.{holdsBack, carried, inUse, safe}
+use Rattle.rules.specs.Soundness.{noConflict}
 use Rattle.theory.specs.Carried.{holdsOn}
 use Rattle.theory.specs.Reach.{isOther, ReachesOn, ClosedOn, no-back, reaches-direct, reaches-through, given-holds, safe-by-closed, unsafe-by-reach}
 use Rattle.tables.specs.declared.ProgramSet.{ProgramSet}
 use Rattle.tables.specs.ProgramSets.{hasProgram, withoutProgram, programsMeet}
 use Rattle.tables.specs.Tables.{packed, stops, holders, rowOf, inPlace, SetsOf, RowsOf, Chain, Reached, claimsAt}
 use Rattle.tables.proofs.Laws.{packed-bit, packed-has}
+use Rattle.tables.proofs.Gathered.{written-is, read-is}
+use Rattle.theory.specs.Used.{used-is}
+use Rattle.search.specs.declared.Uses.{Uses}
+use Rattle.search.specs.Gives.{usesOf}
 use Rattle.search.specs.Rows.{admits, admittedSet}
 use Rattle.search.proofs.Laws.{rows-at}
 
@@ -123,3 +128,13 @@ module _ (b : Board) (sets rows : List ℕ) (s : SetsOf b sets) (r : RowsOf b ro
               (no-back b p x is-program a o (chain-reaches x (e .chained x w)))
               (sym (claimed-is x (low x m) (high x m)) ∙ no-true (hasProgram claimed x) (λ v.
               never (share-of (before .bits) (claimed .bits) (x - 1) (has-bit 32 (before .bits) x w) (has-bit 32 (claimed .bits) x v)) t)))
+
+-- a file in conflicting use, by what is open
+pub used-by : (b : Board) (sets : List ℕ) (u : Uses) (p f : ℕ) → 1 ≤ p → p ≤ 32 → SetsOf b sets → u ≡ usesOf b sets → noConflict b ≡ true
+    → hasOpen (at b p) f ≡ false
+    → (member (u .written) f || (member (record { bits = getD sets (p - 1) 0 }) f && member (u .read) f)) ≡ inUse b p f
+used-by b sets u p f h k s e n o =
+    ap₂ (λ (x y : Bool). x || y) (ap (λ (z : Uses). member (z .written) f) e ∙ written-is b sets s f)
+    (ap₂ (λ (x y : Bool). x && y) (ap (λ (z : ℕ). hasNumber 64 z f) (s .1 (p - 1) (omega arith) .0))
+    (ap (λ (z : Uses). member (z .read) f) e ∙ read-is b sets s f))
+    ∙ sym (used-is b p f (is-number 32 p h k) n o)

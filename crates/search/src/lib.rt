@@ -13,6 +13,15 @@ ghost use Rattle.rules.specs.Boards.{admitted, awaited, setProgram};
 ghost use Rattle.rules.specs.Orders.{conflict, carried, withGiven, inUse, canGive};
 ghost use Rattle.search.specs.Rows.{admittedSet, free, lowest, orderFrom, placed, asOrder, SafeFor};
 
+pub mod gives;
+
+// The admitted programs, and the files that are open for writing and for reading.
+pub struct Uses {
+    pub admitted: ProgramSet,
+    pub written: FileSet,
+    pub read: FileSet,
+}
+
 // What a search comes back with: an order of so many programs, or none.
 pub enum Search {
     Found(usize),
@@ -52,7 +61,7 @@ pub fn put(b: Board, p: u8, q: Program) -> Board
 // ---- who is admitted
 
 // The set of the admitted programs.
-fn admitted_set(b: Board) -> ProgramSet
+pub fn admitted_set(b: Board) -> ProgramSet
     ensures { λ r. ⌜ r ≡ admittedSet b ⌝ }
 {
     let mut set = ProgramSet::EMPTY;
