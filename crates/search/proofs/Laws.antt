@@ -30,53 +30,6 @@ use Rattle.tables.specs.Tables.{packed, stops, holders, rowOf, RowsOf}
 use Rattle.tables.proofs.Laws.{packed-bit, packed-has}
 use Rattle.search.specs.Rows.{RowsAt, admits, admittedSet, free, lowest, orderFrom, placed, asOrder}
 
--- ---- the numbers from p to 32
-
-pub rising-step : (p : ℕ) → p ≤ 32 → rising (33 - p) p ≡ p ∷ rising (33 - suc p) (suc p)
-unfolding rising
-rising-step p h = let e : 33 - p ≡ suc (33 - suc p) = omega arith in rw e
-
-pub rising-end : (p : ℕ) → 32 < p → rising (33 - p) p ≡ []
-unfolding rising
-rising-end p h = let e : 33 - p ≡ 0 = omega arith in rw e
-
-module _ (t : ℕ → Bool) (p : ℕ) where
-  pub any-step : p ≤ 32 → any t (rising (33 - p) p) ≡ (t p || any t (rising (33 - suc p) (suc p)))
-  unfolding any
-  any-step h = ap (any t) (rising-step p h)
-
-  pub any-end : 32 < p → any t (rising (33 - p) p) ≡ false
-  unfolding any
-  any-end h = ap (any t) (rising-end p h)
-
-  pub all-step : p ≤ 32 → all t (rising (33 - p) p) ≡ (t p && all t (rising (33 - suc p) (suc p)))
-  unfolding all
-  all-step h = ap (all t) (rising-step p h)
-
-  pub all-end : 32 < p → all t (rising (33 - p) p) ≡ true
-  unfolding all
-  all-end h = ap (all t) (rising-end p h)
-
-  pub first-step : p ≤ 32 → first t (rising (33 - p) p) ≡ cond (t p) (some p) (first t (rising (33 - suc p) (suc p)))
-  unfolding first
-  first-step h = ap (first t) (rising-step p h)
-
-  pub first-end : 32 < p → first t (rising (33 - p) p) ≡ none
-  unfolding first
-  first-end h = ap (first t) (rising-end p h)
-
-  pub keep-more : p ≤ 32 → t p ≡ true → length (keep t (rising (33 - p) p)) ≡ suc (length (keep t (rising (33 - suc p) (suc p))))
-  unfolding keep
-  keep-more h e = rw (rising-step p h, e)
-
-  pub keep-less : p ≤ 32 → t p ≡ false → length (keep t (rising (33 - p) p)) ≡ length (keep t (rising (33 - suc p) (suc p)))
-  unfolding keep
-  keep-less h e = rw (rising-step p h, e)
-
-  pub keep-end : 32 < p → length (keep t (rising (33 - p) p)) ≡ 0
-  unfolding keep
-  keep-end h = rw (rising-end p h)
-
 -- ---- tests over a range of numbers
 
 pub any-of : (t : ℕ → Bool) (n k p : ℕ) → k ≤ p → p < k + n → t p ≡ true → any t (rising n k) ≡ true

@@ -65,3 +65,7 @@ asOrder none = record { kind = Search.Stuck; at = replicate 32 0 }
 abbrev pub SafeFor : List ℕ → List ℕ → ProgramSet → ℕ → ℕ → Bool → Type 0
 SafeFor sets rows a p f r = (b : Board) → SetsOf b sets → RowsOf b rows → a ≡ admittedSet b → admits b p ≡ true
     → found (carried b) ≡ true → r ≡ safe b p f
+
+-- the carried order of every board with these rows and admitted programs
+abbrev pub OrderFor : List ℕ → ProgramSet → Order → Type 0
+OrderFor rows left o = (b : Board) → RowsOf b rows → left ≡ admittedSet b → o ≡ asOrder (carried b)

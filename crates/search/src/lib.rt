@@ -11,7 +11,7 @@ ghost use lib.ListN.{length};
 ghost use Rattle.rules.specs.Lists.{found};
 ghost use Rattle.rules.specs.Boards.{admitted, awaited, setProgram};
 ghost use Rattle.rules.specs.Orders.{conflict, carried, withGiven, inUse, canGive};
-ghost use Rattle.search.specs.Rows.{admittedSet, free, lowest, orderFrom, placed, asOrder, SafeFor};
+ghost use Rattle.search.specs.Rows.{admittedSet, free, lowest, orderFrom, placed, asOrder, OrderFor, SafeFor};
 
 pub mod gives;
 
@@ -148,6 +148,15 @@ fn search_rest(rows: &[u32; 32], left: ProgramSet, n: usize, at: [u8; 32], k: us
     search_rest(rows, rest, n - 1, next, k + 1)
 }
 
+// The carried order of the programs left, by the rows of their board.
+pub fn order_in(rows: &[u32; 32], left: ProgramSet) -> Order
+    ensures { λ r. ⌜ OrderFor (now (rows .entry)) left r ⌝ }
+{
+    let n = left.count();
+    let none = [0u8; 32];
+    search_rest(rows, left, n as usize, none, 0)
+}
+
 // The carried order of the board's admitted programs.
 pub fn carried_order(b: Board) -> Order
     ensures { λ r. ⌜ r ≡ asOrder (carried b) ⌝ }
@@ -156,9 +165,7 @@ pub fn carried_order(b: Board) -> Order
     let mut rows = [0u32; 32];
     tables::fill(b, &mut sets, &mut rows);
     let left = admitted_set(b);
-    let n = admitted_count(b);
-    let none = [0u8; 32];
-    search_rest(&rows, left, n as usize, none, 0)
+    order_in(&rows, left)
 }
 
 // Whether an order comes back for the board.

@@ -2,7 +2,8 @@
 use mathlib.Core.Path.{_≡_, refl, sym, ap, ap₂, _∙_}
 use mathlib.Core.Logic.{_≢_}
 use mathlib.Core.Bool.{Bool, true, false, not, cond, _&&_, _||_}
-use mathlib.Core.List.{List, []}
+use mathlib.Core.List.{List, [], _∷_}
+use mathlib.Core.Option.{none, some}
 use Prim.Native.Nat.{ℕ, zero, suc, _+_, _-_, _≤_, _<_}
 use native.Mathlib.Numerals.{add-one}
 use native.Mathlib.Omega.{arith}
@@ -16,6 +17,7 @@ use Rattle.files.specs.Bits.{hasBit, isNumber, hasNumber}
 use Rattle.files.proofs.Bits.{or-has, and-has, zero-share, zero-has, with-only, is-number, least, most, has-number, has-bit, with-number-same, with-number-other}
 use Rattle.rules.specs.declared.Program.{Program}
 use Rattle.rules.specs.declared.Board.{Board}
+use Rattle.rules.specs.Lists.{rising, any, all, keep, first}
 use Rattle.rules.specs.Boards.{noProgram, at}
 use Rattle.tables.specs.declared.ProgramSet.{ProgramSet}
 use Rattle.tables.specs.ProgramSets.{noPrograms, hasProgram, unionOf, commonOf}
@@ -293,3 +295,50 @@ module _ (rows : List ℕ) (among : ProgramSet) where
       widen : (x : ℕ) → Chain rows among start x → Chain rows among set x
       widen x (Chain.first h k) = Chain.first (and-left (hasProgram set x) (hasProgram among x) (sym (common-has set among x) ∙ rw e at h)) k
       widen x (Chain.next {y = y} h k c) = Chain.next h k (widen y c)
+
+-- ---- the numbers from p to 32
+
+pub rising-step : (p : ℕ) → p ≤ 32 → rising (33 - p) p ≡ p ∷ rising (33 - suc p) (suc p)
+unfolding rising
+rising-step p h = let e : 33 - p ≡ suc (33 - suc p) = omega arith in rw e
+
+pub rising-end : (p : ℕ) → 32 < p → rising (33 - p) p ≡ []
+unfolding rising
+rising-end p h = let e : 33 - p ≡ 0 = omega arith in rw e
+
+module _ (t : ℕ → Bool) (p : ℕ) where
+  pub any-step : p ≤ 32 → any t (rising (33 - p) p) ≡ (t p || any t (rising (33 - suc p) (suc p)))
+  unfolding any
+  any-step h = ap (any t) (rising-step p h)
+
+  pub any-end : 32 < p → any t (rising (33 - p) p) ≡ false
+  unfolding any
+  any-end h = ap (any t) (rising-end p h)
+
+  pub all-step : p ≤ 32 → all t (rising (33 - p) p) ≡ (t p && all t (rising (33 - suc p) (suc p)))
+  unfolding all
+  all-step h = ap (all t) (rising-step p h)
+
+  pub all-end : 32 < p → all t (rising (33 - p) p) ≡ true
+  unfolding all
+  all-end h = ap (all t) (rising-end p h)
+
+  pub first-step : p ≤ 32 → first t (rising (33 - p) p) ≡ cond (t p) (some p) (first t (rising (33 - suc p) (suc p)))
+  unfolding first
+  first-step h = ap (first t) (rising-step p h)
+
+  pub first-end : 32 < p → first t (rising (33 - p) p) ≡ none
+  unfolding first
+  first-end h = ap (first t) (rising-end p h)
+
+  pub keep-more : p ≤ 32 → t p ≡ true → length (keep t (rising (33 - p) p)) ≡ suc (length (keep t (rising (33 - suc p) (suc p))))
+  unfolding keep
+  keep-more h e = rw (rising-step p h, e)
+
+  pub keep-less : p ≤ 32 → t p ≡ false → length (keep t (rising (33 - p) p)) ≡ length (keep t (rising (33 - suc p) (suc p)))
+  unfolding keep
+  keep-less h e = rw (rising-step p h, e)
+
+  pub keep-end : 32 < p → length (keep t (rising (33 - p) p)) ≡ 0
+  unfolding keep
+  keep-end h = rw (rising-end p h)

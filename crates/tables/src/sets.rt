@@ -1,6 +1,10 @@
 // Sets of programs, by value.
 use crate::ProgramSet;
 ghost use mathlib.Core.Path.{_≡_};
+ghost use Prim.Native.Nat.{_≤_};
+ghost use lib.ListN.{length};
+ghost use Rattle.rules.specs.Lists.{keep};
+ghost use Rattle.rules.specs.Boards.{everyone};
 ghost use Rattle.tables.specs.ProgramSets.{hasProgram, withProgram, withoutProgram, programsMeet, unionOf, commonOf};
 
 impl ProgramSet {
@@ -74,5 +78,20 @@ impl ProgramSet {
         ProgramSet {
             bits: self.bits & other.bits,
         }
+    }
+
+    // How many programs the set has.
+    pub fn count(self) -> u8
+        ensures { λ r. ⌜ (r ≡ length (keep (hasProgram self) everyone)) × (r ≤ 32) ⌝ }
+    {
+        let mut n: u8 = 0;
+        let mut p: u8 = 1;
+        while p <= 32 {
+            if self.has(p) {
+                n += 1;
+            }
+            p += 1;
+        }
+        n
     }
 }

@@ -8,7 +8,7 @@ use borrow.Author.Needs.{needs}
 use Rattle.rules.specs.Lists.{first, rising}
 use Rattle.rules.specs.Boards.{everyone, at}
 use Rattle.search.specs.Rows.{free, lowest}
-use Rattle.search.proofs.Laws.{first-step, first-end}
+use Rattle.tables.proofs.Laws.{first-step, first-end}
 use Rattle.search.proofs.lowest_free.Statement.{statement}
 use Rattle.search.proofs.lowest_free.Tie as tie
 

@@ -7,7 +7,7 @@ use borrow.Author.Tests.{not-true, not-false}
 use borrow.Author.Needs.{needs}
 use Rattle.rules.specs.Lists.{all, rising}
 use Rattle.rules.specs.Boards.{everyone, at}
-use Rattle.search.proofs.Laws.{all-step, all-end}
+use Rattle.tables.proofs.Laws.{all-step, all-end}
 use Rattle.sound.specs.Parts.{apart, apartAll}
 use Rattle.sound.proofs.apart_from_all.Statement.{statement}
 use Rattle.sound.proofs.apart_from_all.Tie as tie

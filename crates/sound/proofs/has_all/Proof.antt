@@ -8,7 +8,7 @@ use borrow.Author.Needs.{needs}
 use Rattle.rules.specs.Lists.{all, rising}
 use Rattle.rules.specs.Boards.{everyone, at}
 use Rattle.rules.specs.Settling.{line}
-use Rattle.search.proofs.Laws.{all-step, all-end}
+use Rattle.tables.proofs.Laws.{all-step, all-end}
 use Rattle.sound.specs.Parts.{inLine}
 use Rattle.sound.proofs.has_all.Statement.{statement}
 use Rattle.sound.proofs.has_all.Tie as tie

@@ -6,7 +6,7 @@ use native.Mathlib.Omega.{arith}
 use borrow.Author.Needs.{needs}
 use Rattle.rules.specs.Lists.{any, rising}
 use Rattle.rules.specs.Boards.{everyone, at}
-use Rattle.search.proofs.Laws.{any-step, any-end}
+use Rattle.tables.proofs.Laws.{any-step, any-end}
 use Rattle.sound.specs.Parts.{heldAt}
 use Rattle.sound.proofs.is_any_held.Statement.{statement}
 use Rattle.sound.proofs.is_any_held.Tie as tie
