@@ -9,7 +9,7 @@ use native.Mathlib.Numerals.{add-one}
 use native.Mathlib.Omega.{arith}
 use lib.Bits.{bitAnd, bitOr, or-add-and, and-le-l, and-comm}
 use lib.Dec.{eqb}
-use lib.ListN.{length, getD, set, replicate, length-set, getD-replicate}
+use lib.ListN.{length, getD, set, length-set}
 use lib.Seq.{getD-set-same, getD-set-other}
 use borrow.Author.Tests.{eq-eqb, ne-eqb, eqb-true, eqb-false}
 use Rattle.files.proofs.Tests.{by-test, never, no-true, or-cases, or-left, or-right, and-left, and-right, and-both, and-false}
@@ -21,7 +21,7 @@ use Rattle.rules.specs.Lists.{rising, any, all, keep, first}
 use Rattle.rules.specs.Boards.{noProgram, at}
 use Rattle.tables.specs.declared.ProgramSet.{ProgramSet}
 use Rattle.tables.specs.ProgramSets.{noPrograms, hasProgram, unionOf, commonOf}
-use Rattle.tables.specs.Tables.{inPlace, SetsTo, SetsOf, RowsUpTo, joined, packed, stops, holdsBits, HolderAdded, rowOf, holdersOf, Chain, Reached}
+use Rattle.tables.specs.Tables.{inPlace, SetsTo, SetsOf, RowsUpTo, joined, packed, stops, holdsBits, HolderAdded, rowOf, holdersOf, Chain, Reached, Cleared}
 
 -- ---- the sets, one program after another
 
@@ -149,9 +149,18 @@ module _ (b : Board) (sets : List ℕ) (s : SetsOf b sets) (i : ℕ) (h : i < 32
   rows-more before after f (n, g) j k = rw (add-one i) (g j k
       ∙ ap₂ (λ (x : ProgramSet) (y : Bool). joined x (suc i) y) (f j k) (sym (stops-is b sets i j h k s)))
 
-pub rows-none : (b : Board) (rows : List ℕ) → rows ≡ replicate 32 0 → RowsUpTo b 0 rows
+pub rows-none : (b : Board) (rows : List ℕ) → Cleared rows → RowsUpTo b 0 rows
 unfolding packed
-rows-none b rows e j k = rw e (ap {B = ProgramSet} (λ x. record { bits = x }) (getD-replicate 32 j 0 0 k))
+rows-none b rows c j k = ap {B = ProgramSet} (λ x. record { bits = x }) (c .1 j k)
+
+-- the first n places are cleared
+abbrev pub ClearedTo : ℕ → List ℕ → Type 0
+ClearedTo n rows = (length rows ≡ 32) × ((i : ℕ) → i < n → getD rows i 0 ≡ 0)
+
+pub cleared-more : (n : ℕ) (rows : List ℕ) → n < 32 → ClearedTo n rows → ClearedTo (n + 1) (set rows n 0)
+cleared-more n rows h (k, f) = (length-set rows n 0 ∙ k, λ i m. by-test (eqb i n)
+    (λ t. let z : i ≡ n = eqb-true i n t in rw z (getD-set-same rows n 0 0 (omega arith)))
+    (λ t. let z : i ≢ n = eqb-false i n t in getD-set-other rows n i 0 0 z ∙ f i (omega arith)))
 
 -- ---- sets of the numbers that pass a test
 

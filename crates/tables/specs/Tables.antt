@@ -105,3 +105,7 @@ pub record Reached (rows : List ℕ) (among start r : ProgramSet) : Type 0 where
 -- the program at place p - 1 may write f or, if both count, read it
 abbrev pub claimsAt : List ℕ → ℕ → Bool → ℕ → Bool
 claimsAt sets f both p = member (record { bits = getD sets (p - 1) 0 }) f || (both && member (record { bits = getD sets (32 + (p - 1)) 0 }) f)
+
+-- 32 places that hold nobody
+abbrev pub Cleared : List ℕ → Type 0
+Cleared rows = (length rows ≡ 32) × ((i : ℕ) → i < 32 → getD rows i 0 ≡ 0)

@@ -6,9 +6,9 @@ use rules::Board;
 ghost use mathlib.Core.Path.{_≡_};
 ghost use mathlib.Core.Bool.{_||_};
 ghost use Prim.Native.Nat.{_+_, _<_, _≤_};
-ghost use lib.ListN.{length, replicate};
+ghost use lib.ListN.{length};
 ghost use Rattle.files.specs.Bits.{share};
-ghost use Rattle.tables.specs.Tables.{openedFrom, joined, SetsOf, RowsOf, RowsFor, HolderAdded};
+ghost use Rattle.tables.specs.Tables.{openedFrom, joined, SetsOf, RowsOf, RowsFor, HolderAdded, Cleared};
 
 pub mod reach;
 mod sets;
@@ -89,7 +89,7 @@ fn add_holder(sets: &[u64; 128], i: usize, rows: &mut [u32; 32])
 
 // The rows of those that the first 32 programs hold back.
 fn add_holders(sets: &[u64; 128], rows: &mut [u32; 32])
-    requires { ⌜ now rows ≡ replicate 32 0 ⌝ }
+    requires { ⌜ Cleared (now rows) ⌝ }
     ensures { λ _. ⌜ RowsFor (now (sets .entry)) (now (rows .exit)) ⌝ }
 {
     let mut i: usize = 0;
@@ -99,11 +99,24 @@ fn add_holders(sets: &[u64; 128], rows: &mut [u32; 32])
     }
 }
 
+// Nobody is held back.
+fn clear(rows: &mut [u32; 32])
+    requires { ⌜ length (now rows) ≡ 32 ⌝ }
+    ensures { λ _. ⌜ Cleared (now (rows .exit)) ⌝ }
+{
+    let mut i: usize = 0;
+    while i < 32 {
+        rows[i] = 0;
+        i += 1;
+    }
+}
+
 // The sets of the board's programs, and who holds back whom.
 pub fn fill(b: Board, sets: &mut [u64; 128], rows: &mut [u32; 32])
-    requires { ⌜ (length (now sets) ≡ 128) × (now rows ≡ replicate 32 0) ⌝ }
+    requires { ⌜ (length (now sets) ≡ 128) × (length (now rows) ≡ 32) ⌝ }
     ensures { λ _. ⌜ SetsOf b (now (sets .exit)) × RowsOf b (now (rows .exit)) ⌝ }
 {
     take_sets(b, sets);
+    clear(rows);
     add_holders(sets, rows);
 }

@@ -25,7 +25,7 @@ use Rattle.theory.specs.Lists.{once-distinct, same-eq, eq-same}
 use Rattle.theory.specs.Order.{IsOrder}
 use Rattle.theory.specs.Programs.{Is, is-of, of-is, mem-everyone, everyone-is, Sized, canGive-is, admitted-is, Own}
 use Rattle.theory.specs.Carried.{holdsOn, CompletionOrder, order-of, of-order}
-use Rattle.theory.specs.Loose.{OnLine, Asked, Good, waiting-file}
+use Rattle.theory.specs.Loose.{Loose, waiting-in, OnLine, Asked, Good, waiting-file}
 use Rattle.theory.specs.Calls.{apply-stepped}
 
 -- "W is within V, R within Q, V and Q share nothing"
@@ -389,6 +389,18 @@ sound-good b z s = record {
       idle = λ e. idle-of (at b p) (at b p .standing) refl e (λ u. let (_, _, x, y) = s .absent-empty p i u in (x, y)) (s .held-closed p i);
       gone = λ u. let (x, y, _, _) = s .absent-empty p i u in (x, y);
     }
+
+-- What a board has between two steps of settling: no conflict, an order, and each waiter is admitted and has not opened its file.
+pub loose-apart : (b : Board) → Loose b → noConflict b ≡ true
+loose-apart b k = of-conflict b (k .base .apart)
+
+pub loose-order : (b : Board) → Loose b → found (carried b) ≡ true
+loose-order b k = let (o, c) = k .base .order in of-order b o (subst (λ l. IsOrder (holdsOn b) l o) (sym (admitted-is b)) c)
+
+pub loose-waiter : (b : Board) (p : ℕ) → Loose b → Is p → isWaiting (at b p .standing) ≡ true
+    → (isAdmitted (at b p .standing) ≡ true) × (hasOpen (at b p) (awaited b p) ≡ false)
+loose-waiter b p k i w = let (f, d) = waiting-file (at b p .standing) w in
+    (waiting-in (at b p .standing) w, ap (λ s. hasOpen (at b p) (awaitedOf s)) d ∙ k .asked p f i d .shut)
 
 -- Every call, accepted or refused, keeps a board sound, and with 32 programs.
 pub sound-kept : (b : Board) (c : Call) → Sized (b .programs) → sound b ≡ true

@@ -21,7 +21,7 @@ abbrev μ-loop : tie.MeasureT-loop
 
 -- src/lib.rt:80:5
 loop-holds : tie.Need-loop-holds Inv-loop μ-loop
-loop-holds c = (search needs, search needs, λ b s. rows-none b (c .args .rows .now) (search needs))
+loop-holds c = (search needs, c .pre .0, λ b s. rows-none b (c .args .rows .now) (c .pre))
 
 -- src/lib.rt:81:9
 add-holder-requires : tie.Need-add-holder-requires Inv-loop μ-loop
