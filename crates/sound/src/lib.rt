@@ -5,14 +5,12 @@ use rules::Standing;
 ghost use mathlib.Core.Path.{_≡_};
 ghost use mathlib.Core.Bool.{true, _&&_, _||_, not};
 ghost use Prim.Native.Nat.{_≤_};
-ghost use lib.Dec.{eqb};
 ghost use Rattle.files.specs.Sets.{isEmpty};
 ghost use Rattle.rules.specs.Lists.{any, all, names, listed};
 ghost use Rattle.rules.specs.Boards.{everyone, isProgram};
-ghost use Rattle.rules.specs.Orders.{conflict};
-ghost use Rattle.rules.specs.Soundness.{setsSound, standingSound, programSound, noConflict, lineSound, waiterSound, noneFavoured};
+ghost use Rattle.rules.specs.Soundness.{setsSound, standingSound, programSound, lineSound, waiterSound, noneFavoured};
 ghost use Rattle.rules.specs.Soundness.{someFavoured, sound};
-ghost use Rattle.sound.specs.Parts.{stands, standsAt, rightName, inLine, isSoundAt, apart, apartAll, waiterAt, heldAt};
+ghost use Rattle.sound.specs.Parts.{stands, standsAt, rightName, inLine, isSoundAt, ConflictFree, waiterAt, heldAt};
 
 // W is within V, R within Q, V and Q share nothing.
 fn sets_sound(q: Program) -> bool
@@ -99,47 +97,23 @@ fn programs_sound(b: Board) -> bool
     true
 }
 
-// Whether q and r, which are programs i and j, are one, or do not conflict.
-fn are_apart(i: u8, q: Program, j: u8, r: Program) -> bool
-    ensures { λ r2. ⌜ r2 ≡ eqb i j || not (conflict q r) ⌝ }
+// No two different programs conflict: no file is written by two, and none is written and read.
+fn no_conflict(sets: &[u64; 128]) -> bool
+    ensures { λ r. ⌜ ConflictFree (now (sets .entry)) r ⌝ }
 {
-    if i == j {
-        return true;
-    }
-    !q.conflicts(r)
-}
-
-// Whether program i conflicts with no other.
-fn apart_from_all(b: Board, i: u8) -> bool
-    requires { ⌜ (1 ≤ i) × (i ≤ 32) ⌝ }
-    ensures { λ r. ⌜ r ≡ apartAll b i ⌝ }
-{
-    let k = (i - 1) as usize;
-    let me = b.programs[k];
-    let mut j: u8 = 1;
-    while j <= 32 {
-        let n = (j - 1) as usize;
-        let other = b.programs[n];
-        if !are_apart(i, me, j, other) {
+    let mut written: u64 = 0;
+    let mut read: u64 = 0;
+    let mut i: usize = 0;
+    while i < 32 {
+        let w = sets[64 + i];
+        if w & written != 0 {
             return false;
         }
-        j += 1;
-    }
-    true
-}
-
-// No two different programs conflict.
-fn no_conflict(b: Board) -> bool
-    ensures { λ r. ⌜ r ≡ noConflict b ⌝ }
-{
-    let mut i: u8 = 1;
-    while i <= 32 {
-        if !apart_from_all(b, i) {
-            return false;
-        }
+        written = written | w;
+        read = read | sets[96 + i];
         i += 1;
     }
-    true
+    written & read == 0
 }
 
 // Whether the standing is held, or else waiting.
@@ -317,10 +291,13 @@ fn some_favoured(b: Board) -> bool
 pub fn is_sound(b: Board) -> bool
     ensures { λ r. ⌜ r ≡ sound b ⌝ }
 {
+    let mut sets = [0u64; 128];
+    let mut rows = [0u32; 32];
+    tables::fill(b, &mut sets, &mut rows);
     if !programs_sound(b) {
         return false;
     }
-    if !no_conflict(b) {
+    if !no_conflict(&sets) {
         return false;
     }
     if !search::has_order(b) {
