@@ -1,5 +1,5 @@
 -- `is_sound` meets its contract. Assumes nothing.
-use mathlib.Core.Path.{_≡_, sym, _∙_}
+use mathlib.Core.Path.{_≡_, sym, ap, _∙_}
 use mathlib.Core.Bool.{Bool, true, false, _&&_}
 use borrow.Author.Tests.{not-true, not-false, eq-eqb, ne-eqb}
 use borrow.Author.Needs.{needs}
@@ -9,8 +9,11 @@ use Rattle.rules.specs.Lists.{all, names, found}
 use Rattle.rules.specs.Boards.{everyone}
 use Rattle.rules.specs.Orders.{carried}
 use Rattle.rules.specs.Soundness.{noConflict, lineSound, sound}
+use Rattle.tables.specs.declared.ProgramSet.{ProgramSet}
+use Rattle.tables.specs.ProgramSets.{hasProgram}
 use Rattle.sound.specs.Parts.{isSoundAt, standsAt, waiterAt}
 use Rattle.sound.proofs.Laws.{line-programs}
+use Rattle.sound.proofs.Taken.{line-packed}
 use Rattle.sound.proofs.is_sound.Statement.{statement}
 use Rattle.sound.proofs.is_sound.Tie as tie
 
@@ -41,10 +44,10 @@ abbrev b3 : tie.Else3 → Board
 b3 c = b2 (c .before .before)
 
 abbrev b4 : tie.Else4 → Board
-b4 c = b3 (c .before .before .before)
+b4 c = b3 (c .before .before .before .before)
 
 abbrev b5 : tie.Else5 → Board
-b5 c = b4 (c .before .before .before)
+b5 c = b4 (c .before .before .before .before)
 
 abbrev b6 : tie.Else6 → Board
 b6 c = b5 (c .before .before)
@@ -63,13 +66,25 @@ past3 : (c : tie.Else3) → first3 (b3 c) ≡ true
 past3 c = and-both (first2 (b3 c)) (found (carried (b3 c))) (past2 (c .before .before))
     (sym (c .before .has-order .ensures) ∙ not-false (c .before .has-order .result) (c .if3 .left))
 
+waiting-line : (c : tie.After-line-sound) → let b = b3 (c .before .before .before) in
+    c .line-sound .result ≡ lineSound (b .waiting) (standsAt b false)
+waiting-line c = let b = b3 (c .before .before .before) in c .line-sound .ensures
+    ∙ ap (λ (s : ProgramSet). lineSound (b .waiting) (hasProgram s)) (c .before .standing-set .ensures)
+    ∙ line-packed (b .waiting) (standsAt b false)
+
 past4 : (c : tie.Else4) → first4 (b4 c) ≡ true
-past4 c = and-both (first3 (b4 c)) (lineSound (b4 c .waiting) (standsAt (b4 c) false)) (past3 (c .before .before .before))
-    (sym (c .before .line-sound .ensures) ∙ not-false (c .before .line-sound .result) (c .if4 .left))
+past4 c = and-both (first3 (b4 c)) (lineSound (b4 c .waiting) (standsAt (b4 c) false)) (past3 (c .before .before .before .before))
+    (sym (waiting-line (c .before)) ∙ not-false (c .before .line-sound .result) (c .if4 .left))
+
+entry-line : (c : tie.After-line-sound2) → let b = b4 (c .before .before .before) in
+    c .line-sound2 .result ≡ lineSound (b .entry) (standsAt b true)
+entry-line c = let b = b4 (c .before .before .before) in c .line-sound2 .ensures
+    ∙ ap (λ (s : ProgramSet). lineSound (b .entry) (hasProgram s)) (c .before .standing-set2 .ensures)
+    ∙ line-packed (b .entry) (standsAt b true)
 
 past5 : (c : tie.Else5) → first5 (b5 c) ≡ true
-past5 c = and-both (first4 (b5 c)) (lineSound (b5 c .entry) (standsAt (b5 c) true)) (past4 (c .before .before .before))
-    (sym (c .before .line-sound2 .ensures) ∙ not-false (c .before .line-sound2 .result) (c .if5 .left))
+past5 c = and-both (first4 (b5 c)) (lineSound (b5 c .entry) (standsAt (b5 c) true)) (past4 (c .before .before .before .before))
+    (sym (entry-line (c .before)) ∙ not-false (c .before .line-sound2 .result) (c .if5 .left))
 
 past6 : (c : tie.Else6) → first6 (b6 c) ≡ true
 past6 c = and-both (first5 (b6 c)) (all (waiterAt (b6 c)) (names (b6 c .waiting))) (past5 (c .before .before))
@@ -98,21 +113,21 @@ returns-3 c = rw (
 returns-4 : tie.Need-returns-4
 unfolding sound
 returns-4 c = rw (
-  past3 (c .before .before .before),
-  sym (c .before .line-sound .ensures) ∙ not-true (c .before .line-sound .result) (c .if4 .taken),
+  past3 (c .before .before .before .before),
+  sym (waiting-line (c .before)) ∙ not-true (c .before .line-sound .result) (c .if4 .taken),
 )
 
 returns-5 : tie.Need-returns-5
 unfolding sound
 returns-5 c = rw (
-  past4 (c .before .before .before),
-  sym (c .before .line-sound2 .ensures) ∙ not-true (c .before .line-sound2 .result) (c .if5 .taken),
+  past4 (c .before .before .before .before),
+  sym (entry-line (c .before)) ∙ not-true (c .before .line-sound2 .result) (c .if5 .taken),
 )
 
 waiters-sound-requires : tie.Need-waiters-sound-requires
-waiters-sound-requires c κs = let l = c .before .before .before in
+waiters-sound-requires c κs = let l = c .before .before .before .before in
     line-programs (b5 c .waiting) (standsAt (b5 c) false)
-    (sym (l .before .line-sound .ensures) ∙ not-false (l .before .line-sound .result) (l .if4 .left))
+    (sym (waiting-line (l .before)) ∙ not-false (l .before .line-sound .result) (l .if4 .left))
 
 returns-6 : tie.Need-returns-6
 unfolding sound
@@ -124,6 +139,9 @@ returns-6 c = rw (
 returns-7 : tie.Need-returns-7
 unfolding sound
 returns-7 c = let e = c .before .before .before in rw (past6 e, eq-eqb (b6 e .favoured) 0 (c .before .if7 .taken)) (c .none-favoured .ensures)
+
+some-favoured-requires : tie.Need-some-favoured-requires
+some-favoured-requires c κs = let l = c .before .before .before .before .before .before .before .before in l .before .before .standing-set .ensures
 
 returns-8 : tie.Need-returns-8
 unfolding sound
@@ -141,12 +159,14 @@ is-sound-spec =
     (λ c κs. search needs)
     returns-3
     (λ c κs. search needs)
+    (λ c κs. search needs)
     returns-4
+    (λ c κs. search needs)
     (λ c κs. search needs)
     returns-5
     waiters-sound-requires
     returns-6
     (λ c κs. search needs)
     returns-7
-    (λ c κs. search needs)
+    some-favoured-requires
     returns-8)
