@@ -27,10 +27,6 @@ four-last true true u v e = refl
 four-last true false u v e = never e refl
 four-last false t u v e = never e refl
 
-pub and-false : (s t : Bool) → (s && false && t) ≡ false
-and-false true t = refl
-and-false false t = refl
-
 -- the names of a sound line are programs
 pub line-programs : (l : List ℕ) (t : ℕ → Bool) → lineSound l t ≡ true → all isProgram (names l) ≡ true
 unfolding lineSound

@@ -2,17 +2,17 @@
 use rules::Board;
 use rules::Program;
 use rules::Standing;
+use tables::ProgramSet;
 ghost use mathlib.Core.Path.{_≡_};
-ghost use mathlib.Core.Bool.{true, _&&_, _||_, not};
+ghost use mathlib.Core.Bool.{true, false, _&&_};
 ghost use Prim.Native.Nat.{_≤_};
-ghost use lib.Dec.{eqb};
 ghost use Rattle.files.specs.Sets.{isEmpty};
-ghost use Rattle.rules.specs.Lists.{any, all, names, listed};
+ghost use Rattle.rules.specs.Lists.{any, all, names};
 ghost use Rattle.rules.specs.Boards.{everyone, isProgram};
-ghost use Rattle.rules.specs.Orders.{conflict};
-ghost use Rattle.rules.specs.Soundness.{setsSound, standingSound, programSound, noConflict, lineSound, waiterSound, noneFavoured};
+ghost use Rattle.rules.specs.Soundness.{setsSound, standingSound, programSound, lineSound, waiterSound, noneFavoured};
 ghost use Rattle.rules.specs.Soundness.{someFavoured, sound};
-ghost use Rattle.sound.specs.Parts.{stands, standsAt, rightName, inLine, isSoundAt, apart, apartAll, waiterAt, heldAt};
+ghost use Rattle.tables.specs.ProgramSets.{hasProgram};
+ghost use Rattle.sound.specs.Parts.{stands, standSet, takes, isSoundAt, ConflictFree, waiterAt, heldAt};
 
 // W is within V, R within Q, V and Q share nothing.
 fn sets_sound(q: Program) -> bool
@@ -99,47 +99,23 @@ fn programs_sound(b: Board) -> bool
     true
 }
 
-// Whether q and r, which are programs i and j, are one, or do not conflict.
-fn are_apart(i: u8, q: Program, j: u8, r: Program) -> bool
-    ensures { λ r2. ⌜ r2 ≡ eqb i j || not (conflict q r) ⌝ }
+// No two different programs conflict: no file is written by two, and none is written and read.
+fn no_conflict(sets: &[u64; 128]) -> bool
+    ensures { λ r. ⌜ ConflictFree (now (sets .entry)) r ⌝ }
 {
-    if i == j {
-        return true;
-    }
-    !q.conflicts(r)
-}
-
-// Whether program i conflicts with no other.
-fn apart_from_all(b: Board, i: u8) -> bool
-    requires { ⌜ (1 ≤ i) × (i ≤ 32) ⌝ }
-    ensures { λ r. ⌜ r ≡ apartAll b i ⌝ }
-{
-    let k = (i - 1) as usize;
-    let me = b.programs[k];
-    let mut j: u8 = 1;
-    while j <= 32 {
-        let n = (j - 1) as usize;
-        let other = b.programs[n];
-        if !are_apart(i, me, j, other) {
+    let mut written: u64 = 0;
+    let mut read: u64 = 0;
+    let mut i: usize = 0;
+    while i < 32 {
+        let w = sets[64 + i];
+        if w & written != 0 {
             return false;
         }
-        j += 1;
-    }
-    true
-}
-
-// No two different programs conflict.
-fn no_conflict(b: Board) -> bool
-    ensures { λ r. ⌜ r ≡ noConflict b ⌝ }
-{
-    let mut i: u8 = 1;
-    while i <= 32 {
-        if !apart_from_all(b, i) {
-            return false;
-        }
+        written = written | w;
+        read = read | sets[96 + i];
         i += 1;
     }
-    true
+    written & read == 0
 }
 
 // Whether the standing is held, or else waiting.
@@ -152,78 +128,48 @@ fn does_stand(held: bool, s: Standing) -> bool
     s.is_waiting()
 }
 
-// Whether p is a program that stands so.
-fn is_right_name(b: Board, held: bool, p: u8) -> bool
-    ensures { λ r. ⌜ r ≡ rightName b held p ⌝ }
+// The programs that are held, or else waiting.
+fn standing_set(b: Board, held: bool) -> ProgramSet
+    ensures { λ r. ⌜ r ≡ standSet b held ⌝ }
 {
-    if p == 0 {
-        return false;
-    }
-    if 32 < p {
-        return false;
-    }
-    let i = (p - 1) as usize;
-    let q = b.programs[i];
-    let s = q.standing;
-    does_stand(held, s)
-}
-
-// Whether all names of the line are programs that stand so.
-fn names_right(b: Board, line: [u8; 32], held: bool) -> bool
-    ensures { λ r. ⌜ r ≡ all (rightName b held) (names line) ⌝ }
-{
-    let mut k: usize = 0;
-    while k < 32 {
-        let p = line[k];
-        if p == 0 {
-            return true;
-        }
-        if !is_right_name(b, held, p) {
-            return false;
-        }
-        k += 1;
-    }
-    true
-}
-
-// Whether q, which is program p, is in the line if it stands so.
-fn is_in_line(q: Program, line: [u8; 32], held: bool, p: u8) -> bool
-    ensures { λ r. ⌜ r ≡ not (stands held (q .standing)) || listed p (names line) ⌝ }
-{
-    let s = q.standing;
-    if !does_stand(held, s) {
-        return true;
-    }
-    lines::is_listed(p, line, 0)
-}
-
-// Whether all programs that stand so are in the line.
-fn has_all(b: Board, line: [u8; 32], held: bool) -> bool
-    ensures { λ r. ⌜ r ≡ all (inLine b line held) everyone ⌝ }
-{
+    let mut set = ProgramSet::EMPTY;
     let mut p: u8 = 1;
     while p <= 32 {
         let i = (p - 1) as usize;
         let q = b.programs[i];
-        if !is_in_line(q, line, held, p) {
-            return false;
-        }
+        let s = q.standing;
+        let yes = does_stand(held, s);
+        set = tables::join(set, p, yes);
         p += 1;
     }
-    true
+    set
 }
 
-// The line names each program that stands so once, and nobody else, and is then 0.
-fn line_sound(b: Board, line: [u8; 32], held: bool) -> bool
-    ensures { λ r. ⌜ r ≡ lineSound line (standsAt b held) ⌝ }
+// Whether the names of the line take all programs out of the set, each once.
+fn takes_all(line: [u8; 32], set: ProgramSet) -> bool
+    ensures { λ r. ⌜ r ≡ takes (names line) set ⌝ }
 {
-    if !names_right(b, line, held) {
-        return false;
+    let mut left = set;
+    let mut k: usize = 0;
+    while k < 32 {
+        let p = line[k];
+        if p == 0 {
+            return left.bits == 0;
+        }
+        if !left.has(p) {
+            return false;
+        }
+        left = left.without(p);
+        k += 1;
     }
-    if !has_all(b, line, held) {
-        return false;
-    }
-    if !lines::is_distinct(line) {
+    left.bits == 0
+}
+
+// The line names each program of the set once, and nobody else, and is then 0.
+fn line_sound(line: [u8; 32], set: ProgramSet) -> bool
+    ensures { λ r. ⌜ r ≡ lineSound line (hasProgram set) ⌝ }
+{
+    if !takes_all(line, set) {
         return false;
     }
     lines::is_zero_after(line)
@@ -297,11 +243,11 @@ fn none_favoured(b: Board) -> bool
 }
 
 // The favoured program is waiting; leaves plus admitted equal the number at favouring, which is at most 32.
-fn some_favoured(b: Board) -> bool
+fn some_favoured(b: Board, waiters: ProgramSet) -> bool
+    requires { ⌜ waiters ≡ standSet b false ⌝ }
     ensures { λ r. ⌜ r ≡ someFavoured b ⌝ }
 {
-    let p = b.favoured;
-    if !is_right_name(b, false, p) {
+    if !waiters.has(b.favoured) {
         return false;
     }
     let n = search::admitted_count(b) as u16;
@@ -317,21 +263,26 @@ fn some_favoured(b: Board) -> bool
 pub fn is_sound(b: Board) -> bool
     ensures { λ r. ⌜ r ≡ sound b ⌝ }
 {
+    let mut sets = [0u64; 128];
+    let mut rows = [0u32; 32];
+    tables::fill(b, &mut sets, &mut rows);
     if !programs_sound(b) {
         return false;
     }
-    if !no_conflict(b) {
+    if !no_conflict(&sets) {
         return false;
     }
     if !search::has_order(b) {
         return false;
     }
     let waiting = b.waiting;
-    if !line_sound(b, waiting, false) {
+    let waiters = standing_set(b, false);
+    if !line_sound(waiting, waiters) {
         return false;
     }
     let entry = b.entry;
-    if !line_sound(b, entry, true) {
+    let held = standing_set(b, true);
+    if !line_sound(entry, held) {
         return false;
     }
     if !waiters_sound(b, waiting) {
@@ -340,5 +291,5 @@ pub fn is_sound(b: Board) -> bool
     if b.favoured == 0 {
         return none_favoured(b);
     }
-    some_favoured(b)
+    some_favoured(b, waiters)
 }
