@@ -28,7 +28,7 @@ use Rattle.search.specs.declared.Order.{Order}
 use Rattle.tables.specs.ProgramSets.{noPrograms, hasProgram, withProgram, withoutProgram, programsMeet}
 use Rattle.tables.specs.Tables.{packed, stops, holders, rowOf, RowsOf}
 use Rattle.tables.proofs.Laws.{packed-bit, packed-has}
-use Rattle.search.specs.Rows.{RowsAt, admits, admittedSet, free, lowest, orderFrom, placed, asOrder}
+use Rattle.search.specs.Rows.{isFound, RowsAt, admits, admittedSet, free, lowest, orderFrom, placed, asOrder}
 
 -- ---- tests over a range of numbers
 
@@ -228,10 +228,6 @@ unfolding holders
 rows-at b rows f p h k = let z : suc (p - 1) ≡ p = omega arith in f .1 (p - 1) (omega arith) ∙ ap (λ (x : ℕ). packed (stops b x) 32) z
 
 -- ---- whether an order was found
-
-abbrev pub isFound : Search → Bool
-isFound (Search.Found n) = true
-isFound Search.Stuck = false
 
 pub has-found : (o : Option (List ℕ)) → isFound (asOrder o .kind) ≡ found o
 has-found none = refl

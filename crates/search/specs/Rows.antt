@@ -59,6 +59,11 @@ abbrev pub asOrder : Option (List ℕ) → Order
 asOrder (some l) = record { kind = Search.Found (length l); at = padded 0 l }
 asOrder none = record { kind = Search.Stuck; at = replicate 32 0 }
 
+-- an order was found
+abbrev pub isFound : Search → Bool
+isFound (Search.Found n) = true
+isFound Search.Stuck = false
+
 -- ---- giving a file
 
 -- on every board with these sets, rows and admitted programs that has an order: the test says whether an order comes back with f given to p

@@ -8,10 +8,9 @@ ghost use mathlib.Core.Bool.{_&&_, not};
 ghost use Prim.Native.Nat.{_+_, _≤_};
 ghost use lib.Dec.{eqb};
 ghost use lib.ListN.{length};
-ghost use Rattle.rules.specs.Lists.{found};
 ghost use Rattle.rules.specs.Boards.{admitted, awaited, setProgram};
-ghost use Rattle.rules.specs.Orders.{conflict, carried, withGiven, inUse, canGive};
-ghost use Rattle.search.specs.Rows.{admittedSet, free, lowest, orderFrom, placed, asOrder, OrderFor, SafeFor};
+ghost use Rattle.rules.specs.Orders.{conflict, carried, withGiven, inUse};
+ghost use Rattle.search.specs.Rows.{admittedSet, free, lowest, orderFrom, placed, asOrder, isFound, OrderFor, SafeFor};
 
 pub mod gives;
 
@@ -168,11 +167,10 @@ pub fn carried_order(b: Board) -> Order
     order_in(&rows, left)
 }
 
-// Whether an order comes back for the board.
-pub fn has_order(b: Board) -> bool
-    ensures { λ r. ⌜ r ≡ found (carried b) ⌝ }
+// Whether an order was found.
+pub fn is_found(order: Order) -> bool
+    ensures { λ r. ⌜ r ≡ isFound (order .kind) ⌝ }
 {
-    let order = carried_order(b);
     let kind = order.kind;
     let Search::Found(_) = kind else {
         return false;
@@ -235,15 +233,4 @@ pub fn with_given(b: Board, p: u8, f: u8) -> Board
     let k = (p - 1) as usize;
     let q = b.programs[k];
     put(b, p, q.opening(f))
-}
-
-// Whether an open would give f to p.
-pub fn can_give(b: Board, p: u8, f: u8) -> bool
-    requires { ⌜ (1 ≤ p) × (p ≤ 32) ⌝ }
-    ensures { λ r. ⌜ r ≡ canGive b p f ⌝ }
-{
-    if in_use(b, p, f) {
-        return false;
-    }
-    has_order(with_given(b, p, f))
 }

@@ -2,6 +2,8 @@
 use rules::Board;
 use rules::Program;
 use rules::Standing;
+use search::Order;
+use search::Uses;
 use tables::ProgramSet;
 ghost use mathlib.Core.Path.{_≡_};
 ghost use mathlib.Core.Bool.{true, false, _&&_};
@@ -13,6 +15,12 @@ ghost use Rattle.rules.specs.Soundness.{setsSound, standingSound, programSound,
 ghost use Rattle.rules.specs.Soundness.{someFavoured, sound};
 ghost use Rattle.tables.specs.ProgramSets.{hasProgram};
 ghost use Rattle.sound.specs.Parts.{stands, standSet, takes, isSoundAt, ConflictFree, waiterAt, heldAt};
+
+// Whether a board is sound, and its carried order.
+pub struct Judged {
+    pub sound: bool,
+    pub order: Order,
+}
 
 // W is within V, R within Q, V and Q share nothing.
 fn sets_sound(q: Program) -> bool
@@ -176,8 +184,8 @@ fn line_sound(line: [u8; 32], set: ProgramSet) -> bool
 }
 
 // The waiter's file is claimed, not open by it, and can't be given now.
-fn waiter_sound(b: Board, p: u8, f: u8) -> bool
-    requires { ⌜ (1 ≤ p) × (p ≤ 32) ⌝ }
+fn waiter_sound(b: Board, sets: &[u64; 128], rows: &[u32; 32], uses: Uses, p: u8, f: u8) -> bool
+    requires { ⌜ ((1 ≤ p) × (p ≤ 32)) × Known b (now sets) (now rows) uses × (admits b p ≡ true) ⌝ }
     ensures { λ r. ⌜ r ≡ waiterSound b p f ⌝ }
 {
     let i = (p - 1) as usize;
@@ -188,12 +196,12 @@ fn waiter_sound(b: Board, p: u8, f: u8) -> bool
     if q.has_open(f) {
         return false;
     }
-    !search::can_give(b, p, f)
+    !search::gives::can_give(sets, rows, uses, p, f)
 }
 
-// All waiters of a line whose names are programs.
-fn waiters_sound(b: Board, line: [u8; 32]) -> bool
-    requires { ⌜ all isProgram (names line) ≡ true ⌝ }
+// All waiters of a line that names waiting programs.
+fn waiters_sound(b: Board, sets: &[u64; 128], rows: &[u32; 32], uses: Uses, line: [u8; 32]) -> bool
+    requires { ⌜ Known b (now sets) (now rows) uses × (all (rightName b false) (names line) ≡ true) ⌝ }
     ensures { λ r. ⌜ r ≡ all (waiterAt b) (names line) ⌝ }
 {
     let mut k: usize = 0;
@@ -203,7 +211,7 @@ fn waiters_sound(b: Board, line: [u8; 32]) -> bool
             return true;
         }
         let f = search::awaited(b, p);
-        if !waiter_sound(b, p, f) {
+        if !waiter_sound(b, sets, rows, uses, p, f) {
             return false;
         }
         k += 1;
@@ -260,19 +268,17 @@ fn some_favoured(b: Board, waiters: ProgramSet) -> bool
 }
 
 // Sets; no conflict; a completion order exists; the two lines; the waiters; the favoured program.
-pub fn is_sound(b: Board) -> bool
+fn is_sound_by(b: Board, sets: &[u64; 128], rows: &[u32; 32], uses: Uses, ordered: bool) -> bool
+    requires { ⌜ SetsOf b (now sets) × RowsOf b (now rows) × (uses ≡ usesOf b (now sets)) × (ordered ≡ found (carried b)) ⌝ }
     ensures { λ r. ⌜ r ≡ sound b ⌝ }
 {
-    let mut sets = [0u64; 128];
-    let mut rows = [0u32; 32];
-    tables::fill(b, &mut sets, &mut rows);
     if !programs_sound(b) {
         return false;
     }
-    if !no_conflict(&sets) {
+    if !no_conflict(sets) {
         return false;
     }
-    if !search::has_order(b) {
+    if !ordered {
         return false;
     }
     let waiting = b.waiting;
@@ -285,11 +291,34 @@ pub fn is_sound(b: Board) -> bool
     if !line_sound(entry, held) {
         return false;
     }
-    if !waiters_sound(b, waiting) {
+    if !waiters_sound(b, sets, rows, uses, waiting) {
         return false;
     }
     if b.favoured == 0 {
         return none_favoured(b);
     }
     some_favoured(b, waiters)
+}
+
+// Whether the board is sound, and its carried order.
+pub fn judged(b: Board) -> Judged
+    ensures { λ r. ⌜ (r .sound ≡ sound b) × (r .order ≡ asOrder (carried b)) ⌝ }
+{
+    let mut sets = [0u64; 128];
+    let mut rows = [0u32; 32];
+    tables::fill(b, &mut sets, &mut rows);
+    let uses = search::gives::uses_of(b, &sets);
+    let admitted = uses.admitted;
+    let order = search::order_in(&rows, admitted);
+    let ordered = search::is_found(order);
+    let sound = is_sound_by(b, &sets, &rows, uses, ordered);
+    Judged { sound, order }
+}
+
+// Whether the board is sound.
+pub fn is_sound(b: Board) -> bool
+    ensures { λ r. ⌜ r ≡ sound b ⌝ }
+{
+    let j = judged(b);
+    j.sound
 }
