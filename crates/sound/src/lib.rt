@@ -9,12 +9,16 @@ ghost use mathlib.Core.Path.{_≡_};
 ghost use mathlib.Core.Bool.{true, false, _&&_};
 ghost use Prim.Native.Nat.{_≤_};
 ghost use Rattle.files.specs.Sets.{isEmpty};
-ghost use Rattle.rules.specs.Lists.{any, all, names};
-ghost use Rattle.rules.specs.Boards.{everyone, isProgram};
+ghost use Rattle.rules.specs.Lists.{any, all, found, names};
+ghost use Rattle.rules.specs.Boards.{everyone};
+ghost use Rattle.rules.specs.Orders.{carried};
 ghost use Rattle.rules.specs.Soundness.{setsSound, standingSound, programSound, lineSound, waiterSound, noneFavoured};
 ghost use Rattle.rules.specs.Soundness.{someFavoured, sound};
 ghost use Rattle.tables.specs.ProgramSets.{hasProgram};
-ghost use Rattle.sound.specs.Parts.{stands, standSet, takes, isSoundAt, ConflictFree, waiterAt, heldAt};
+ghost use Rattle.tables.specs.Tables.{SetsOf, RowsOf};
+ghost use Rattle.search.specs.Rows.{admits, asOrder};
+ghost use Rattle.search.specs.Gives.{usesOf};
+ghost use Rattle.sound.specs.Parts.{stands, rightName, standSet, takes, isSoundAt, ConflictFree, waiterAt, heldAt, Known};
 
 // Whether a board is sound, and its carried order.
 pub struct Judged {
@@ -301,7 +305,7 @@ fn is_sound_by(b: Board, sets: &[u64; 128], rows: &[u32; 32], uses: Uses, ordere
 }
 
 // Whether the board is sound, and its carried order.
-pub fn judged(b: Board) -> Judged
+pub fn judge(b: Board) -> Judged
     ensures { λ r. ⌜ (r .sound ≡ sound b) × (r .order ≡ asOrder (carried b)) ⌝ }
 {
     let mut sets = [0u64; 128];
@@ -319,6 +323,6 @@ pub fn judged(b: Board) -> Judged
 pub fn is_sound(b: Board) -> bool
     ensures { λ r. ⌜ r ≡ sound b ⌝ }
 {
-    let j = judged(b);
+    let j = judge(b);
     j.sound
 }
