@@ -19,7 +19,7 @@ use Rattle.columns.proofs.Rows.{flat-length}
 use Rattle.lines.proofs.Laws.{names-on}
 use Rattle.host.specs.Host.{Outcome, journalFull, posted, lineCall}
 use Rattle.host.proofs.Laws.{call-posted, call-unsound}
-use Rattle.board.specs.Input.{firstLine, boardAfter, Fed, held, feed, fed, orderWord, orderLine}
+use Rattle.board.specs.Input.{firstLine, boardAfter, Fed, held, feed, fed, lastBoard, orderWord, orderLine}
 
 -- ---- where a line ends
 
@@ -123,6 +123,18 @@ module _ (b : Board) (line chunk : List ℕ) (at end : ℕ) (short : length line
       let n = length-drop at chunk in
       let e : at + suc (end - at) ≡ end + 1 = omega arith in
       fed-line b line (drop at chunk) (end - at) short (omega arith) (omega arith) ∙ rw (drop-drop (suc (end - at)) at chunk, e)
+
+-- a last line that lacks byte 10
+pub last-none : (b : Board) (kept : List ℕ) (n : ℕ) → n ≡ 0 → b ≡ lastBoard (held b (take n kept))
+unfolding lastBoard
+last-none b kept n e = rw e
+
+pub last-some : (b : Board) (kept : List ℕ) (n : ℕ) → n ≢ 0 → n ≤ 408 → n ≤ length kept
+    → boardAfter b (take 408 (take n kept ++ [])) ≡ lastBoard (held b (take n kept))
+unfolding lastBoard
+last-some b kept n ne h k =
+    let e : length (take n kept) ≡ n = omega (arith, length-take n kept) in
+    rw (append-nil (take n kept), take-all 408 (take n kept) (omega arith), ne-eqb (length (take n kept)) 0 (λ z. ne (sym e ∙ z)))
 
 -- ---- the order
 

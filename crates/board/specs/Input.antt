@@ -1,9 +1,10 @@
--- What bytes of input do to the board: a line that byte 10 ends is a line call. Assumes nothing.
+-- What bytes of input do to the board: a line that byte 10 ends is a line call. Last the ORDER line. Assumes nothing.
 use Prim.Native.Nat.{ℕ}
+use mathlib.Core.Path.{_≡_, refl}
 use mathlib.Core.Bool.{cond}
 use mathlib.Core.List.{List, [], _∷_, _++_}
 use lib.Dec.{eqb}
-use lib.ListN.{take, replicate}
+use lib.ListN.{length, take, replicate}
 use Rattle.rules.specs.declared.Board.{Board}
 use Rattle.rules.specs.Lists.{names}
 use Rattle.columns.specs.Columns.{columnsOf, flat}
@@ -34,6 +35,16 @@ feed s x = cond (eqb x 10) (held (boardAfter (s .board) (s .line)) []) (held (s 
 unfoldable pub fed : Fed → List ℕ → Fed
 fed s [] = s
 fed s (x ∷ xs) = fed (feed s x) xs
+
+-- bytes do the same however they are cut into reads
+pub fed-append : (s : Fed) (a b : List ℕ) → fed s (a ++ b) ≡ fed (fed s a) b
+unfolding fed
+fed-append s [] b = refl
+fed-append s (x ∷ a) b = fed-append (feed s x) a b
+
+-- the board at the end of the input: "a last line may lack" byte 10
+unfoldable pub lastBoard : Fed → Board
+lastBoard s = cond (eqb (length (s .line)) 0) (s .board) (boardAfter (s .board) (s .line))
 
 -- "a line of ORDER, one blank and three columns per program of the order"
 abbrev pub orderWord : List ℕ

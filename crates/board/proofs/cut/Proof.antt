@@ -10,7 +10,7 @@ returns : tie.Need-returns
 returns c = sym (take-all 408 (c .before .args .line .now) (omega arith))
 
 slice-aggregate-result : tie.Need-slice-aggregate-result
-slice-aggregate-result c = sym (length-take-le 408 (c .before .before .args .line .now) (omega arith))
+slice-aggregate-result c = sym (length-take-le _ (c .before .before .args .line .now) (omega arith))
 
 pub cut-spec : {M : Type 1} → statement M
 cut-spec =

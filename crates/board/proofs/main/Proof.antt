@@ -1,6 +1,7 @@
 -- `main` meets its contract. Assumes nothing.
 use mathlib.Core.Path.{_≡_}
 use Prim.Native.Nat.{_≤_}
+use native.Mathlib.Omega.{arith}
 use lib.ListN.{length}
 use borrow.Author.Needs.{needs}
 use Rattle.board.proofs.main.Statement.{statement}
@@ -13,6 +14,14 @@ Inv-loop input₀ journal₀ kept₀ s₀ turns₀ input journal kept s turns =
 abbrev μ-loop : tie.MeasureT-loop
 μ-loop input₀ journal₀ kept₀ s₀ turns₀ input journal kept s turns = turns
 
+sub-turns : tie.Need-sub-turns Inv-loop μ-loop
+sub-turns c =
+    omega (arith, c .before .before .before .before .before .before .before .before .before .before .before .before .before .before .before .before .loop-test .taken)
+
+loop-less : tie.Need-loop-less Inv-loop μ-loop
+loop-less c =
+    omega (arith, c .before .before .before .before .before .before .before .before .before .before .before .before .before .before .before .before .loop-test .taken)
+
 pub main-spec : {M : Type 1} → statement M
 main-spec =
     tie.close
@@ -21,21 +30,24 @@ main-spec =
     μ-loop
     (λ c κs. search needs)
     (λ c κs. search needs)
-    (λ c. search needs)
-    (λ c. search needs)
-    (λ c κs. search needs)
     (λ c κs. search needs)
     (λ c. search needs)
     (λ c. search needs)
     (λ c κs. search needs)
-    (λ c. search needs)
-    (λ c. search needs)
+    (λ c κs. search needs)
     (λ c. search needs)
     (λ c. search needs)
     (λ c κs. search needs)
     (λ c. search needs)
     (λ c. search needs)
     (λ c. search needs)
+    (λ c. search needs)
+    (λ c κs. search needs)
+    (λ c. search needs)
+    (λ c κs. search needs)
+    (λ c. search needs)
+    sub-turns
+    loop-less
     (λ c. search needs)
     (λ c. search needs)
     (λ c. search needs)

@@ -30,29 +30,8 @@ loop-holds c = (omega arith, omega arith, refl, start columnsOf (c .before .args
 long : (s : tie.Start Inv-loop μ-loop) → length (s .args .t2) ≡ 32
 long s = s .good .1 .0 .1 .0 .1
 
-array-read-p : tie.Need-array-read-p Inv-loop μ-loop
-array-read-p c = search needs
-
-sub-put-columns : tie.Need-sub-put-columns Inv-loop μ-loop
-sub-put-columns c = search needs
-
-part-put-columns-start : tie.Need-part-put-columns-start Inv-loop μ-loop
-part-put-columns-start c = search needs
-
-part-put-columns-end : tie.Need-part-put-columns-end Inv-loop μ-loop
-part-put-columns-end c = search needs
-
 put-columns-requires : tie.Need-put-columns-requires Inv-loop μ-loop
 put-columns-requires c κs = simp (length-take, length-drop) (omega arith)
-
-add-at : tie.Need-add-at Inv-loop μ-loop
-add-at c = search needs
-
-add-i : tie.Need-add-i Inv-loop μ-loop
-add-i c = search needs
-
-loop-less : tie.Need-loop-less Inv-loop μ-loop
-loop-less c = search needs
 
 loop-again : tie.Need-loop-again Inv-loop μ-loop
 loop-again c =
@@ -97,14 +76,14 @@ put-programs-spec =
     Inv-loop
     μ-loop
     loop-holds
-    array-read-p
-    sub-put-columns
-    part-put-columns-start
-    part-put-columns-end
+    (λ c. search needs)
+    (λ c. search needs)
+    (λ c. search needs)
+    (λ c. search needs)
     put-columns-requires
-    add-at
-    add-i
-    loop-less
+    (λ c. search needs)
+    (λ c. search needs)
+    (λ c. search needs)
     loop-again
     same-length
     returns
