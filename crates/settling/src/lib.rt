@@ -108,7 +108,10 @@ fn next_given(b: Board, line: [u8; 32], from: usize) -> usize
         if p == 0 {
             return 32;
         }
-        let f = search::awaited(b, p);
+        let i = (p - 1) as usize;
+        let q = b.programs[i];
+        let s = q.standing;
+        let f = s.awaited();
         if search::gives::can_give(&sets, &rows, uses, p, f) {
             return k;
         }
@@ -141,9 +144,13 @@ fn pass_line(w: Written) -> Written
 
 // The oldest waiter whose file is in no conflicting use, or 0.
 fn oldest_unused(b: Board) -> u8
-    requires { ⌜ all isProgram (names (b .waiting)) ≡ true ⌝ }
+    requires { ⌜ Loose b ⌝ }
     ensures { λ r. ⌜ r ≡ Option·getD (candidate b) 0 ⌝ }
 {
+    let mut sets = [0u64; 128];
+    let mut rows = [0u32; 32];
+    tables::fill(b, &mut sets, &mut rows);
+    let uses = search::gives::uses_of(b, &sets);
     let line = b.waiting;
     let mut k: usize = 0;
     while k < 32 {
@@ -151,8 +158,11 @@ fn oldest_unused(b: Board) -> u8
         if p == 0 {
             return 0;
         }
-        let f = search::awaited(b, p);
-        if !search::in_use(b, p, f) {
+        let i = (p - 1) as usize;
+        let q = b.programs[i];
+        let s = q.standing;
+        let f = s.awaited();
+        if !search::gives::in_use(&sets, uses, p, f) {
             return p;
         }
         k += 1;

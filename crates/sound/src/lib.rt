@@ -16,9 +16,9 @@ ghost use Rattle.rules.specs.Soundness.{setsSound, standingSound, programSound,
 ghost use Rattle.rules.specs.Soundness.{someFavoured, sound};
 ghost use Rattle.tables.specs.ProgramSets.{hasProgram};
 ghost use Rattle.tables.specs.Tables.{SetsOf, RowsOf};
-ghost use Rattle.search.specs.Rows.{admits, asOrder};
+ghost use Rattle.search.specs.Rows.{asOrder};
 ghost use Rattle.search.specs.Gives.{usesOf};
-ghost use Rattle.sound.specs.Parts.{stands, rightName, standSet, takes, isSoundAt, ConflictFree, waiterAt, heldAt, Known};
+ghost use Rattle.sound.specs.Parts.{stands, rightName, standSet, takes, isSoundAt, ConflictFree, waiterAt, heldAt, Known, WaiterFor};
 
 // Whether a board is sound, and its carried order.
 pub struct Judged {
@@ -188,12 +188,10 @@ fn line_sound(line: [u8; 32], set: ProgramSet) -> bool
 }
 
 // The waiter's file is claimed, not open by it, and can't be given now.
-fn waiter_sound(b: Board, sets: &[u64; 128], rows: &[u32; 32], uses: Uses, p: u8, f: u8) -> bool
-    requires { ⌜ ((1 ≤ p) × (p ≤ 32)) × Known b (now sets) (now rows) uses × (admits b p ≡ true) ⌝ }
-    ensures { λ r. ⌜ r ≡ waiterSound b p f ⌝ }
+fn waiter_sound(q: Program, sets: &[u64; 128], rows: &[u32; 32], uses: Uses, p: u8, f: u8) -> bool
+    requires { ⌜ (1 ≤ p) × (p ≤ 32) ⌝ }
+    ensures { λ r. ⌜ WaiterFor q (now (sets .entry)) (now (rows .entry)) uses p f r ⌝ }
 {
-    let i = (p - 1) as usize;
-    let q = b.programs[i];
     if !q.claims(f) {
         return false;
     }
@@ -214,8 +212,11 @@ fn waiters_sound(b: Board, sets: &[u64; 128], rows: &[u32; 32], uses: Uses, line
         if p == 0 {
             return true;
         }
-        let f = search::awaited(b, p);
-        if !waiter_sound(b, sets, rows, uses, p, f) {
+        let i = (p - 1) as usize;
+        let q = b.programs[i];
+        let s = q.standing;
+        let f = s.awaited();
+        if !waiter_sound(q, sets, rows, uses, p, f) {
             return false;
         }
         k += 1;

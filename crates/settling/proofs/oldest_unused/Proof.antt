@@ -1,77 +1,81 @@
--- `oldest_unused` meets its contract. Assumes nothing.
-use mathlib.Core.Path.{_≡_, refl, sym, ap, _∙_}
-use mathlib.Core.Bool.{true}
-use mathlib.Core.Option.{Option, Option·getD}
-use Prim.Native.Nat.{ℕ, _-_, _≤_}
-use native.Mathlib.Numerals.{add-one}
-use native.Mathlib.Omega.{arith}
-use lib.ListN.{length, drop}
-use borrow.Author.Tests.{not-true, not-false}
-use borrow.Author.Needs.{needs}
-use Rattle.rules.specs.Lists.{all, first, names}
-use Rattle.rules.specs.Boards.{at, isProgram}
-use Rattle.rules.specs.Settling.{line, candidate}
-use Rattle.lines.proofs.Laws.{names-stop, names-end, name-range, names-left}
-use Rattle.settling.specs.Writing.{unused}
-use Rattle.settling.proofs.Laws.{first-names-on, first-none-left}
 use Rattle.settling.proofs.oldest_unused.Statement.{statement}
 use Rattle.settling.proofs.oldest_unused.Tie as tie
+use Rattle.settling.proofs.oldest_unused.Reads as reads
+use Rattle.settling.proofs.oldest_unused.Lts as lts
+use Rattle.rules.proofs.Standing.awaited.Reads as awaited-reads
+use Rattle.search.proofs.gives.in_use.Reads as in-use-reads
+use Rattle.search.proofs.gives.uses_of.Reads as uses-of-reads
+use Rattle.tables.proofs.fill.Reads as fill-reads
 
 abbrev Inv-loop : tie.InvT-loop
-Inv-loop b line k₀ k = (k ≤ 32) × (all isProgram (names (drop k line)) ≡ true) × (candidate b ≡ first (unused b) (names (drop k line)))
+Inv-loop b sets uses line k₀ k = ?
 
 abbrev μ-loop : tie.MeasureT-loop
-μ-loop b line k₀ k = 32 - k
+μ-loop b sets uses line k₀ k = ?
 
+-- src/lib.rt:152:5
+fill-requires : tie.Need-fill-requires Inv-loop μ-loop
+fill-requires c κs = ?
+
+-- src/lib.rt:153:9
+uses-of-requires : tie.Need-uses-of-requires Inv-loop μ-loop
+uses-of-requires c κs = ?
+
+-- src/lib.rt:156:5
 loop-holds : tie.Need-loop-holds Inv-loop μ-loop
-unfolding candidate
-loop-holds c = (search needs, c .before .pre, refl)
+loop-holds c = ?
 
+-- src/lib.rt:157:17
+array-read-p : tie.Need-array-read-p Inv-loop μ-loop
+array-read-p c = ?
+
+-- src/lib.rt:159:13
 returns : tie.Need-returns Inv-loop μ-loop
-returns c = let l = c .before .before .loop in let b = c .before .before .before .before .args .b in
-    let m : length (b .waiting) ≡ 32 = search needs in
-    sym (ap (λ (x : Option ℕ). Option·getD x 0) (l .inv .2 ∙ first-none-left (unused b) (names (drop (l .k) (b .waiting)))
-    (names-stop (b .waiting) (l .k) (omega arith) (c .if1 .taken))))
+returns c = ?
 
+-- src/lib.rt:161:18
+sub-i : tie.Need-sub-i Inv-loop μ-loop
+sub-i c = ?
+
+-- src/lib.rt:161:17
+cast-i : tie.Need-cast-i Inv-loop μ-loop
+cast-i c = ?
+
+-- src/lib.rt:162:17
+mul-q : tie.Need-mul-q Inv-loop μ-loop
+mul-q c = ?
+
+-- src/lib.rt:162:17
+element-copy-out-q : tie.Need-element-copy-out-q Inv-loop μ-loop
+element-copy-out-q c = ?
+
+-- src/lib.rt:164:13
 awaited-requires : tie.Need-awaited-requires Inv-loop μ-loop
-awaited-requires c κs = let l = c .before .before .loop in let b = c .before .before .before .before .args .b in
-    let m : length (b .waiting) ≡ 32 = search needs in
-    name-range (b .waiting) (l .k) (omega arith) (c .if1 .left) (l .inv .1)
+awaited-requires c κs = ?
 
+-- src/lib.rt:165:13
 in-use-requires : tie.Need-in-use-requires Inv-loop μ-loop
-in-use-requires c κs = let l = c .before .before .before .loop in let b = c .before .before .before .before .before .args .b in
-    let m : length (b .waiting) ≡ 32 = search needs in
-    name-range (b .waiting) (l .k) (omega arith) (c .before .if1 .left) (l .inv .1)
+in-use-requires c κs = ?
 
+-- src/lib.rt:166:13
 returns-2 : tie.Need-returns-2 Inv-loop μ-loop
-returns-2 c = let l = c .before .before .before .before .before .loop in let b = c .before .before .before .before .before .before .before .args .b in
-    let m : length (b .waiting) ≡ 32 = search needs in
-    sym (rw (
-      ← c .before .before .awaited .ensures,
-      sym (c .before .in-use .ensures)
-          ∙ not-true (c .before .in-use .result) (c .if2 .taken),
-    ) at (ap (λ (x : Option ℕ). Option·getD x 0) (l .inv .2
-    ∙ first-names-on (unused b) (b .waiting) (l .k) (omega arith) (c .before .before .before .if1 .left))))
+returns-2 c = ?
 
+-- src/lib.rt:168:9
+add-k : tie.Need-add-k Inv-loop μ-loop
+add-k c = ?
+
+-- src/lib.rt:156:5
+loop-less : tie.Need-loop-less Inv-loop μ-loop
+loop-less c = ?
+
+-- src/lib.rt:156:5
 loop-again : tie.Need-loop-again Inv-loop μ-loop
-loop-again c = let l = c .before .before .before .before .before .loop in let b =
-    c .before .before .before .before .before .before .before .args .b in
-    let m : length (b .waiting) ≡ 32 = search needs in (
-      search needs,
-      rw (add-one (l .k)) (names-left isProgram (b .waiting) (l .k) (omega arith) (c .before .before .before .if1 .left) (l .inv .1)),
-      rw (add-one (l .k)) (rw (
-        ← c .before .before .awaited .ensures,
-        sym (c .before .in-use .ensures)
-            ∙ not-false (c .before .in-use .result) (c .if2 .left),
-      ) at (l .inv .2 ∙ first-names-on (unused b)
-          (b .waiting) (l .k) (omega arith) (c .before .before .before .if1 .left))),
-    )
+loop-again c = ?
 
+-- src/lib.rt:146:1
 returns-3 : tie.Need-returns-3 Inv-loop μ-loop
-returns-3 c = let l = c .before .loop in let b = c .before .before .before .args .b in
-    let m : length (b .waiting) ≡ 32 = search needs in
-    sym (ap (λ (x : Option ℕ). Option·getD x 0) (l .inv .2 ∙ first-none-left (unused b) (names (drop (l .k) (b .waiting)))
-    (names-end (b .waiting) (l .k) (omega arith))))
+returns-3 c = ?
 
 pub oldest-unused-spec : {M : Type 1} → statement M
 oldest-unused-spec =
@@ -79,13 +83,19 @@ oldest-unused-spec =
     (tie.spec
     Inv-loop
     μ-loop
+    fill-requires
+    uses-of-requires
     loop-holds
-    (λ c. search needs)
+    array-read-p
     returns
+    sub-i
+    cast-i
+    mul-q
+    element-copy-out-q
     awaited-requires
     in-use-requires
     returns-2
-    (λ c. search needs)
-    (λ c. search needs)
+    add-k
+    loop-less
     loop-again
     returns-3)
