@@ -9,7 +9,8 @@ use lib.Dec.{eqb}
 use lib.ListN.{length, getD, drop}
 use borrow.Author.Tests.{eq-eqb, eqb-true, eqb-false}
 use Rattle.files.specs.Bits.{hasBit, isNumber, hasNumber, withoutNumber}
-use Rattle.files.proofs.Tests.{by-test, never, or-cases, or-left, or-right, and-left, and-right, and-both, no-true, not-true, true-not, same-test}
+use Rattle.files.proofs.Tests.{by-test, never, or-cases, or-left, or-right, and-left, and-right, and-both, no-true, not-true, true-not}
+use Rattle.files.proofs.Tests.{same-test}
 use Rattle.files.proofs.Bits.{zero-has, has-number, numbers-same, without-number-same, without-number-other}
 use Rattle.rules.specs.Lists.{all, listed, distinct, same, names, padded}
 use Rattle.rules.specs.Boards.{isProgram, everyone}
