@@ -7,12 +7,12 @@ ghost use mathlib.Core.Path.{_≡_};
 ghost use mathlib.Core.Bool.{true, false, _&&_};
 ghost use Prim.Native.Nat.{_≤_};
 ghost use Rattle.files.specs.Sets.{isEmpty};
-ghost use Rattle.rules.specs.Lists.{any, all, names};
+ghost use Rattle.rules.specs.Lists.{all, names};
 ghost use Rattle.rules.specs.Boards.{everyone, isProgram};
 ghost use Rattle.rules.specs.Soundness.{setsSound, standingSound, programSound, lineSound, waiterSound, noneFavoured};
 ghost use Rattle.rules.specs.Soundness.{someFavoured, sound};
 ghost use Rattle.tables.specs.ProgramSets.{hasProgram};
-ghost use Rattle.sound.specs.Parts.{stands, standSet, takes, isSoundAt, ConflictFree, waiterAt, heldAt};
+ghost use Rattle.sound.specs.Parts.{stands, standSet, takes, isSoundAt, ConflictFree, waiterAt};
 
 // W is within V, R within Q, V and Q share nothing.
 fn sets_sound(q: Program) -> bool
@@ -211,28 +211,12 @@ fn waiters_sound(b: Board, line: [u8; 32]) -> bool
     true
 }
 
-// Whether somebody is held.
-fn is_any_held(b: Board) -> bool
-    ensures { λ r. ⌜ r ≡ any (heldAt b) everyone ⌝ }
-{
-    let mut p: u8 = 1;
-    while p <= 32 {
-        let i = (p - 1) as usize;
-        let q = b.programs[i];
-        let s = q.standing;
-        if s.is_held() {
-            return true;
-        }
-        p += 1;
-    }
-    false
-}
-
 // Nobody favoured: nobody held, and both numbers 0.
-fn none_favoured(b: Board) -> bool
+fn none_favoured(b: Board, held: ProgramSet) -> bool
+    requires { ⌜ held ≡ standSet b true ⌝ }
     ensures { λ r. ⌜ r ≡ noneFavoured b ⌝ }
 {
-    if is_any_held(b) {
+    if held.bits != 0 {
         return false;
     }
     let n = b.initial;
@@ -289,7 +273,7 @@ pub fn is_sound(b: Board) -> bool
         return false;
     }
     if b.favoured == 0 {
-        return none_favoured(b);
+        return none_favoured(b, held);
     }
     some_favoured(b, waiters)
 }
