@@ -20,7 +20,7 @@ use Rattle.rules.specs.declared.Word.{Word}
 use Rattle.rules.specs.declared.Line.{Line}
 use Rattle.rules.specs.Lists.{all, first, withFound, names}
 use Rattle.rules.specs.Boards.{at, awaited, awaitedOf, isProgram, isWaiting, hasOpen, setEntry}
-use Rattle.rules.specs.Orders.{withGiven, canGive}
+use Rattle.rules.specs.Orders.{withGiven, inUse, canGive}
 use Rattle.rules.specs.Settling.{Step, line, still, andThen, unfavour, resume, tryGive, pass, candidate, favour, runHeld, choose, settle}
 use Rattle.theory.specs.Lists.{_∈_, Pairs, NoRepeat, here, each-all, first-some}
 use Rattle.theory.specs.Programs.{Is, of-is}
@@ -29,7 +29,7 @@ use Rattle.theory.specs.Settling.{pass-passed}
 use Rattle.theory.specs.Sound.{loose-apart, loose-order, loose-waiter}
 use Rattle.tables.specs.Tables.{SetsOf, RowsOf}
 use Rattle.search.specs.declared.Uses.{Uses}
-use Rattle.search.specs.Gives.{usesOf, GivenFor}
+use Rattle.search.specs.Gives.{usesOf, UsedFor, GivenFor}
 use Rattle.lines.proofs.Laws.{names-on, names-end, all-names-on}
 use Rattle.lines.proofs.Laws.{program-range, names-left}
 use Rattle.settling.specs.declared.Written.{Written}
@@ -132,6 +132,10 @@ module _ (w s : Written) (l : List ℕ) (k : ℕ) (h : k < length l) (ne : getD 
         i .2 ∙ ap (λ (x : List ℕ). after s (pass x (s .board))) (names-on l k h ne) ∙ sym (after-then s t (pass (names (drop (suc k) l)) (t .board))),
       ))
 
+-- the waiting line of a loose board
+pub ready-all : (b : Board) → Loose b → Ready b (names (b .waiting))
+ready-all b k = (k, k .waits .once, k .waits .of)
+
 -- the next waiter that is given its file
 pub pass-to : (w s : Written) (l : List ℕ) (k j : ℕ) → PassAt w l k s → NextGiven (s .board) l k j → PassAt w l j s
 pass-to w s l k j i n = (n .ready, subst (Fits s) (n .same) (i .1), i .2 ∙ ap (after s) (n .same))
@@ -164,6 +168,16 @@ module _ (b : Board) (l : List ℕ) (k : ℕ) (h : k < length l) (ne : getD l k 
       let m = loose-waiter b (getD l k 0) (ready-at .0) (waiter-at .0) (waiter-at .1) in
       g b x y z (loose-apart b (ready-at .0)) (loose-order b (ready-at .0)) (m .0) (ap (hasOpen (at b (getD l k 0))) e ∙ m .1)
       ∙ ap (canGive b (getD l k 0)) e
+
+  pub waiter-used : (sets : List ℕ) (u : Uses) (f : ℕ) (t : Bool) → SetsOf b sets → u ≡ usesOf b sets
+      → f ≡ awaited b (getD l k 0) → UsedFor sets u (getD l k 0) f t → t ≡ inUse b (getD l k 0) (awaited b (getD l k 0))
+  waiter-used sets u f t x z e g =
+      let m = loose-waiter b (getD l k 0) (ready-at .0) (waiter-at .0) (waiter-at .1) in
+      g b x z (loose-apart b (ready-at .0)) (ap (hasOpen (at b (getD l k 0))) e ∙ m .1) ∙ ap (inUse b (getD l k 0)) e
+
+  pub ready-left : Ready b (names (drop (k + 1) l))
+  unfolding Pairs
+  ready-left = rw (add-one k) (ready-at .0, ready-at .1 .1, λ p m. ready-at .2 p (List·Memᴰ·tail m))
 
   -- a waiter that is not given its file is passed over
   pub waiter-over : canGive b (getD l k 0) (awaited b (getD l k 0)) ≡ false
@@ -216,9 +230,6 @@ first-names-on t l k h ne = rw (names-on l k h ne)
 pub first-none-left : (t : ℕ → Bool) (l : List ℕ) → l ≡ [] → first t l ≡ none
 unfolding first
 first-none-left t l e = rw e
-
-pub all-waiting : (b : Board) → Loose b → all isProgram (names (b .waiting)) ≡ true
-all-waiting b k = each-all isProgram (names (b .waiting)) (λ p m. of-is p (k .waits .of p m .0))
 
 pub all-held : (b : Board) → Loose b → all isProgram (names (b .entry)) ≡ true
 all-held b k = each-all isProgram (names (b .entry)) (λ p m. of-is p (k .helds .of p m .0))

@@ -112,10 +112,11 @@ module _ (l : List ℕ) (n m : ℕ) (g : m ≡ gathered l 64 n) where
       (no-clash b l s t n j h (omega arith) (omega arith))))
 
 -- all programs: what is written and what is read
-pub apart-done : (l : List ℕ) (w r : ℕ) → w ≡ gathered l 64 32 → r ≡ gathered l 96 32 → ApartTo l 32 → ConflictFree l (eqb (bitAnd w r) 0)
+pub apart-done : (l : List ℕ) (w r : ℕ) → w ≡ gathered l 64 32 → r ≡ gathered l 96 32 → ApartTo l 32
+    → ConflictFree l (eqb (bitAnd w r) 0)
 apart-done l w r g q f b s e = same-test (eqb (bitAnd w r) 0) (noConflict b)
-    (λ t. clash-none b l s (λ i j h k n. none (share (getD l (64 + i) 0) (getD l (64 + j) 0)) (share (getD l (64 + i) 0) (getD l (96 + j) 0))
-    (share (getD l (64 + j) 0) (getD l (96 + i) 0))
+    (λ t. clash-none b l s (λ i j h k n. none (share (getD l (64 + i) 0) (getD l (64 + j) 0))
+    (share (getD l (64 + i) 0) (getD l (96 + j) 0)) (share (getD l (64 + j) 0) (getD l (96 + i) 0))
     (no-true (share (getD l (64 + i) 0) (getD l (64 + j) 0)) (λ u.
     let (x, a, d) = of-share (getD l (64 + i) 0) (getD l (64 + j) 0) u in f i j x h k n a d)) (apart t i j h k) (apart t j i k h)))
     (λ t. by-test (eqb (bitAnd w r) 0) (λ u. u) (λ u.

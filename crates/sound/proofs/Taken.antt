@@ -5,13 +5,15 @@ use mathlib.Core.Path.{_≡_, refl, sym, ap, ap₂, _∙_}
 use mathlib.Core.Logic.{_≢_}
 use mathlib.Core.Bool.{Bool, true, false, not, _&&_, _||_}
 use mathlib.Core.List.{List, [], _∷_, List·Memᴰ·head, List·Memᴰ·tail, List·Memᴰ·not-nil}
+use lib.Bits.{and-self}
 use lib.Dec.{eqb}
 use lib.ListN.{length, getD, drop}
 use borrow.Author.Tests.{eq-eqb, eqb-true, eqb-false}
 use Rattle.files.specs.Bits.{hasBit, isNumber, hasNumber, withoutNumber}
-use Rattle.files.proofs.Tests.{by-test, never, or-cases, or-left, or-right, and-left, and-right, and-both, no-true, not-true, true-not, same-test}
+use Rattle.files.proofs.Tests.{by-test, never, or-cases, or-left, or-right, and-left, and-right, and-both, no-true, not-true, true-not}
+use Rattle.files.proofs.Tests.{same-test}
 use Rattle.files.proofs.Bits.{zero-has, has-number, numbers-same, without-number-same, without-number-other}
-use Rattle.rules.specs.Lists.{all, listed, distinct, same, names, padded}
+use Rattle.rules.specs.Lists.{any, all, listed, distinct, same, names, padded}
 use Rattle.rules.specs.Boards.{isProgram, everyone}
 use Rattle.rules.specs.Soundness.{lineSound}
 use Rattle.theory.specs.Lists.{_∈_, Pairs, NoRepeat, by-mem, here, all-each, each-all, listed-mem, mem-listed, distinct-once, once-distinct}
@@ -20,6 +22,7 @@ use Rattle.tables.specs.declared.ProgramSet.{ProgramSet}
 use Rattle.tables.specs.ProgramSets.{hasProgram, withoutProgram}
 use Rattle.tables.specs.Tables.{packed}
 use Rattle.tables.proofs.Laws.{packed-has}
+use Rattle.search.proofs.Laws.{any-meets}
 use Rattle.lines.proofs.Laws.{names-on}
 use Rattle.sound.specs.Parts.{takes}
 
@@ -116,6 +119,21 @@ pub packed-is : (t : ℕ → Bool) (p : ℕ) → hasProgram (packed t 32) p ≡ 
 packed-is t p = by-test (isProgram p)
     (λ e. let c = is-of p e in packed-has t 32 p (omega arith) (c .least) (c .most) ∙ sym (ap (λ (x : Bool). x && t p) e))
     (λ e. rw e)
+
+-- nobody is in the set if nobody passes
+pub packed-any : (t : ℕ → Bool) → any t everyone ≡ not (eqb (packed t 32 .bits) 0)
+unfolding any
+packed-any t = any-same t (λ p. hasProgram (packed t 32) p && t p) everyone (λ p m. sym (twice (t p)
+    (packed-is t p ∙ ap (λ (x : Bool). x && t p) (of-is p (everyone-is p m)))))
+    ∙ any-meets (packed t 32) t ∙ ap (λ (x : ℕ). not (eqb x 0)) (and-self (packed t 32 .bits))
+  where
+    twice : {a : Bool} (b : Bool) → a ≡ b → a && b ≡ b
+    twice true e = rw e
+    twice false e = rw e
+
+    any-same : (s t : ℕ → Bool) (l : List ℕ) → ((p : ℕ) → p ∈ l → s p ≡ t p) → any s l ≡ any t l
+    any-same s t [] f = refl
+    any-same s t (x ∷ l) f = ap₂ (λ (a b : Bool). a || b) (f x here) (any-same s t l (λ p m. f p (List·Memᴰ·tail m)))
 
 all-same : (s t : ℕ → Bool) (l : List ℕ) → ((p : ℕ) → p ∈ l → s p ≡ t p) → all s l ≡ all t l
 unfolding all

@@ -9,7 +9,7 @@ ghost use mathlib.Core.Path.{_≡_};
 ghost use mathlib.Core.Bool.{true, false, _&&_};
 ghost use Prim.Native.Nat.{_≤_};
 ghost use Rattle.files.specs.Sets.{isEmpty};
-ghost use Rattle.rules.specs.Lists.{any, all, found, names};
+ghost use Rattle.rules.specs.Lists.{all, found, names};
 ghost use Rattle.rules.specs.Boards.{everyone};
 ghost use Rattle.rules.specs.Orders.{carried};
 ghost use Rattle.rules.specs.Soundness.{setsSound, standingSound, programSound, lineSound, waiterSound, noneFavoured};
@@ -18,7 +18,7 @@ ghost use Rattle.tables.specs.ProgramSets.{hasProgram};
 ghost use Rattle.tables.specs.Tables.{SetsOf, RowsOf};
 ghost use Rattle.search.specs.Rows.{asOrder};
 ghost use Rattle.search.specs.Gives.{usesOf};
-ghost use Rattle.sound.specs.Parts.{stands, rightName, standSet, takes, isSoundAt, ConflictFree, waiterAt, heldAt, Known, WaiterFor};
+ghost use Rattle.sound.specs.Parts.{stands, rightName, standSet, takes, isSoundAt, ConflictFree, waiterAt, Known, WaiterFor};
 
 // Whether a board is sound, and its carried order.
 pub struct Judged {
@@ -224,28 +224,12 @@ fn waiters_sound(b: Board, sets: &[u64; 128], rows: &[u32; 32], uses: Uses, line
     true
 }
 
-// Whether somebody is held.
-fn is_any_held(b: Board) -> bool
-    ensures { λ r. ⌜ r ≡ any (heldAt b) everyone ⌝ }
-{
-    let mut p: u8 = 1;
-    while p <= 32 {
-        let i = (p - 1) as usize;
-        let q = b.programs[i];
-        let s = q.standing;
-        if s.is_held() {
-            return true;
-        }
-        p += 1;
-    }
-    false
-}
-
 // Nobody favoured: nobody held, and both numbers 0.
-fn none_favoured(b: Board) -> bool
+fn none_favoured(b: Board, held: ProgramSet) -> bool
+    requires { ⌜ held ≡ standSet b true ⌝ }
     ensures { λ r. ⌜ r ≡ noneFavoured b ⌝ }
 {
-    if is_any_held(b) {
+    if held.bits != 0 {
         return false;
     }
     let n = b.initial;
@@ -300,7 +284,7 @@ fn is_sound_by(b: Board, sets: &[u64; 128], rows: &[u32; 32], uses: Uses, ordere
         return false;
     }
     if b.favoured == 0 {
-        return none_favoured(b);
+        return none_favoured(b, held);
     }
     some_favoured(b, waiters)
 }

@@ -64,18 +64,20 @@ module _ (b : Board) (i : ℕ) (l : List ℕ) (q : Program) (h : i < 32) (n : le
   pub sets-more : SetsTo b i l → SetsTo b (i + 1) (putSets l i q)
   sets-more f k m = by-test (eqb k i)
       (λ t. let z : k ≡ i = eqb-true k i t in rw z (
-      last i (omega arith) ∙ third i (omega arith) ∙ second i (omega arith) ∙ getD-set-same l i (q .writable .bits) 0 (omega arith)
-      ∙ ap (λ (x : Program). x .writable .bits) e,
-      last (32 + i) (omega arith) ∙ third (32 + i) (omega arith) ∙ getD-set-same l₁ (32 + i) (q .readable .bits) 0 (omega (arith, n₁))
-      ∙ ap (λ (x : Program). x .readable .bits) e,
-      last (64 + i) (omega arith) ∙ getD-set-same l₂ (64 + i) (q .writing .bits) 0 (omega (arith, n₂))
-      ∙ ap (λ (x : Program). x .writing .bits) e,
-      getD-set-same l₃ (96 + i) (q .reading .bits) 0 (omega (arith, n₃)) ∙ ap (λ (x : Program). x .reading .bits) e))
+        last i (omega arith) ∙ third i (omega arith) ∙ second i (omega arith) ∙ getD-set-same l i (q .writable .bits) 0 (omega arith)
+            ∙ ap (λ (x : Program). x .writable .bits) e,
+        last (32 + i) (omega arith) ∙ third (32 + i) (omega arith) ∙ getD-set-same l₁ (32 + i) (q .readable .bits) 0 (omega (arith, n₁))
+            ∙ ap (λ (x : Program). x .readable .bits) e,
+        last (64 + i) (omega arith) ∙ getD-set-same l₂ (64 + i) (q .writing .bits) 0 (omega (arith, n₂))
+            ∙ ap (λ (x : Program). x .writing .bits) e,
+        getD-set-same l₃ (96 + i) (q .reading .bits) 0 (omega (arith, n₃)) ∙ ap (λ (x : Program). x .reading .bits) e,
+      ))
       (λ t. let z : k ≢ i = eqb-false k i t in let r = f k (omega arith) in (
-      last k (omega arith) ∙ third k (omega arith) ∙ second k (omega arith) ∙ one k z ∙ r .0,
-      last (32 + k) (omega arith) ∙ third (32 + k) (omega arith) ∙ second (32 + k) (omega arith) ∙ one (32 + k) (omega arith) ∙ r .1,
-      last (64 + k) (omega arith) ∙ third (64 + k) (omega arith) ∙ second (64 + k) (omega arith) ∙ one (64 + k) (omega arith) ∙ r .2,
-      last (96 + k) (omega arith) ∙ third (96 + k) (omega arith) ∙ second (96 + k) (omega arith) ∙ one (96 + k) (omega arith) ∙ r .3))
+        last k (omega arith) ∙ third k (omega arith) ∙ second k (omega arith) ∙ one k z ∙ r .0,
+        last (32 + k) (omega arith) ∙ third (32 + k) (omega arith) ∙ second (32 + k) (omega arith) ∙ one (32 + k) (omega arith) ∙ r .1,
+        last (64 + k) (omega arith) ∙ third (64 + k) (omega arith) ∙ second (64 + k) (omega arith) ∙ one (64 + k) (omega arith) ∙ r .2,
+        last (96 + k) (omega arith) ∙ third (96 + k) (omega arith) ∙ second (96 + k) (omega arith) ∙ one (96 + k) (omega arith) ∙ r .3,
+      ))
 
   pub sets-length : length (putSets l i q) ≡ 128
   sets-length = length-set l₃ (96 + i) (q .reading .bits) ∙ n₃

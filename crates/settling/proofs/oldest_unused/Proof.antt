@@ -1,81 +1,105 @@
+-- `oldest_unused` meets its contract. Assumes nothing.
+use mathlib.Core.Path.{_≡_, refl, sym, ap, _∙_}
+use mathlib.Core.Option.{Option, Option·getD}
+use Prim.Native.Nat.{ℕ, _-_, _≤_}
+use native.Mathlib.Numerals.{add-one}
+use native.Mathlib.Omega.{arith}
+use lib.ListN.{length, drop}
+use borrow.Author.Tests.{not-true, not-false}
+use Rattle.rules.specs.Lists.{first, names}
+use Rattle.rules.specs.Settling.{candidate}
+use Rattle.lines.proofs.Laws.{names-stop, names-end}
+use Rattle.settling.specs.Writing.{Ready, unused}
+use Rattle.settling.proofs.Laws.{waiter-range, waiter-used, ready-all, ready-left, first-names-on, first-none-left}
+use borrow.Author.Needs.{needs}
 use Rattle.settling.proofs.oldest_unused.Statement.{statement}
 use Rattle.settling.proofs.oldest_unused.Tie as tie
-use Rattle.settling.proofs.oldest_unused.Reads as reads
-use Rattle.settling.proofs.oldest_unused.Lts as lts
-use Rattle.rules.proofs.Standing.awaited.Reads as awaited-reads
-use Rattle.search.proofs.gives.in_use.Reads as in-use-reads
-use Rattle.search.proofs.gives.uses_of.Reads as uses-of-reads
-use Rattle.tables.proofs.fill.Reads as fill-reads
 
 abbrev Inv-loop : tie.InvT-loop
-Inv-loop b sets uses line k₀ k = ?
+Inv-loop b sets uses line k₀ k = (k ≤ 32) × Ready b (names (drop k line)) × (candidate b ≡ first (unused b) (names (drop k line))) × (length line ≡ 32)
 
 abbrev μ-loop : tie.MeasureT-loop
-μ-loop b sets uses line k₀ k = ?
+μ-loop b sets uses line k₀ k = 32 - k
 
--- src/lib.rt:152:5
 fill-requires : tie.Need-fill-requires Inv-loop μ-loop
-fill-requires c κs = ?
+fill-requires c κs = search needs
 
--- src/lib.rt:153:9
 uses-of-requires : tie.Need-uses-of-requires Inv-loop μ-loop
-uses-of-requires c κs = ?
+uses-of-requires c κs = search needs
 
--- src/lib.rt:156:5
 loop-holds : tie.Need-loop-holds Inv-loop μ-loop
-loop-holds c = ?
+unfolding candidate
+loop-holds c = let a = c .before .before .before .before .before .before in (search needs, ready-all (a .args .t1) (a .pre), refl, search needs)
 
--- src/lib.rt:157:17
 array-read-p : tie.Need-array-read-p Inv-loop μ-loop
-array-read-p c = ?
+array-read-p c = search needs
 
--- src/lib.rt:159:13
 returns : tie.Need-returns Inv-loop μ-loop
-returns c = ?
+returns c = let l = c .before .before .loop in let b = c .before .before .before .before .before .before .before .before .before .args .t1 in
+    let m = l .inv .3 in
+    sym (ap (λ (x : Option ℕ). Option·getD x 0) (l .inv .2 ∙ first-none-left (unused b) (names (drop (l .k) (b .waiting)))
+    (names-stop (b .waiting) (l .k) (omega arith) (c .if1 .taken))))
 
--- src/lib.rt:161:18
 sub-i : tie.Need-sub-i Inv-loop μ-loop
-sub-i c = ?
+sub-i c = let l = c .before .before .loop in let g = c .before .before .before .before .before .before .before .before .before .args in
+    let m = l .inv .3 in let n = waiter-range (g .t1) (g .t1 .waiting) (l .k) (omega arith) (c .if1 .left) (l .inv .1) in let h = n .0 in let j = n .1 in h
 
--- src/lib.rt:161:17
 cast-i : tie.Need-cast-i Inv-loop μ-loop
-cast-i c = ?
+cast-i c = let l = c .before .before .loop in let g = c .before .before .before .before .before .before .before .before .before .args in
+    let m = l .inv .3 in let n = waiter-range (g .t1) (g .t1 .waiting) (l .k) (omega arith) (c .if1 .left) (l .inv .1) in let h = n .0 in let j = n .1 in omega arith
 
--- src/lib.rt:162:17
 mul-q : tie.Need-mul-q Inv-loop μ-loop
-mul-q c = ?
+mul-q c = let l = c .before .before .loop in let g = c .before .before .before .before .before .before .before .before .before .args in
+    let m = l .inv .3 in let n = waiter-range (g .t1) (g .t1 .waiting) (l .k) (omega arith) (c .if1 .left) (l .inv .1) in let h = n .0 in let j = n .1 in omega arith
 
--- src/lib.rt:162:17
 element-copy-out-q : tie.Need-element-copy-out-q Inv-loop μ-loop
-element-copy-out-q c = ?
+element-copy-out-q c = let l = c .before .before .loop in let g = c .before .before .before .before .before .before .before .before .before .args in
+    let m = l .inv .3 in let n = waiter-range (g .t1) (g .t1 .waiting) (l .k) (omega arith) (c .if1 .left) (l .inv .1) in let h = n .0 in let j = n .1 in omega arith
 
--- src/lib.rt:164:13
 awaited-requires : tie.Need-awaited-requires Inv-loop μ-loop
-awaited-requires c κs = ?
+awaited-requires c κs = search needs
 
--- src/lib.rt:165:13
 in-use-requires : tie.Need-in-use-requires Inv-loop μ-loop
-in-use-requires c κs = ?
+in-use-requires c κs = let i = c .before .before .before in let l = i .before .before .loop in
+    let g = i .before .before .before .before .before .before .before .before .before .args in let m = l .inv .3 in
+    waiter-range (g .t1) (g .t1 .waiting) (l .k) (omega arith) (i .if1 .left) (l .inv .1)
 
--- src/lib.rt:166:13
 returns-2 : tie.Need-returns-2 Inv-loop μ-loop
-returns-2 c = ?
+returns-2 c =
+    let w = c .before in let a = w .before .before in let i = a .before .before in let l = i .before .before .loop in
+    let u = i .before .before .before .before in let e = u .before .before in let g = e .before .before .before .args in let m = l .inv .3 in
+    let t = waiter-used (g .t1) (g .t1 .waiting) (l .k) (omega arith) (i .if1 .left) (l .inv .1) (e .fill .last .1 .0)
+    (u .uses-of .result) (a .awaited .result) (w .in-use .result) (e .fill .ensures .0) (u .uses-of .ensures) (a .awaited .ensures)
+    (w .in-use .ensures) in
+    sym (rw (sym t ∙ not-true (w .in-use .result) (c .if2 .taken)) at (ap (λ (x : Option ℕ). Option·getD x 0) (l .inv .2
+    ∙ first-names-on (unused (g .t1)) (g .t1 .waiting) (l .k) (omega arith) (i .if1 .left))))
 
--- src/lib.rt:168:9
 add-k : tie.Need-add-k Inv-loop μ-loop
-add-k c = ?
+add-k c = search needs
 
--- src/lib.rt:156:5
 loop-less : tie.Need-loop-less Inv-loop μ-loop
-loop-less c = ?
+loop-less c = search needs
 
--- src/lib.rt:156:5
 loop-again : tie.Need-loop-again Inv-loop μ-loop
-loop-again c = ?
+loop-again c =
+    let w = c .before in let a = w .before .before in let i = a .before .before in let l = i .before .before .loop in
+    let u = i .before .before .before .before in let e = u .before .before in let g = e .before .before .before .args in let m = l .inv .3 in
+    let t = waiter-used (g .t1) (g .t1 .waiting) (l .k) (omega arith) (i .if1 .left) (l .inv .1) (e .fill .last .1 .0)
+    (u .uses-of .result) (a .awaited .result) (w .in-use .result) (e .fill .ensures .0) (u .uses-of .ensures) (a .awaited .ensures)
+    (w .in-use .ensures) in
+    (
+      search needs,
+      ready-left (g .t1) (g .t1 .waiting) (l .k) (omega arith) (i .if1 .left) (l .inv .1),
+      rw (add-one (l .k)) (rw (sym t ∙ not-false (w .in-use .result) (c .if2 .left)) at (l .inv .2
+          ∙ first-names-on (unused (g .t1)) (g .t1 .waiting) (l .k) (omega arith) (i .if1 .left))),
+      m,
+    )
 
--- src/lib.rt:146:1
 returns-3 : tie.Need-returns-3 Inv-loop μ-loop
-returns-3 c = ?
+returns-3 c = let l = c .before .loop in let b = c .before .before .before .before .before .before .before .before .args .t1 in
+    let m = l .inv .3 in
+    sym (ap (λ (x : Option ℕ). Option·getD x 0) (l .inv .2 ∙ first-none-left (unused b) (names (drop (l .k) (b .waiting)))
+    (names-end (b .waiting) (l .k) (omega arith))))
 
 pub oldest-unused-spec : {M : Type 1} → statement M
 oldest-unused-spec =

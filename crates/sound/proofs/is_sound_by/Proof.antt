@@ -144,14 +144,17 @@ returns-6 c = rw (
 
 returns-7 : tie.Need-returns-7
 unfolding sound
-returns-7 c = let e = c .before .before .before in rw (past6 e, eq-eqb (b6 e .favoured) 0 (c .before .if7 .taken)) (c .none-favoured .ensures)
+returns-7 c = let e = c .before .before .before in
+    rw (past6 e, eq-eqb (b6 e .favoured) 0 (c .before .if7 .taken)) (c .none-favoured .ensures)
 
 some-favoured-requires : tie.Need-some-favoured-requires
-some-favoured-requires c κs = let l = c .before .before .before .before .before .before .before .before in l .before .before .standing-set .ensures
+some-favoured-requires c κs = let l = c .before .before .before .before .before .before .before .before in
+    l .before .before .standing-set .ensures
 
 returns-8 : tie.Need-returns-8
 unfolding sound
-returns-8 c = let e = c .before .before .before in rw (past6 e, ne-eqb (b6 e .favoured) 0 (c .before .if7 .left)) (c .some-favoured .ensures)
+returns-8 c = let e = c .before .before .before in
+    rw (past6 e, ne-eqb (b6 e .favoured) 0 (c .before .if7 .left)) (c .some-favoured .ensures)
 
 pub is-sound-by-spec : {M : Type 1} → statement M
 is-sound-by-spec =

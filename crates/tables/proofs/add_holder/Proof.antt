@@ -122,10 +122,10 @@ loop-less c = search needs
 loop-again : tie.Need-loop-again Inv-loop μ-loop
 loop-again c = let s = c .before .before .before .before .before .before in let l = s .loop in
     let a = s .before .before .before .before .before .args in (
-  search needs,
-  joined-more (a .sets .now) (a .i) (a .rows .now) (l .j) (l .rows) (c .join .result) (omega arith) (l .inv .1)
-      (c .join .ensures ∙ ap (joined (rowIn (l .rows) (l .j)) (a .i + 1)) (c .before .before .holds .ensures)),
-)
+      search needs,
+      joined-more (a .sets .now) (a .i) (a .rows .now) (l .j) (l .rows) (c .join .result) (omega arith) (l .inv .1)
+          (c .join .ensures ∙ ap (joined (rowIn (l .rows) (l .j)) (a .i + 1)) (c .before .before .holds .ensures)),
+    )
 
 -- src/lib.rt:71:5
 mul-rows-2 : tie.Need-mul-rows-2 Inv-loop μ-loop
