@@ -127,6 +127,9 @@ fn pass_line(w: Written) -> Written
 {
     let b = w.board;
     let line = b.waiting;
+    if line[0] == 0 {
+        return w;
+    }
     let mut s = w;
     let mut k: usize = 0;
     while k < 32 {
@@ -147,11 +150,14 @@ fn oldest_unused(b: Board) -> u8
     requires { ⌜ Loose b ⌝ }
     ensures { λ r. ⌜ r ≡ Option·getD (candidate b) 0 ⌝ }
 {
+    let line = b.waiting;
+    if line[0] == 0 {
+        return 0;
+    }
     let mut sets = [0u64; 128];
     let mut rows = [0u32; 32];
     tables::fill(b, &mut sets, &mut rows);
     let uses = search::gives::uses_of(b, &sets);
-    let line = b.waiting;
     let mut k: usize = 0;
     while k < 32 {
         let p = line[k];

@@ -16,10 +16,19 @@ use Rattle.settling.proofs.oldest_unused.Statement.{statement}
 use Rattle.settling.proofs.oldest_unused.Tie as tie
 
 abbrev Inv-loop : tie.InvT-loop
-Inv-loop b sets uses line k₀ k = (k ≤ 32) × Ready b (names (drop k line)) × (candidate b ≡ first (unused b) (names (drop k line))) × (length line ≡ 32)
+Inv-loop b line sets uses k₀ k = (k ≤ 32) × Ready b (names (drop k line)) × (candidate b ≡ first (unused b) (names (drop k line))) × (length line ≡ 32)
 
 abbrev μ-loop : tie.MeasureT-loop
-μ-loop b sets uses line k₀ k = 32 - k
+μ-loop b line sets uses k₀ k = 32 - k
+
+array-read-if1 : tie.Need-array-read-if1 Inv-loop μ-loop
+array-read-if1 c = search needs
+
+returns : tie.Need-returns Inv-loop μ-loop
+unfolding candidate
+returns c = let b = c .before .before .args .t1 in let m : length (b .waiting) ≡ 32 = search needs in
+    sym (ap (λ (x : Option ℕ). Option·getD x 0) (first-none-left (unused b) (names (b .waiting))
+    (names-stop (b .waiting) 0 (omega arith) (c .if1 .taken))))
 
 fill-requires : tie.Need-fill-requires Inv-loop μ-loop
 fill-requires c κs = search needs
@@ -29,50 +38,50 @@ uses-of-requires c κs = search needs
 
 loop-holds : tie.Need-loop-holds Inv-loop μ-loop
 unfolding candidate
-loop-holds c = let a = c .before .before .before .before .before .before in (search needs, ready-all (a .args .t1) (a .pre), refl, search needs)
+loop-holds c = let a = c .before .before .before .before .before .before .before in (search needs, ready-all (a .args .t1) (a .pre), refl, search needs)
 
 array-read-p : tie.Need-array-read-p Inv-loop μ-loop
 array-read-p c = search needs
 
-returns : tie.Need-returns Inv-loop μ-loop
-returns c = let l = c .before .before .loop in let b = c .before .before .before .before .before .before .before .before .before .args .t1 in
+returns-2 : tie.Need-returns-2 Inv-loop μ-loop
+returns-2 c = let l = c .before .before .loop in let b = c .before .before .before .before .before .before .before .before .before .before .args .t1 in
     let m = l .inv .3 in
     sym (ap (λ (x : Option ℕ). Option·getD x 0) (l .inv .2 ∙ first-none-left (unused b) (names (drop (l .k) (b .waiting)))
-    (names-stop (b .waiting) (l .k) (omega arith) (c .if1 .taken))))
+    (names-stop (b .waiting) (l .k) (omega arith) (c .if2 .taken))))
 
 sub-i : tie.Need-sub-i Inv-loop μ-loop
-sub-i c = let l = c .before .before .loop in let g = c .before .before .before .before .before .before .before .before .before .args in
-    let m = l .inv .3 in let n = waiter-range (g .t1) (g .t1 .waiting) (l .k) (omega arith) (c .if1 .left) (l .inv .1) in let h = n .0 in let j = n .1 in h
+sub-i c = let l = c .before .before .loop in let g = c .before .before .before .before .before .before .before .before .before .before .args in
+    let m = l .inv .3 in let n = waiter-range (g .t1) (g .t1 .waiting) (l .k) (omega arith) (c .if2 .left) (l .inv .1) in let h = n .0 in let j = n .1 in h
 
 cast-i : tie.Need-cast-i Inv-loop μ-loop
-cast-i c = let l = c .before .before .loop in let g = c .before .before .before .before .before .before .before .before .before .args in
-    let m = l .inv .3 in let n = waiter-range (g .t1) (g .t1 .waiting) (l .k) (omega arith) (c .if1 .left) (l .inv .1) in let h = n .0 in let j = n .1 in omega arith
+cast-i c = let l = c .before .before .loop in let g = c .before .before .before .before .before .before .before .before .before .before .args in
+    let m = l .inv .3 in let n = waiter-range (g .t1) (g .t1 .waiting) (l .k) (omega arith) (c .if2 .left) (l .inv .1) in let h = n .0 in let j = n .1 in omega arith
 
 mul-q : tie.Need-mul-q Inv-loop μ-loop
-mul-q c = let l = c .before .before .loop in let g = c .before .before .before .before .before .before .before .before .before .args in
-    let m = l .inv .3 in let n = waiter-range (g .t1) (g .t1 .waiting) (l .k) (omega arith) (c .if1 .left) (l .inv .1) in let h = n .0 in let j = n .1 in omega arith
+mul-q c = let l = c .before .before .loop in let g = c .before .before .before .before .before .before .before .before .before .before .args in
+    let m = l .inv .3 in let n = waiter-range (g .t1) (g .t1 .waiting) (l .k) (omega arith) (c .if2 .left) (l .inv .1) in let h = n .0 in let j = n .1 in omega arith
 
 element-copy-out-q : tie.Need-element-copy-out-q Inv-loop μ-loop
-element-copy-out-q c = let l = c .before .before .loop in let g = c .before .before .before .before .before .before .before .before .before .args in
-    let m = l .inv .3 in let n = waiter-range (g .t1) (g .t1 .waiting) (l .k) (omega arith) (c .if1 .left) (l .inv .1) in let h = n .0 in let j = n .1 in omega arith
+element-copy-out-q c = let l = c .before .before .loop in let g = c .before .before .before .before .before .before .before .before .before .before .args in
+    let m = l .inv .3 in let n = waiter-range (g .t1) (g .t1 .waiting) (l .k) (omega arith) (c .if2 .left) (l .inv .1) in let h = n .0 in let j = n .1 in omega arith
 
 awaited-requires : tie.Need-awaited-requires Inv-loop μ-loop
 awaited-requires c κs = search needs
 
 in-use-requires : tie.Need-in-use-requires Inv-loop μ-loop
 in-use-requires c κs = let i = c .before .before .before in let l = i .before .before .loop in
-    let g = i .before .before .before .before .before .before .before .before .before .args in let m = l .inv .3 in
-    waiter-range (g .t1) (g .t1 .waiting) (l .k) (omega arith) (i .if1 .left) (l .inv .1)
+    let g = i .before .before .before .before .before .before .before .before .before .before .args in let m = l .inv .3 in
+    waiter-range (g .t1) (g .t1 .waiting) (l .k) (omega arith) (i .if2 .left) (l .inv .1)
 
-returns-2 : tie.Need-returns-2 Inv-loop μ-loop
-returns-2 c =
+returns-3 : tie.Need-returns-3 Inv-loop μ-loop
+returns-3 c =
     let w = c .before in let a = w .before .before in let i = a .before .before in let l = i .before .before .loop in
-    let u = i .before .before .before .before in let e = u .before .before in let g = e .before .before .before .args in let m = l .inv .3 in
-    let t = waiter-used (g .t1) (g .t1 .waiting) (l .k) (omega arith) (i .if1 .left) (l .inv .1) (e .fill .last .1 .0)
+    let u = i .before .before .before in let e = u .before .before in let g = e .before .before .before .before .before .args in let m = l .inv .3 in
+    let t = waiter-used (g .t1) (g .t1 .waiting) (l .k) (omega arith) (i .if2 .left) (l .inv .1) (e .fill .last .1 .0)
     (u .uses-of .result) (a .awaited .result) (w .in-use .result) (e .fill .ensures .0) (u .uses-of .ensures) (a .awaited .ensures)
     (w .in-use .ensures) in
-    sym (rw (sym t ∙ not-true (w .in-use .result) (c .if2 .taken)) at (ap (λ (x : Option ℕ). Option·getD x 0) (l .inv .2
-    ∙ first-names-on (unused (g .t1)) (g .t1 .waiting) (l .k) (omega arith) (i .if1 .left))))
+    sym (rw (sym t ∙ not-true (w .in-use .result) (c .if3 .taken)) at (ap (λ (x : Option ℕ). Option·getD x 0) (l .inv .2
+    ∙ first-names-on (unused (g .t1)) (g .t1 .waiting) (l .k) (omega arith) (i .if2 .left))))
 
 add-k : tie.Need-add-k Inv-loop μ-loop
 add-k c = search needs
@@ -83,20 +92,20 @@ loop-less c = search needs
 loop-again : tie.Need-loop-again Inv-loop μ-loop
 loop-again c =
     let w = c .before in let a = w .before .before in let i = a .before .before in let l = i .before .before .loop in
-    let u = i .before .before .before .before in let e = u .before .before in let g = e .before .before .before .args in let m = l .inv .3 in
-    let t = waiter-used (g .t1) (g .t1 .waiting) (l .k) (omega arith) (i .if1 .left) (l .inv .1) (e .fill .last .1 .0)
+    let u = i .before .before .before in let e = u .before .before in let g = e .before .before .before .before .before .args in let m = l .inv .3 in
+    let t = waiter-used (g .t1) (g .t1 .waiting) (l .k) (omega arith) (i .if2 .left) (l .inv .1) (e .fill .last .1 .0)
     (u .uses-of .result) (a .awaited .result) (w .in-use .result) (e .fill .ensures .0) (u .uses-of .ensures) (a .awaited .ensures)
     (w .in-use .ensures) in
     (
       search needs,
-      ready-left (g .t1) (g .t1 .waiting) (l .k) (omega arith) (i .if1 .left) (l .inv .1),
-      rw (add-one (l .k)) (rw (sym t ∙ not-false (w .in-use .result) (c .if2 .left)) at (l .inv .2
-          ∙ first-names-on (unused (g .t1)) (g .t1 .waiting) (l .k) (omega arith) (i .if1 .left))),
+      ready-left (g .t1) (g .t1 .waiting) (l .k) (omega arith) (i .if2 .left) (l .inv .1),
+      rw (add-one (l .k)) (rw (sym t ∙ not-false (w .in-use .result) (c .if3 .left)) at (l .inv .2
+          ∙ first-names-on (unused (g .t1)) (g .t1 .waiting) (l .k) (omega arith) (i .if2 .left))),
       m,
     )
 
-returns-3 : tie.Need-returns-3 Inv-loop μ-loop
-returns-3 c = let l = c .before .loop in let b = c .before .before .before .before .before .before .before .before .args .t1 in
+returns-4 : tie.Need-returns-4 Inv-loop μ-loop
+returns-4 c = let l = c .before .loop in let b = c .before .before .before .before .before .before .before .before .before .args .t1 in
     let m = l .inv .3 in
     sym (ap (λ (x : Option ℕ). Option·getD x 0) (l .inv .2 ∙ first-none-left (unused b) (names (drop (l .k) (b .waiting)))
     (names-end (b .waiting) (l .k) (omega arith))))
@@ -107,19 +116,21 @@ oldest-unused-spec =
     (tie.spec
     Inv-loop
     μ-loop
+    array-read-if1
+    returns
     fill-requires
     uses-of-requires
     loop-holds
     array-read-p
-    returns
+    returns-2
     sub-i
     cast-i
     mul-q
     element-copy-out-q
     awaited-requires
     in-use-requires
-    returns-2
+    returns-3
     add-k
     loop-less
     loop-again
-    returns-3)
+    returns-4)

@@ -3,7 +3,7 @@ use mathlib.Core.Path.{_≡_, refl}
 use Prim.Native.Nat.{_-_, _≤_}
 use native.Mathlib.Omega.{arith}
 use lib.ListN.{length}
-use Rattle.lines.proofs.Laws.{names-end}
+use Rattle.lines.proofs.Laws.{names-stop, names-end}
 use Rattle.settling.proofs.Laws.{PassAt, pass-start, pass-to, pass-over, pass-range, pass-next, give-fits}
 use borrow.Author.Needs.{needs}
 use Rattle.settling.proofs.pass_line.Statement.{statement}
@@ -15,15 +15,22 @@ Inv-loop line s₀ k₀ s k = (k ≤ 32) × PassAt s₀ line k s × (length line
 abbrev μ-loop : tie.MeasureT-loop
 μ-loop line s₀ k₀ s k = 32 - k
 
+array-read-if1 : tie.Need-array-read-if1 Inv-loop μ-loop
+array-read-if1 c = search needs
+
+returns : tie.Need-returns Inv-loop μ-loop
+returns c = let a = c .before .before .before in let w = a .args .w in let m : length (w .board .waiting) ≡ 32 = search needs in
+    pass-over w w (w .board .waiting) 0 (pass-start w (a .pre .0) (a .pre .1)) (names-stop (w .board .waiting) 0 (omega arith) (c .if1 .taken))
+
 loop-holds : tie.Need-loop-holds Inv-loop μ-loop
-loop-holds c = let a = c .before .before in (search needs, pass-start (a .args .w) (a .pre .0) (a .pre .1), search needs)
+loop-holds c = let a = c .before .before .before in (search needs, pass-start (a .args .w) (a .pre .0) (a .pre .1), search needs)
 
 next-given-requires : tie.Need-next-given-requires Inv-loop μ-loop
 next-given-requires c κs = let l = c .before .before .loop in (l .inv .0, l .inv .1 .0)
 
-returns : tie.Need-returns Inv-loop μ-loop
-returns c = let x = c .before .next-given in let l = c .before .before .before .before .loop in
-    let w = c .before .before .before .before .before .before .before .args .w in let m = l .inv .2 in
+returns-2 : tie.Need-returns-2 Inv-loop μ-loop
+returns-2 c = let x = c .before .next-given in let l = c .before .before .before .before .loop in
+    let w = c .before .before .before .before .before .before .before .before .args .w in let m = l .inv .2 in
     pass-over w (l .s) (w .board .waiting) (x .result) (pass-to w (l .s) (w .board .waiting) (l .k) (x .result) (l .inv .1) (x .ensures))
     (names-end (w .board .waiting) (x .result) (omega arith))
 
@@ -32,7 +39,7 @@ array-read-p c = search needs
 
 give-waiter-requires : tie.Need-give-waiter-requires Inv-loop μ-loop
 give-waiter-requires c κs = let x = c .before .next-given in let l = c .before .before .before .before .loop in
-    let w = c .before .before .before .before .before .before .before .args .w in let m = l .inv .2 in
+    let w = c .before .before .before .before .before .before .before .before .args .w in let m = l .inv .2 in
     let g = x .ensures .gives (omega arith) in
     let r = pass-range w (l .s) (w .board .waiting) (x .result) (omega arith) (g .0)
     (pass-to w (l .s) (w .board .waiting) (l .k) (x .result) (l .inv .1) (x .ensures)) in
@@ -43,20 +50,20 @@ add-k c = search needs
 
 loop-less : tie.Need-loop-less Inv-loop μ-loop
 loop-less c = let x = c .before .before .next-given in let l = c .before .before .before .before .before .loop in
-    let o = x .ensures .onward in let n = x .ensures .within in let j = c .before .if1 .left in omega arith
+    let o = x .ensures .onward in let n = x .ensures .within in let j = c .before .if2 .left in omega arith
 
 loop-again : tie.Need-loop-again Inv-loop μ-loop
 loop-again c = let x = c .before .before .next-given in let l = c .before .before .before .before .before .loop in
-    let w = c .before .before .before .before .before .before .before .before .args .w in let m = l .inv .2 in
-    let h = c .before .if1 .left in let g = x .ensures .gives (omega arith) in (
+    let w = c .before .before .before .before .before .before .before .before .before .args .w in let m = l .inv .2 in
+    let h = c .before .if2 .left in let g = x .ensures .gives (omega arith) in (
       search needs,
       pass-next w (l .s) (w .board .waiting) (x .result) (omega arith) (g .0)
           (pass-to w (l .s) (w .board .waiting) (l .k) (x .result) (l .inv .1) (x .ensures)) (c .give-waiter .result) (c .give-waiter .ensures),
       m,
     )
 
-returns-2 : tie.Need-returns-2 Inv-loop μ-loop
-returns-2 c = let l = c .before .loop in let w = c .before .before .before .before .args .w in let m = l .inv .2 in
+returns-3 : tie.Need-returns-3 Inv-loop μ-loop
+returns-3 c = let l = c .before .loop in let w = c .before .before .before .before .before .args .w in let m = l .inv .2 in
     pass-over w (l .s) (w .board .waiting) (l .k) (l .inv .1) (names-end (w .board .waiting) (l .k) (omega arith))
 
 pub pass-line-spec : {M : Type 1} → statement M
@@ -65,12 +72,14 @@ pass-line-spec =
     (tie.spec
     Inv-loop
     μ-loop
+    array-read-if1
+    returns
     loop-holds
     next-given-requires
-    returns
+    returns-2
     array-read-p
     give-waiter-requires
     add-k
     loop-less
     loop-again
-    returns-2)
+    returns-3)
