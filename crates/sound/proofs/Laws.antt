@@ -49,9 +49,10 @@ pub waiter-named : (b : Board) (l : List ℕ) (k : ℕ) → k < length l → get
     → ((1 ≤ getD l k 0) × (getD l k 0 ≤ 32)) × (admits b (getD l k 0) ≡ true)
 waiter-named b l k h ne e =
     let n = and-left (rightName b false (getD l k 0)) (all (rightName b false) (names (drop (suc k) l)))
-    (sym (all-names-on l k (rightName b false) h ne) ∙ e) in
-    (program-range (getD l k 0) (and-left (isProgram (getD l k 0)) _ n),
-    waiting-in (at b (getD l k 0) .standing) (and-right (isProgram (getD l k 0)) _ n))
+    (sym (all-names-on l k (rightName b false) h ne) ∙ e) in (
+      program-range (getD l k 0) (and-left (isProgram (getD l k 0)) _ n),
+      waiting-in (at b (getD l k 0) .standing) (and-right (isProgram (getD l k 0)) _ n),
+    )
 
 -- the names of a sound line of waiting programs are such
 pub line-waiters : (b : Board) (l : List ℕ) → lineSound l (standsAt b false) ≡ true → all (rightName b false) (names l) ≡ true

@@ -160,9 +160,12 @@ abbrev pub ClearedTo : ℕ → List ℕ → Type 0
 ClearedTo n rows = (length rows ≡ 32) × ((i : ℕ) → i < n → getD rows i 0 ≡ 0)
 
 pub cleared-more : (n : ℕ) (rows : List ℕ) → n < 32 → ClearedTo n rows → ClearedTo (n + 1) (set rows n 0)
-cleared-more n rows h (k, f) = (length-set rows n 0 ∙ k, λ i m. by-test (eqb i n)
-    (λ t. let z : i ≡ n = eqb-true i n t in rw z (getD-set-same rows n 0 0 (omega arith)))
-    (λ t. let z : i ≢ n = eqb-false i n t in getD-set-other rows n i 0 0 z ∙ f i (omega arith)))
+cleared-more n rows h (k, f) = (
+  length-set rows n 0 ∙ k,
+  λ i m. by-test (eqb i n)
+      (λ t. let z : i ≡ n = eqb-true i n t in rw z (getD-set-same rows n 0 0 (omega arith)))
+      (λ t. let z : i ≢ n = eqb-false i n t in getD-set-other rows n i 0 0 z ∙ f i (omega arith)),
+)
 
 -- ---- sets of the numbers that pass a test
 
@@ -273,8 +276,11 @@ module _ (rows : List ℕ) (among : ProgramSet) where
       × ((x : ℕ) → hasProgram s x ≡ true → Chain rows among start x)
 
   pub sofar-start : (set start : ProgramSet) → start ≡ commonOf set among → SoFar start start
-  sofar-start set start e = (λ x h. h, λ x h. Chain.first h (and-right (hasProgram set x) (hasProgram among x)
-      (sym (common-has set among x) ∙ ap (λ (s : ProgramSet). hasProgram s x) (sym e) ∙ h)))
+  sofar-start set start e = (
+    λ x h. h,
+    λ x h. Chain.first h (and-right (hasProgram set x) (hasProgram among x)
+        (sym (common-has set among x) ∙ ap (λ (s : ProgramSet). hasProgram s x) (sym e) ∙ h)),
+  )
 
   pub sofar-more : (start s : ProgramSet) → SoFar start s → SoFar start (grownBy s)
   sofar-more start s (f, g) = (
@@ -287,9 +293,12 @@ module _ (rows : List ℕ) (among : ProgramSet) where
   )
 
   pub grown-le : (s : ProgramSet) → s .bits ≤ grownBy s .bits
-  grown-le s = omega (arith, or-add-and (s .bits) (bitAnd (holdersOf rows s 32 .bits) (among .bits)),
-      and-le-l (bitAnd (holdersOf rows s 32 .bits) (among .bits)) (s .bits),
-      and-comm (s .bits) (bitAnd (holdersOf rows s 32 .bits) (among .bits)))
+  grown-le s = omega (
+    arith,
+    or-add-and (s .bits) (bitAnd (holdersOf rows s 32 .bits) (among .bits)),
+    and-le-l (bitAnd (holdersOf rows s 32 .bits) (among .bits)) (s .bits),
+    and-comm (s .bits) (bitAnd (holdersOf rows s 32 .bits) (among .bits)),
+  )
 
   -- where a round adds nobody, all are reached
   pub reached-all : (set start s : ProgramSet) → start ≡ commonOf set among → SoFar start s → grownBy s .bits ≡ s .bits

@@ -77,9 +77,7 @@ pub fn claimants(sets: &[u64; 128], f: u8, both: bool) -> ProgramSet
     while p <= 32 {
         let i = (p - 1) as usize;
         let v = FileSet { bits: sets[i] };
-        let q = FileSet {
-            bits: sets[32 + i],
-        };
+        let q = FileSet { bits: sets[32 + i] };
         let yes = is_claimed(v, q, f, both);
         set = crate::join(set, p, yes);
         p += 1;

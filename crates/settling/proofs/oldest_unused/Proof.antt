@@ -95,8 +95,7 @@ loop-again c =
     let u = i .before .before .before in let e = u .before .before in let g = e .before .before .before .before .before .args in let m = l .inv .3 in
     let t = waiter-used (g .t1) (g .t1 .waiting) (l .k) (omega arith) (i .if2 .left) (l .inv .1) (e .fill .last .1 .0)
     (u .uses-of .result) (a .awaited .result) (w .in-use .result) (e .fill .ensures .0) (u .uses-of .ensures) (a .awaited .ensures)
-    (w .in-use .ensures) in
-    (
+    (w .in-use .ensures) in (
       search needs,
       ready-left (g .t1) (g .t1 .waiting) (l .k) (omega arith) (i .if2 .left) (l .inv .1),
       rw (add-one (l .k)) (rw (sym t ∙ not-false (w .in-use .result) (c .if3 .left)) at (l .inv .2

@@ -27,9 +27,12 @@ order c = let u = c .before .before .before in let f = u .before .before in
 
 is-sound-by-requires : tie.Need-is-sound-by-requires
 is-sound-by-requires c κs = let i = c .before .before in let o = i .before in let u = o .before .before .before in let f = u .before .before in
-    let b = f .before .before .before .args .b in
-    (f .fill .ensures .0, f .fill .ensures .1, u .uses-of .ensures,
-    i .is-found .ensures ∙ ap (λ (z : Order). isFound (z .kind)) (order o) ∙ has-found (carried b))
+    let b = f .before .before .before .args .b in (
+      f .fill .ensures .0,
+      f .fill .ensures .1,
+      u .uses-of .ensures,
+      i .is-found .ensures ∙ ap (λ (z : Order). isFound (z .kind)) (order o) ∙ has-found (carried b),
+    )
 
 returns : tie.Need-returns
 returns c = (c .is-sound-by .ensures, order (c .before .before .before .before))

@@ -35,9 +35,11 @@ loop-less c = let l = c .before .before .before .before .loop in let a = c .befo
     omega (arith, grown-le (a .rows .now) (a .among) (l .seen), l .inv .2)
 
 loop-again : tie.Need-loop-again Inv-loop μ-loop
-loop-again c = let l = c .before .before .before .before .loop in let a = c .before .before .before .before .before .before .before .args in
-    (subst (SoFar (a .rows .now) (a .among) _) (sym (l .inv .1)) (sofar-more (a .rows .now) (a .among) _ (l .seen) (l .inv .0)),
-    c .grown2 .ensures, search needs)
+loop-again c = let l = c .before .before .before .before .loop in let a = c .before .before .before .before .before .before .before .args in (
+  subst (SoFar (a .rows .now) (a .among) _) (sym (l .inv .1)) (sofar-more (a .rows .now) (a .among) _ (l .seen) (l .inv .0)),
+  c .grown2 .ensures,
+  search needs,
+)
 
 returns : tie.Need-returns Inv-loop μ-loop
 returns c = let l = c .before .before .before .loop in let s = c .before .before .before .before .before in let a = s .before .args in
