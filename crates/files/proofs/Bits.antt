@@ -5,13 +5,13 @@ use native.Mathlib.Nat.{div-div-eq-div-mul, mul-comm, pow-suc, div-one, one-mul,
 use native.Mathlib.Omega.{arith}
 use mathlib.Core.Path.{_≡_, refl, sym, ap, ap₂, _∙_}
 use mathlib.Core.Logic.{_≢_, _↔_}
-use mathlib.Core.Bool.{Bool, true, false, _&&_}
+use mathlib.Core.Bool.{Bool, true, false, not, _&&_, _||_}
 use lib.Dec.{eqb, leb, ltb}
 use lib.Pow.{pow-lt, pow-add}
 use lib.Bits.{bitAnd, bitOr, bitXor, differ, and-step, or-step, xor-step, and-high, or-add-and, xor-add-and, and-le-l, and-comm}
 use borrow.Author.Tests.{eq-eqb, ne-eqb, eqb-true, eqb-false, leb-true, le-leb, ltb-true, ltb-false}
 use Rattle.files.specs.Bits.{hasBit, withBit, withoutBit, share, covers, isNumber, hasNumber, withNumber, withoutNumber}
-use Rattle.files.proofs.Tests.{by-test, never, and-left, and-right, and-both, no-true, same-test}
+use Rattle.files.proofs.Tests.{by-test, never, or-cases, and-left, and-right, and-both, no-true, same-test}
 
 -- ---- bits by recursion
 
@@ -202,6 +202,40 @@ of-share a b e =
     (λ u. let (i, k) = some-bit (bitAnd a b) (bitAnd a b) (omega arith) (eqb-false (bitAnd a b) 0 u) in
     let c = bit-and a b i in let x = bit-lt a i in let y = bit-lt b i in
     (i, of-one a i (omega arith), of-one b i (omega arith)))
+
+pub or-has : (a b i : ℕ) → hasBit (bitOr a b) i ≡ (hasBit a i || hasBit b i)
+or-has a b i =
+    let c = bit-or a b i in let x = bit-lt a i in let y = bit-lt b i in
+    same-test (hasBit (bitOr a b) i) (hasBit a i || hasBit b i)
+    (λ e. let d = one-of (bitOr a b) i e in by-test (hasBit a i) (λ u. rw u)
+    (λ u. let n : bit a i ≢ 1 = (λ z. never (of-one a i z) u) in rw u (of-one b i (omega arith))))
+    (λ e. or-cases (hasBit a i) (hasBit b i) e (λ u. let d = one-of a i u in of-one (bitOr a b) i (omega arith))
+    (λ u. let d = one-of b i u in of-one (bitOr a b) i (omega arith)))
+
+pub and-has : (a b i : ℕ) → hasBit (bitAnd a b) i ≡ (hasBit a i && hasBit b i)
+and-has a b i =
+    let c = bit-and a b i in let x = bit-lt a i in let y = bit-lt b i in
+    same-test (hasBit (bitAnd a b) i) (hasBit a i && hasBit b i)
+    (λ e. let d = one-of (bitAnd a b) i e in and-both (hasBit a i) (hasBit b i) (of-one a i (omega arith)) (of-one b i (omega arith)))
+    (λ e. let d = one-of a i (and-left (hasBit a i) (hasBit b i) e) in
+    let f = one-of b i (and-right (hasBit a i) (hasBit b i) e) in of-one (bitAnd a b) i (omega arith))
+
+-- two numbers or-ed are 0 exactly if both are
+pub or-none : (a b : ℕ) → not (eqb (bitOr a b) 0) ≡ (not (eqb a 0) || not (eqb b 0))
+or-none a b =
+    by-test (eqb a 0)
+    (λ x. let i : a ≡ 0 = eqb-true a 0 x in by-test (eqb b 0)
+    (λ y. let j : b ≡ 0 = eqb-true b 0 y in
+    let e : bitOr a b ≡ 0 = omega (arith, or-add-and a b, and-le-l a b) in rw (x, y, eq-eqb (bitOr a b) 0 e))
+    (λ y. let j : b ≢ 0 = eqb-false b 0 y in
+    let e : bitOr a b ≢ 0 = (λ d. omega (arith, or-add-and a b, and-le-l a b)) in rw (x, y, ne-eqb (bitOr a b) 0 e)))
+    (λ x. let i : a ≢ 0 = eqb-false a 0 x in
+    let k : bitAnd a b ≤ b = rw (and-comm b a) at (and-le-l b a) in
+    let e : bitOr a b ≢ 0 = (λ d. omega (arith, or-add-and a b)) in rw (x, ne-eqb (bitOr a b) 0 e))
+
+-- nothing is shared with 0
+pub zero-share : (a b : ℕ) → a ≡ 0 → share a b ≡ false
+zero-share a b e = let d : bitAnd a b ≡ 0 = omega (arith, and-le-l a b) in rw (eq-eqb (bitAnd a b) 0 d)
 
 pub of-covers : (a b : ℕ) → covers a b ≡ true → (i : ℕ) → hasBit a i ≡ true → hasBit b i ≡ true
 of-covers a b e i x =

@@ -22,108 +22,13 @@ use Rattle.rules.specs.declared.Board.{Board}
 use Rattle.rules.specs.Lists.{rising, any, all, keep, first, found, withFound, without, padded}
 use Rattle.rules.specs.Boards.{everyone, at, admitted, isAdmitted}
 use Rattle.rules.specs.Orders.{heldBack, carriedFrom, carried}
-use Rattle.search.specs.declared.ProgramSet.{ProgramSet}
+use Rattle.tables.specs.declared.ProgramSet.{ProgramSet}
 use Rattle.search.specs.declared.Search.{Search}
 use Rattle.search.specs.declared.Order.{Order}
-use Rattle.search.specs.ProgramSets.{noPrograms, hasProgram, withProgram, withoutProgram, programsMeet}
-use Rattle.search.specs.Rows.{joined, packed, stops, holders, RowsOf, admits, admittedSet, free, lowest, orderFrom, placed, asOrder}
-
--- ---- the numbers from p to 32
-
-pub rising-step : (p : ℕ) → p ≤ 32 → rising (33 - p) p ≡ p ∷ rising (33 - suc p) (suc p)
-unfolding rising
-rising-step p h = let e : 33 - p ≡ suc (33 - suc p) = omega arith in rw e
-
-pub rising-end : (p : ℕ) → 32 < p → rising (33 - p) p ≡ []
-unfolding rising
-rising-end p h = let e : 33 - p ≡ 0 = omega arith in rw e
-
-module _ (t : ℕ → Bool) (p : ℕ) where
-  pub any-step : p ≤ 32 → any t (rising (33 - p) p) ≡ (t p || any t (rising (33 - suc p) (suc p)))
-  unfolding any
-  any-step h = ap (any t) (rising-step p h)
-
-  pub any-end : 32 < p → any t (rising (33 - p) p) ≡ false
-  unfolding any
-  any-end h = ap (any t) (rising-end p h)
-
-  pub all-step : p ≤ 32 → all t (rising (33 - p) p) ≡ (t p && all t (rising (33 - suc p) (suc p)))
-  unfolding all
-  all-step h = ap (all t) (rising-step p h)
-
-  pub all-end : 32 < p → all t (rising (33 - p) p) ≡ true
-  unfolding all
-  all-end h = ap (all t) (rising-end p h)
-
-  pub first-step : p ≤ 32 → first t (rising (33 - p) p) ≡ cond (t p) (some p) (first t (rising (33 - suc p) (suc p)))
-  unfolding first
-  first-step h = ap (first t) (rising-step p h)
-
-  pub first-end : 32 < p → first t (rising (33 - p) p) ≡ none
-  unfolding first
-  first-end h = ap (first t) (rising-end p h)
-
-  pub keep-more : p ≤ 32 → t p ≡ true → length (keep t (rising (33 - p) p)) ≡ suc (length (keep t (rising (33 - suc p) (suc p))))
-  unfolding keep
-  keep-more h e = rw (rising-step p h, e)
-
-  pub keep-less : p ≤ 32 → t p ≡ false → length (keep t (rising (33 - p) p)) ≡ length (keep t (rising (33 - suc p) (suc p)))
-  unfolding keep
-  keep-less h e = rw (rising-step p h, e)
-
-  pub keep-end : 32 < p → length (keep t (rising (33 - p) p)) ≡ 0
-  unfolding keep
-  keep-end h = rw (rising-end p h)
-
--- ---- sets of the numbers that pass a test
-
--- the set of those up to i
-pub packed-more : (t : ℕ → Bool) (i : ℕ) (s r : ProgramSet) → 1 ≤ i → s ≡ packed t (i - 1) → r ≡ joined s i (t i) → r ≡ packed t (i + 1 - 1)
-unfolding packed
-packed-more t zero s r h e k = absurd (omega arith)
-packed-more t (suc i) s r h e k =
-    let a : suc i + 1 - 1 ≡ suc i = omega arith in
-    let z : suc i - 1 ≡ i = omega arith in
-    rw a (k ∙ ap (λ (x : ProgramSet). joined x (suc i) (t (suc i))) (e ∙ ap (packed t) z))
-
--- and of all
-pub packed-all : (t : ℕ → Bool) (i : ℕ) (s : ProgramSet) → i ≡ 33 → s ≡ packed t (i - 1) → s ≡ packed t 32
-packed-all t i s h e = e ∙ ap (λ (x : ℕ). packed t (x - 1)) h
-
--- ---- members of a packed set
-
--- a bit of a packed set is that of a number that passes the test
-packed-bit : (t : ℕ → Bool) (n i : ℕ) → n ≤ 32 → hasBit (packed t n .bits) i ≡ true → (i < n) × (t (suc i) ≡ true)
-unfolding packed
-packed-bit t zero i h e = never e (zero-has i)
-packed-bit t (suc n) i h e =
-    by-test (t (suc n))
-    (λ y. by-test (eqb i n) (λ d. let z : i ≡ n = eqb-true i n d in (omega arith, ap (λ x. t (suc x)) z ∙ y))
-    (λ d. let z : i ≢ n = eqb-false i n d in
-    let k : suc n - 1 ≡ n = omega arith in
-    let r = packed-bit t n i (omega arith) (with-only (packed t n .bits) n i (rw (y, is-number 32 (suc n) (omega arith) h, k) at e) z) in
-    (omega (arith, r .0), r .1)))
-    (λ y. let r = packed-bit t n i (omega arith) (rw y at e) in (omega (arith, r .0), r .1))
-
-pub packed-has : (t : ℕ → Bool) (n i : ℕ) → n ≤ 32 → 1 ≤ i → i ≤ n → hasProgram (packed t n) i ≡ t i
-unfolding packed
-packed-has t zero i m l h = absurd (omega arith)
-packed-has t (suc n) i m l h =
-    by-test (eqb i (suc n))
-    (λ e. let z : i ≡ suc n = eqb-true i (suc n) e in rw z last)
-    (λ e. let z : i ≢ suc n = eqb-false i (suc n) e in
-    by-test (t (suc n))
-    (λ y. rw y (with-number-other 32 (packed t n .bits) (suc n) i z ∙ packed-has t n i (omega arith) l (omega arith)))
-    (λ y. rw y (packed-has t n i (omega arith) l (omega arith))))
-  where
-    is : isNumber 32 (suc n) ≡ true
-    is = is-number 32 (suc n) (omega arith) m
-
-    last : hasProgram (joined (packed t n) (suc n) (t (suc n))) (suc n) ≡ t (suc n)
-    last =
-        by-test (t (suc n)) (λ y. rw y (with-number-same 32 (packed t n .bits) (suc n) is))
-        (λ y. rw y (no-true (hasProgram (packed t n) (suc n)) (λ d. let k : suc n - 1 ≡ n = omega arith in
-        let r = packed-bit t n n (omega arith) (rw k at (has-bit 32 (packed t n .bits) (suc n) d)) .0 in omega arith)))
+use Rattle.tables.specs.ProgramSets.{noPrograms, hasProgram, withProgram, withoutProgram, programsMeet}
+use Rattle.tables.specs.Tables.{packed, stops, holders, rowOf, RowsOf}
+use Rattle.tables.proofs.Laws.{packed-bit, packed-has}
+use Rattle.search.specs.Rows.{isFound, RowsAt, admits, admittedSet, free, lowest, orderFrom, placed, asOrder}
 
 -- ---- tests over a range of numbers
 
@@ -221,7 +126,7 @@ left-without l p h =
         ∙ sym (ap (hasProgram (withoutProgram l p)) z ∙ without-number-same 32 (l .bits) p)))
         (λ y. let z : x ≢ p = eqb-false x p y in rw y (and-true (hasProgram l x) ∙ sym (without-number-other 32 (l .bits) p x z)))
 
-pub first-is : (b : Board) (rows : List ProgramSet) (l : ProgramSet) → RowsOf b rows
+pub first-is : (b : Board) (rows : List ℕ) (l : ProgramSet) → RowsAt b rows
     → first (λ p. not (heldBack b (keep (hasProgram l) everyone) p)) (keep (hasProgram l) everyone) ≡ first (free rows l) everyone
 unfolding everyone
 first-is b rows l f =
@@ -233,7 +138,7 @@ first-from : (t : ℕ → Bool) (p : ℕ) → first t everyone ≡ some p → 1 
 unfolding everyone
 first-from t p e = first-in t 32 1 p e .0
 
-pub order-is : (b : Board) (rows : List ProgramSet) → RowsOf b rows → (n : ℕ) (l : ProgramSet)
+pub order-is : (b : Board) (rows : List ℕ) → RowsAt b rows → (n : ℕ) (l : ProgramSet)
     → carriedFrom n b (keep (hasProgram l) everyone) ≡ orderFrom n rows l
 unfolding carriedFrom orderFrom
 order-is b rows f zero l = refl
@@ -248,20 +153,20 @@ admitted-is b = keep-same (admits b) (hasProgram (packed (admits b) 32)) 32 1
     (λ p k h. sym (packed-has (admits b) 32 p (omega arith) k (omega arith)))
 
 -- the search from the admitted programs is the carried order
-pub carried-is : (b : Board) (rows : List ProgramSet) → RowsOf b rows → orderFrom (length (admitted b)) rows (admittedSet b) ≡ carried b
+pub carried-is : (b : Board) (rows : List ℕ) → RowsAt b rows → orderFrom (length (admitted b)) rows (admittedSet b) ≡ carried b
 unfolding carried
 carried-is b rows f =
     sym (ap (carriedFrom (length (admitted b)) b) (admitted-is b) ∙ order-is b rows f (length (admitted b)) (admittedSet b))
 
 -- ---- the lowest
 
-pub lowest-none : (rows : List ProgramSet) (l : ProgramSet) → lowest rows l ≡ 0 → first (free rows l) everyone ≡ none
+pub lowest-none : (rows : List ℕ) (l : ProgramSet) → lowest rows l ≡ 0 → first (free rows l) everyone ≡ none
 unfolding lowest everyone
 lowest-none rows l e =
     by-option (first (free rows l) (rising 32 1)) (λ z. z)
     (λ p z. let a = first-in (free rows l) 32 1 p z .0 in let w : p ≡ 0 = rw z at e in absurd (omega arith))
 
-pub lowest-some : (rows : List ProgramSet) (l : ProgramSet) (p : ℕ) → p ≡ lowest rows l → p ≢ 0 → first (free rows l) everyone ≡ some p
+pub lowest-some : (rows : List ℕ) (l : ProgramSet) (p : ℕ) → p ≡ lowest rows l → p ≢ 0 → first (free rows l) everyone ≡ some p
 unfolding lowest everyone
 lowest-some rows l p e n =
     by-option (first (free rows l) (rising 32 1))
@@ -298,7 +203,7 @@ placed-more at k p (some l) h =
 
 -- ---- one call of the search
 
-module _ (rows : List ProgramSet) (l : ProgramSet) (at : List ℕ) where
+module _ (rows : List ℕ) (l : ProgramSet) (at : List ℕ) where
   pub order-done : (n k : ℕ) → n ≡ 0 → _≡_ {A = Order} (record { kind = Search.Found k; at = at }) (placed at k (orderFrom n rows l))
   unfolding orderFrom
   order-done n k e = rw e (placed-none at k)
@@ -316,24 +221,13 @@ module _ (rows : List ProgramSet) (l : ProgramSet) (at : List ℕ) where
   order-more (suc n) k p ne e z h =
       rw (lowest-some rows l p e z, sub-one (suc n)) (placed-more at k p (orderFrom n rows (withoutProgram l p)) h)
 
--- ---- the rows, one after another
+-- ---- the rows
 
--- the rows up to p are written
-abbrev pub RowsTo : Board → ℕ → List ProgramSet → Type 0
-RowsTo b p rows = (i : ℕ) → 1 ≤ i → i < p → getD rows (i - 1) noPrograms ≡ holders b i
-
-pub rows-more : (b : Board) (p : ℕ) (rows : List ProgramSet) (r : ProgramSet) → 1 ≤ p → p - 1 < length rows
-    → r ≡ holders b p → RowsTo b p rows → RowsTo b (p + 1) (set rows (p - 1) r)
-rows-more b p rows r l h e f i k m =
-    by-test (eqb i p)
-    (λ y. let z : i ≡ p = eqb-true i p y in rw z (getD-set-same rows (p - 1) r noPrograms h ∙ e))
-    (λ y. let z : i ≢ p = eqb-false i p y in getD-set-other rows (p - 1) (i - 1) r noPrograms (omega arith) ∙ f i k (omega arith))
+pub rows-at : (b : Board) (rows : List ℕ) → RowsOf b rows → RowsAt b rows
+unfolding holders
+rows-at b rows f p h k = let z : suc (p - 1) ≡ p = omega arith in f .1 (p - 1) (omega arith) ∙ ap (λ (x : ℕ). packed (stops b x) 32) z
 
 -- ---- whether an order was found
-
-abbrev pub isFound : Search → Bool
-isFound (Search.Found n) = true
-isFound Search.Stuck = false
 
 pub has-found : (o : Option (List ℕ)) → isFound (asOrder o .kind) ≡ found o
 has-found none = refl

@@ -1,3 +1,3 @@
 -- The definitions that the contracts of search cite.
-pub mod ProgramSets
 pub mod Rows
+pub mod Gives

@@ -9,34 +9,18 @@ use lib.Dec.{eqb}
 use lib.ListN.{length, getD, take, drop, replicate}
 use Rattle.rules.specs.declared.Program.{Program}
 use Rattle.rules.specs.declared.Board.{Board}
-use Rattle.rules.specs.Lists.{first, withFound, padded}
+use Rattle.rules.specs.Lists.{first, found, withFound, padded}
 use Rattle.rules.specs.Boards.{everyone, at, isAdmitted}
-use Rattle.rules.specs.Orders.{conflict, holdsBack}
-use Rattle.search.specs.declared.ProgramSet.{ProgramSet}
+use Rattle.rules.specs.Orders.{conflict, carried, safe}
+use Rattle.tables.specs.declared.ProgramSet.{ProgramSet}
 use Rattle.search.specs.declared.Search.{Search}
 use Rattle.search.specs.declared.Order.{Order}
-use Rattle.search.specs.ProgramSets.{noPrograms, hasProgram, withProgram, withoutProgram, programsMeet}
-
--- s, and n where the test passes
-abbrev pub joined : ProgramSet → ℕ → Bool → ProgramSet
-joined s n t = cond t (withProgram s n) s
-
--- the set of those of 1 to n that pass the test
-unfoldable pub packed : (ℕ → Bool) → ℕ → ProgramSet
-packed t zero = noPrograms
-packed t (suc n) = joined (packed t n) (suc n) (t (suc n))
-
--- i is another program than p, and holds it back
-abbrev pub stops : Board → ℕ → ℕ → Bool
-stops b p i = not (eqb i p) && holdsBack (at b i) (at b p)
-
--- the programs that hold p back
-unfoldable pub holders : Board → ℕ → ProgramSet
-holders b p = packed (stops b p) 32
+use Rattle.tables.specs.ProgramSets.{hasProgram, withoutProgram, programsMeet}
+use Rattle.tables.specs.Tables.{packed, holders, rowOf, SetsOf, RowsOf}
 
 -- the rows of the board: in each program's place, those that hold it back
-abbrev pub RowsOf : Board → List ProgramSet → Type 0
-RowsOf b rows = (p : ℕ) → 1 ≤ p → p ≤ 32 → getD rows (p - 1) noPrograms ≡ holders b p
+abbrev pub RowsAt : Board → List ℕ → Type 0
+RowsAt b rows = (p : ℕ) → 1 ≤ p → p ≤ 32 → rowOf rows p ≡ holders b p
 
 -- p is admitted
 abbrev pub admits : Board → ℕ → Bool
@@ -51,15 +35,15 @@ abbrev pub clashes : Board → ℕ → Program → ℕ → Bool
 clashes b p me i = not (eqb i p) && conflict (at b i) me
 
 -- p is left, and none that is left is in its row
-abbrev pub free : List ProgramSet → ProgramSet → ℕ → Bool
-free rows left p = hasProgram left p && not (programsMeet left (getD rows (p - 1) noPrograms))
+abbrev pub free : List ℕ → ProgramSet → ℕ → Bool
+free rows left p = hasProgram left p && not (programsMeet left (rowOf rows p))
 
 -- the lowest program that is free, or 0
-unfoldable pub lowest : List ProgramSet → ProgramSet → ℕ
+unfoldable pub lowest : List ℕ → ProgramSet → ℕ
 lowest rows left = Option·getD (first (free rows left) everyone) 0
 
 -- the order of the n programs left
-unfoldable pub orderFrom : ℕ → List ProgramSet → ProgramSet → Option (List ℕ)
+unfoldable pub orderFrom : ℕ → List ℕ → ProgramSet → Option (List ℕ)
 orderFrom zero rows left = some []
 orderFrom (suc n) rows left =
     withFound (first (free rows left) everyone) none
@@ -74,3 +58,19 @@ placed at k none = record { kind = Search.Stuck; at = replicate 32 0 }
 abbrev pub asOrder : Option (List ℕ) → Order
 asOrder (some l) = record { kind = Search.Found (length l); at = padded 0 l }
 asOrder none = record { kind = Search.Stuck; at = replicate 32 0 }
+
+-- an order was found
+abbrev pub isFound : Search → Bool
+isFound (Search.Found n) = true
+isFound Search.Stuck = false
+
+-- ---- giving a file
+
+-- on every board with these sets, rows and admitted programs that has an order: the test says whether an order comes back with f given to p
+abbrev pub SafeFor : List ℕ → List ℕ → ProgramSet → ℕ → ℕ → Bool → Type 0
+SafeFor sets rows a p f r = (b : Board) → SetsOf b sets → RowsOf b rows → a ≡ admittedSet b → admits b p ≡ true
+    → found (carried b) ≡ true → r ≡ safe b p f
+
+-- the carried order of every board with these rows and admitted programs
+abbrev pub OrderFor : List ℕ → ProgramSet → Order → Type 0
+OrderFor rows left o = (b : Board) → RowsOf b rows → left ≡ admittedSet b → o ≡ asOrder (carried b)

@@ -1,21 +1,24 @@
 // The carried order of a board, and whether a file can be given.
+use files::FileSet;
 use rules::Board;
 use rules::Program;
+use tables::ProgramSet;
 ghost use mathlib.Core.Path.{_≡_};
 ghost use mathlib.Core.Bool.{_&&_, not};
 ghost use Prim.Native.Nat.{_+_, _≤_};
 ghost use lib.Dec.{eqb};
 ghost use lib.ListN.{length};
-ghost use Rattle.rules.specs.Lists.{found};
 ghost use Rattle.rules.specs.Boards.{admitted, awaited, setProgram};
-ghost use Rattle.rules.specs.Orders.{conflict, holdsBack, carried, withGiven, inUse, canGive};
-ghost use Rattle.search.specs.Rows.{joined, holders, RowsOf, admittedSet, free, lowest, orderFrom, placed, asOrder};
+ghost use Rattle.rules.specs.Orders.{conflict, carried, withGiven, inUse};
+ghost use Rattle.search.specs.Rows.{admittedSet, free, lowest, orderFrom, placed, asOrder, isFound, OrderFor, SafeFor};
 
-mod sets;
+pub mod gives;
 
-// A set of the programs 1 to 32: bit p - 1 says whether program p is in it.
-pub struct ProgramSet {
-    pub bits: u32,
+// The admitted programs, and the files that are open for writing and for reading.
+pub struct Uses {
+    pub admitted: ProgramSet,
+    pub written: FileSet,
+    pub read: FileSet,
 }
 
 // What a search comes back with: an order of so many programs, or none.
@@ -54,67 +57,10 @@ pub fn put(b: Board, p: u8, q: Program) -> Board
     c
 }
 
-// ---- who holds back whom
-
-// The set, and p where the test passed.
-fn join(s: ProgramSet, p: u8, yes: bool) -> ProgramSet
-    ensures { λ r. ⌜ r ≡ joined s p yes ⌝ }
-{
-    if yes {
-        return s.with(p);
-    }
-    s
-}
-
-// Whether q, which is program i, is another than program p, and holds it back.
-fn stops_other(i: u8, q: Program, p: u8, me: Program) -> bool
-    ensures { λ r. ⌜ r ≡ not (eqb i p) && holdsBack q me ⌝ }
-{
-    if i == p {
-        return false;
-    }
-    q.holds_back(me)
-}
-
-// The programs that hold p back.
-fn row(b: Board, p: u8) -> ProgramSet
-    requires { ⌜ (1 ≤ p) × (p ≤ 32) ⌝ }
-    ensures { λ r. ⌜ r ≡ holders b p ⌝ }
-{
-    let k = (p - 1) as usize;
-    let me = b.programs[k];
-    let mut held = ProgramSet::EMPTY;
-    let mut i: u8 = 1;
-    while i <= 32 {
-        let j = (i - 1) as usize;
-        let q = b.programs[j];
-        let yes = stops_other(i, q, p, me);
-        held = join(held, i, yes);
-        i += 1;
-    }
-    held
-}
-
-// For each program, in its place, those that hold it back.
-fn all_rows(b: Board) -> [ProgramSet; 32]
-    ensures { λ r. ⌜ RowsOf b r ⌝ }
-{
-    let none = ProgramSet::EMPTY;
-    let mut rows = [none; 32];
-    let mut p: u8 = 1;
-    while p <= 32 {
-        let i = (p - 1) as usize;
-        let r = row(b, p);
-        rows[i] = r;
-        p += 1;
-    }
-    rows
-}
-
 // ---- who is admitted
 
 // The set of the admitted programs.
-fn admitted_set(b: Board) -> ProgramSet
+pub fn admitted_set(b: Board) -> ProgramSet
     ensures { λ r. ⌜ r ≡ admittedSet b ⌝ }
 {
     let mut set = ProgramSet::EMPTY;
@@ -124,7 +70,7 @@ fn admitted_set(b: Board) -> ProgramSet
         let q = b.programs[i];
         let s = q.standing;
         let yes = s.is_admitted();
-        set = join(set, p, yes);
+        set = tables::join(set, p, yes);
         p += 1;
     }
     set
@@ -151,21 +97,21 @@ pub fn admitted_count(b: Board) -> u8
 // ---- the carried order
 
 // Whether p is left and none that is left holds it back.
-fn is_free(rows: [ProgramSet; 32], left: ProgramSet, p: u8) -> bool
+fn is_free(rows: &[u32; 32], left: ProgramSet, p: u8) -> bool
     requires { ⌜ (1 ≤ p) × (p ≤ 32) ⌝ }
-    ensures { λ r. ⌜ r ≡ free rows left p ⌝ }
+    ensures { λ r. ⌜ r ≡ free (now (rows .entry)) left p ⌝ }
 {
     if !left.has(p) {
         return false;
     }
     let i = (p - 1) as usize;
-    let row = rows[i];
+    let row = ProgramSet { bits: rows[i] };
     !left.meets(row)
 }
 
 // The lowest-numbered program that no other remaining one holds back, or 0.
-fn lowest_free(rows: [ProgramSet; 32], left: ProgramSet) -> u8
-    ensures { λ r. ⌜ (r ≡ lowest rows left) × (r ≤ 32) ⌝ }
+fn lowest_free(rows: &[u32; 32], left: ProgramSet) -> u8
+    ensures { λ r. ⌜ (r ≡ lowest (now (rows .entry)) left) × (r ≤ 32) ⌝ }
 {
     let mut p: u8 = 1;
     while p <= 32 {
@@ -178,9 +124,9 @@ fn lowest_free(rows: [ProgramSet; 32], left: ProgramSet) -> u8
 }
 
 // The order of the n programs left, from place k of `at` on: one is taken, then the same for the rest.
-fn search_rest(rows: [ProgramSet; 32], left: ProgramSet, n: usize, at: [u8; 32], k: usize) -> Order
+fn search_rest(rows: &[u32; 32], left: ProgramSet, n: usize, at: [u8; 32], k: usize) -> Order
     requires { ⌜ k + n ≤ 32 ⌝ }
-    ensures { λ r. ⌜ r ≡ placed at k (orderFrom n rows left) ⌝ }
+    ensures { λ r. ⌜ r ≡ placed at k (orderFrom n (now (rows .entry)) left) ⌝ }
 {
     if n == 0 {
         return Order {
@@ -201,22 +147,30 @@ fn search_rest(rows: [ProgramSet; 32], left: ProgramSet, n: usize, at: [u8; 32],
     search_rest(rows, rest, n - 1, next, k + 1)
 }
 
-// The carried order of the board's admitted programs.
-pub fn carried_order(b: Board) -> Order
-    ensures { λ r. ⌜ r ≡ asOrder (carried b) ⌝ }
+// The carried order of the programs left, by the rows of their board.
+pub fn order_in(rows: &[u32; 32], left: ProgramSet) -> Order
+    ensures { λ r. ⌜ OrderFor (now (rows .entry)) left r ⌝ }
 {
-    let rows = all_rows(b);
-    let left = admitted_set(b);
-    let n = admitted_count(b);
+    let n = left.count();
     let none = [0u8; 32];
     search_rest(rows, left, n as usize, none, 0)
 }
 
-// Whether an order comes back for the board.
-pub fn has_order(b: Board) -> bool
-    ensures { λ r. ⌜ r ≡ found (carried b) ⌝ }
+// The carried order of the board's admitted programs.
+pub fn carried_order(b: Board) -> Order
+    ensures { λ r. ⌜ r ≡ asOrder (carried b) ⌝ }
 {
-    let order = carried_order(b);
+    let mut sets = [0u64; 128];
+    let mut rows = [0u32; 32];
+    tables::fill(b, &mut sets, &mut rows);
+    let left = admitted_set(b);
+    order_in(&rows, left)
+}
+
+// Whether an order was found.
+pub fn is_found(order: Order) -> bool
+    ensures { λ r. ⌜ r ≡ isFound (order .kind) ⌝ }
+{
     let kind = order.kind;
     let Search::Found(_) = kind else {
         return false;
@@ -256,6 +210,21 @@ pub fn in_use(b: Board, p: u8, f: u8) -> bool
     false
 }
 
+// On a board that has an order: whether an order comes back with f given to p. One does unless somebody whom p would then
+// hold back holds p back, directly or through others.
+pub fn is_safe(sets: &[u64; 128], rows: &[u32; 32], admitted: ProgramSet, p: u8, f: u8) -> bool
+    requires { ⌜ (1 ≤ p) × (p ≤ 32) ⌝ }
+    ensures { λ r. ⌜ SafeFor (now (sets .entry)) (now (rows .entry)) admitted p f r ⌝ }
+{
+    let i = (p - 1) as usize;
+    let v = FileSet { bits: sets[i] };
+    let row = ProgramSet { bits: rows[i] };
+    let claimants = tables::reach::claimants(sets, f, v.has(f));
+    let others = admitted.without(p);
+    let before = tables::reach::reaching(rows, others, row);
+    !before.meets(claimants)
+}
+
 // The board with f given to p.
 pub fn with_given(b: Board, p: u8, f: u8) -> Board
     requires { ⌜ (1 ≤ p) × (p ≤ 32) ⌝ }
@@ -264,15 +233,4 @@ pub fn with_given(b: Board, p: u8, f: u8) -> Board
     let k = (p - 1) as usize;
     let q = b.programs[k];
     put(b, p, q.opening(f))
-}
-
-// Whether an open would give f to p.
-pub fn can_give(b: Board, p: u8, f: u8) -> bool
-    requires { ⌜ (1 ≤ p) × (p ≤ 32) ⌝ }
-    ensures { λ r. ⌜ r ≡ canGive b p f ⌝ }
-{
-    if in_use(b, p, f) {
-        return false;
-    }
-    has_order(with_given(b, p, f))
 }

@@ -19,17 +19,21 @@ use Rattle.rules.specs.declared.Board.{Board}
 use Rattle.rules.specs.declared.Word.{Word}
 use Rattle.rules.specs.declared.Line.{Line}
 use Rattle.rules.specs.Lists.{all, first, withFound, names}
-use Rattle.rules.specs.Boards.{at, awaited, awaitedOf, isProgram, isWaiting, setEntry}
-use Rattle.rules.specs.Orders.{withGiven, canGive}
+use Rattle.rules.specs.Boards.{at, awaited, awaitedOf, isProgram, isWaiting, hasOpen, setEntry}
+use Rattle.rules.specs.Orders.{withGiven, inUse, canGive}
 use Rattle.rules.specs.Settling.{Step, line, still, andThen, unfavour, resume, tryGive, pass, candidate, favour, runHeld, choose, settle}
 use Rattle.theory.specs.Lists.{_∈_, Pairs, NoRepeat, here, each-all, first-some}
 use Rattle.theory.specs.Programs.{Is, of-is}
 use Rattle.theory.specs.Loose.{waitsIn, stands, waiting-file, Loose}
 use Rattle.theory.specs.Settling.{pass-passed}
-use Rattle.lines.proofs.Laws.{names-on, all-names-on}
+use Rattle.theory.specs.Sound.{loose-apart, loose-order, loose-waiter}
+use Rattle.tables.specs.Tables.{SetsOf, RowsOf}
+use Rattle.search.specs.declared.Uses.{Uses}
+use Rattle.search.specs.Gives.{usesOf, UsedFor, GivenFor}
+use Rattle.lines.proofs.Laws.{names-on, names-end, all-names-on}
 use Rattle.lines.proofs.Laws.{program-range, names-left}
 use Rattle.settling.specs.declared.Written.{Written}
-use Rattle.settling.specs.Writing.{after, Fits, admitOne, unused}
+use Rattle.settling.specs.Writing.{Ready, NextGiven, after, Fits, admitOne, unused}
 
 -- ---- lines after lines
 
@@ -69,10 +73,6 @@ pub give-some : (w : Written) (b : Board) (p f : ℕ) → canGive b p f ≡ true
     }) (after w (tryGive b p f))
 unfolding tryGive
 give-some w b p f e = rw e
-
--- these are waiters, each once, of a board that is loose
-abbrev pub Ready : Board → List ℕ → Type 0
-Ready b ps = Loose b × NoRepeat ps × ((p : ℕ) → p ∈ ps → Is p × (waitsIn (b .programs) p ≡ true))
 
 pub ready-next : (b : Board) (p : ℕ) (ps : List ℕ) → Ready b (p ∷ ps) → Ready (tryGive b p (awaited b p) .board) ps
 unfolding pass Pairs
@@ -132,6 +132,62 @@ module _ (w s : Written) (l : List ℕ) (k : ℕ) (h : k < length l) (ne : getD 
         i .2 ∙ ap (λ (x : List ℕ). after s (pass x (s .board))) (names-on l k h ne) ∙ sym (after-then s t (pass (names (drop (suc k) l)) (t .board))),
       ))
 
+-- the waiting line of a loose board
+pub ready-all : (b : Board) → Loose b → Ready b (names (b .waiting))
+ready-all b k = (k, k .waits .once, k .waits .of)
+
+-- the next waiter that is given its file
+pub pass-to : (w s : Written) (l : List ℕ) (k j : ℕ) → PassAt w l k s → NextGiven (s .board) l k j → PassAt w l j s
+pass-to w s l k j i n = (n .ready, subst (Fits s) (n .same) (i .1), i .2 ∙ ap (after s) (n .same))
+
+-- nobody is left to be asked
+pub next-none : (b : Board) (l : List ℕ) (from k : ℕ) → from ≤ 32 → length l ≡ 32 → Ready b (names (drop k l))
+    → pass (names (drop from l)) b ≡ pass (names (drop k l)) b → names (drop k l) ≡ [] → NextGiven b l from 32
+next-none b l from k o n r e d = let z : names (drop k l) ≡ names (drop 32 l) = d ∙ sym (names-end l 32 (omega arith)) in record {
+  onward = o;
+  within = omega arith;
+  ready = subst (Ready b) z r;
+  same = e ∙ ap (λ (ps : List ℕ). pass ps b) z;
+  gives = λ h. absurd (omega arith);
+}
+
+module _ (b : Board) (l : List ℕ) (k : ℕ) (h : k < length l) (ne : getD l k 0 ≢ 0) (r : Ready b (names (drop k l))) where
+  ready-at : Ready b (getD l k 0 ∷ names (drop (suc k) l))
+  ready-at = subst (Ready b) (names-on l k h ne) r
+
+  waiter-at : Is (getD l k 0) × (waitsIn (b .programs) (getD l k 0) ≡ true)
+  waiter-at = ready-at .2 (getD l k 0) here
+
+  pub waiter-range : (1 ≤ getD l k 0) × (getD l k 0 ≤ 32)
+  waiter-range = (waiter-at .0 .least, waiter-at .0 .most)
+
+  -- what the arrays say of the waiter is what the rules say
+  pub waiter-can : (sets rows : List ℕ) (u : Uses) (f : ℕ) (t : Bool) → SetsOf b sets → RowsOf b rows → u ≡ usesOf b sets
+      → f ≡ awaited b (getD l k 0) → GivenFor sets rows u (getD l k 0) f t → t ≡ canGive b (getD l k 0) (awaited b (getD l k 0))
+  waiter-can sets rows u f t x y z e g =
+      let m = loose-waiter b (getD l k 0) (ready-at .0) (waiter-at .0) (waiter-at .1) in
+      g b x y z (loose-apart b (ready-at .0)) (loose-order b (ready-at .0)) (m .0) (ap (hasOpen (at b (getD l k 0))) e ∙ m .1)
+      ∙ ap (canGive b (getD l k 0)) e
+
+  pub waiter-used : (sets : List ℕ) (u : Uses) (f : ℕ) (t : Bool) → SetsOf b sets → u ≡ usesOf b sets
+      → f ≡ awaited b (getD l k 0) → UsedFor sets u (getD l k 0) f t → t ≡ inUse b (getD l k 0) (awaited b (getD l k 0))
+  waiter-used sets u f t x z e g =
+      let m = loose-waiter b (getD l k 0) (ready-at .0) (waiter-at .0) (waiter-at .1) in
+      g b x z (loose-apart b (ready-at .0)) (ap (hasOpen (at b (getD l k 0))) e ∙ m .1) ∙ ap (inUse b (getD l k 0)) e
+
+  pub ready-left : Ready b (names (drop (k + 1) l))
+  unfolding Pairs
+  ready-left = rw (add-one k) (ready-at .0, ready-at .1 .1, λ p m. ready-at .2 p (List·Memᴰ·tail m))
+
+  -- a waiter that is not given its file is passed over
+  pub waiter-over : canGive b (getD l k 0) (awaited b (getD l k 0)) ≡ false
+      → Ready b (names (drop (k + 1) l)) × (pass (names (drop k l)) b ≡ pass (names (drop (k + 1) l)) b)
+  unfolding pass tryGive Pairs
+  waiter-over e = rw (add-one k) (
+    (ready-at .0, ready-at .1 .1, λ p m. ready-at .2 p (List·Memᴰ·tail m)),
+    ap (λ (ps : List ℕ). pass ps b) (names-on l k h ne) ∙ rw e,
+  )
+
 -- ---- running those held
 
 pub held-lines : (ps : List ℕ) (b : Board) → length (runHeld ps b .lines) ≡ length ps
@@ -174,9 +230,6 @@ first-names-on t l k h ne = rw (names-on l k h ne)
 pub first-none-left : (t : ℕ → Bool) (l : List ℕ) → l ≡ [] → first t l ≡ none
 unfolding first
 first-none-left t l e = rw e
-
-pub all-waiting : (b : Board) → Loose b → all isProgram (names (b .waiting)) ≡ true
-all-waiting b k = each-all isProgram (names (b .waiting)) (λ p m. of-is p (k .waits .of p m .0))
 
 pub all-held : (b : Board) → Loose b → all isProgram (names (b .entry)) ≡ true
 all-held b k = each-all isProgram (names (b .entry)) (λ p m. of-is p (k .helds .of p m .0))

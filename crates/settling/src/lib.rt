@@ -8,12 +8,13 @@ ghost use mathlib.Core.Bool.{true};
 ghost use mathlib.Core.List.{[]};
 ghost use mathlib.Core.Option.{Option·getD};
 ghost use Prim.Native.Nat.{_+_, _≤_, _<_};
-ghost use lib.ListN.{length, set};
+ghost use lib.ListN.{length, set, drop};
 ghost use Rattle.rules.specs.Lists.{all, names};
 ghost use Rattle.rules.specs.Boards.{awaited, isProgram, setEntry};
 ghost use Rattle.rules.specs.Settling.{unfavour, resume, tryGive, pass, candidate, favour, runHeld, choose, settle};
+ghost use Rattle.rules.specs.Orders.{canGive};
 ghost use Rattle.theory.specs.Loose.{Loose};
-ghost use Rattle.settling.specs.Writing.{after, Fits, admitOne};
+ghost use Rattle.settling.specs.Writing.{after, Fits, admitOne, Ready, NextGiven};
 
 // A board, and the lines written so far: the first `count` of `lines`.
 pub struct Written {
@@ -63,16 +64,13 @@ fn unfavoured(b: Board, p: u8) -> Board
     b
 }
 
-// The waiter p is given its file, if an open would now give it: a GIVEN line.
+// The waiter p is given its file, which an open would now give: a GIVEN line.
 fn give_waiter(w: Written, p: u8) -> Written
-    requires { ⌜ ((1 ≤ p) × (p ≤ 32)) × Fits w (tryGive (w .board) p (awaited (w .board) p)) ⌝ }
+    requires { ⌜ ((1 ≤ p) × (p ≤ 32)) × (canGive (w .board) p (awaited (w .board) p) ≡ true) × (w .count < 32) ⌝ }
     ensures { λ r. ⌜ r ≡ after w (tryGive (w .board) p (awaited (w .board) p)) ⌝ }
 {
     let b = w.board;
     let f = search::awaited(b, p);
-    if !search::can_give(b, p, f) {
-        return w;
-    }
     let given = search::with_given(b, p, f);
     let runs = resumed(given, p);
     let c = unfavoured(runs, p);
@@ -95,6 +93,33 @@ fn give_waiter(w: Written, p: u8) -> Written
     }
 }
 
+// The place of the next waiter, from a place of the line on, to which an open would now give its file; 32 if there is none.
+fn next_given(b: Board, line: [u8; 32], from: usize) -> usize
+    requires { ⌜ (from ≤ 32) × Ready b (names (drop from line)) ⌝ }
+    ensures { λ r. ⌜ NextGiven b line from r ⌝ }
+{
+    let mut sets = [0u64; 128];
+    let mut rows = [0u32; 32];
+    tables::fill(b, &mut sets, &mut rows);
+    let uses = search::gives::uses_of(b, &sets);
+    let mut k = from;
+    while k < 32 {
+        let p = line[k];
+        if p == 0 {
+            return 32;
+        }
+        let i = (p - 1) as usize;
+        let q = b.programs[i];
+        let s = q.standing;
+        let f = s.awaited();
+        if search::gives::can_give(&sets, &rows, uses, p, f) {
+            return k;
+        }
+        k += 1;
+    }
+    32
+}
+
 // Once through the waiting line, from the oldest.
 fn pass_line(w: Written) -> Written
     requires { ⌜ Loose (w .board) × Fits w (pass (names (w .board .waiting)) (w .board)) ⌝ }
@@ -102,33 +127,48 @@ fn pass_line(w: Written) -> Written
 {
     let b = w.board;
     let line = b.waiting;
+    if line[0] == 0 {
+        return w;
+    }
     let mut s = w;
     let mut k: usize = 0;
     while k < 32 {
-        let p = line[k];
-        if p == 0 {
+        let now = s.board;
+        let j = next_given(now, line, k);
+        if 31 < j {
             return s;
         }
+        let p = line[j];
         s = give_waiter(s, p);
-        k += 1;
+        k = j + 1;
     }
     s
 }
 
 // The oldest waiter whose file is in no conflicting use, or 0.
 fn oldest_unused(b: Board) -> u8
-    requires { ⌜ all isProgram (names (b .waiting)) ≡ true ⌝ }
+    requires { ⌜ Loose b ⌝ }
     ensures { λ r. ⌜ r ≡ Option·getD (candidate b) 0 ⌝ }
 {
     let line = b.waiting;
+    if line[0] == 0 {
+        return 0;
+    }
+    let mut sets = [0u64; 128];
+    let mut rows = [0u32; 32];
+    tables::fill(b, &mut sets, &mut rows);
+    let uses = search::gives::uses_of(b, &sets);
     let mut k: usize = 0;
     while k < 32 {
         let p = line[k];
         if p == 0 {
             return 0;
         }
-        let f = search::awaited(b, p);
-        if !search::in_use(b, p, f) {
+        let i = (p - 1) as usize;
+        let q = b.programs[i];
+        let s = q.standing;
+        let f = s.awaited();
+        if !search::gives::in_use(&sets, uses, p, f) {
             return p;
         }
         k += 1;

@@ -1,12 +1,19 @@
 -- Laws of the parts of soundness. Assumes nothing.
-use mathlib.Core.Path.{_≡_, refl, sym}
+use mathlib.Core.Path.{_≡_, refl, sym, _∙_}
+use mathlib.Core.Logic.{_≢_}
 use mathlib.Core.Bool.{Bool, true, false, not, _&&_, _||_}
 use mathlib.Core.List.{List, [], _∷_}
-use Prim.Native.Nat.{ℕ}
-use Rattle.files.proofs.Tests.{by-test, never, and-left}
+use Prim.Native.Nat.{ℕ, suc, _≤_, _<_}
+use lib.ListN.{length, getD, drop}
+use Rattle.files.proofs.Tests.{by-test, never, and-left, and-right}
+use Rattle.rules.specs.declared.Board.{Board}
 use Rattle.rules.specs.Lists.{all, listed, distinct, same, names, padded}
 use Rattle.rules.specs.Soundness.{lineSound}
-use Rattle.rules.specs.Boards.{isProgram, everyone}
+use Rattle.rules.specs.Boards.{isProgram, everyone, at}
+use Rattle.theory.specs.Loose.{waiting-in}
+use Rattle.lines.proofs.Laws.{all-names-on, program-range}
+use Rattle.search.specs.Rows.{admits}
+use Rattle.sound.specs.Parts.{standsAt, rightName}
 
 -- what every element passes, if each passes s only with t
 pub all-weaker : (s t : ℕ → Bool) → ((x : ℕ) → s x ≡ true → t x ≡ true) → (l : List ℕ) → all s l ≡ true → all t l ≡ true
@@ -27,10 +34,6 @@ four-last true true u v e = refl
 four-last true false u v e = never e refl
 four-last false t u v e = never e refl
 
-pub and-false : (s t : Bool) → (s && false && t) ≡ false
-and-false true t = refl
-and-false false t = refl
-
 -- the names of a sound line are programs
 pub line-programs : (l : List ℕ) (t : ℕ → Bool) → lineSound l t ≡ true → all isProgram (names l) ≡ true
 unfolding lineSound
@@ -40,3 +43,22 @@ line-programs l t e =
     let d = distinct (names l) in
     all-weaker (λ p. isProgram p && t p) isProgram (λ p h. and-left (isProgram p) (t p) h) (names l)
     (and-left x y (and-left (x && y) d (and-left (x && y && d) (same l (padded 0 (names l))) e)))
+
+-- a name of a line of waiting programs is that of an admitted program
+pub waiter-named : (b : Board) (l : List ℕ) (k : ℕ) → k < length l → getD l k 0 ≢ 0 → all (rightName b false) (names (drop k l)) ≡ true
+    → ((1 ≤ getD l k 0) × (getD l k 0 ≤ 32)) × (admits b (getD l k 0) ≡ true)
+waiter-named b l k h ne e =
+    let n = and-left (rightName b false (getD l k 0)) (all (rightName b false) (names (drop (suc k) l)))
+    (sym (all-names-on l k (rightName b false) h ne) ∙ e) in (
+      program-range (getD l k 0) (and-left (isProgram (getD l k 0)) _ n),
+      waiting-in (at b (getD l k 0) .standing) (and-right (isProgram (getD l k 0)) _ n),
+    )
+
+-- the names of a sound line of waiting programs are such
+pub line-waiters : (b : Board) (l : List ℕ) → lineSound l (standsAt b false) ≡ true → all (rightName b false) (names l) ≡ true
+unfolding lineSound
+line-waiters b l e =
+    let x = all (rightName b false) (names l) in
+    let y = all (λ p. not (standsAt b false p) || listed p (names l)) everyone in
+    let d = distinct (names l) in
+    and-left x y (and-left (x && y) d (and-left (x && y && d) (same l (padded 0 (names l))) e))

@@ -2,17 +2,29 @@
 use rules::Board;
 use rules::Program;
 use rules::Standing;
+use search::Order;
+use search::Uses;
+use tables::ProgramSet;
 ghost use mathlib.Core.Path.{_≡_};
-ghost use mathlib.Core.Bool.{true, _&&_, _||_, not};
+ghost use mathlib.Core.Bool.{true, false, _&&_};
 ghost use Prim.Native.Nat.{_≤_};
-ghost use lib.Dec.{eqb};
 ghost use Rattle.files.specs.Sets.{isEmpty};
-ghost use Rattle.rules.specs.Lists.{any, all, names, listed};
-ghost use Rattle.rules.specs.Boards.{everyone, isProgram};
-ghost use Rattle.rules.specs.Orders.{conflict};
-ghost use Rattle.rules.specs.Soundness.{setsSound, standingSound, programSound, noConflict, lineSound, waiterSound, noneFavoured};
+ghost use Rattle.rules.specs.Lists.{all, found, names};
+ghost use Rattle.rules.specs.Boards.{everyone};
+ghost use Rattle.rules.specs.Orders.{carried};
+ghost use Rattle.rules.specs.Soundness.{setsSound, standingSound, programSound, lineSound, waiterSound, noneFavoured};
 ghost use Rattle.rules.specs.Soundness.{someFavoured, sound};
-ghost use Rattle.sound.specs.Parts.{stands, standsAt, rightName, inLine, isSoundAt, apart, apartAll, waiterAt, heldAt};
+ghost use Rattle.tables.specs.ProgramSets.{hasProgram};
+ghost use Rattle.tables.specs.Tables.{SetsOf, RowsOf};
+ghost use Rattle.search.specs.Rows.{asOrder};
+ghost use Rattle.search.specs.Gives.{usesOf};
+ghost use Rattle.sound.specs.Parts.{stands, rightName, standSet, takes, isSoundAt, ConflictFree, waiterAt, Known, WaiterFor};
+
+// Whether a board is sound, and its carried order.
+pub struct Judged {
+    pub sound: bool,
+    pub order: Order,
+}
 
 // W is within V, R within Q, V and Q share nothing.
 fn sets_sound(q: Program) -> bool
@@ -99,47 +111,23 @@ fn programs_sound(b: Board) -> bool
     true
 }
 
-// Whether q and r, which are programs i and j, are one, or do not conflict.
-fn are_apart(i: u8, q: Program, j: u8, r: Program) -> bool
-    ensures { λ r2. ⌜ r2 ≡ eqb i j || not (conflict q r) ⌝ }
+// No two different programs conflict: no file is written by two, and none is written and read.
+fn no_conflict(sets: &[u64; 128]) -> bool
+    ensures { λ r. ⌜ ConflictFree (now (sets .entry)) r ⌝ }
 {
-    if i == j {
-        return true;
-    }
-    !q.conflicts(r)
-}
-
-// Whether program i conflicts with no other.
-fn apart_from_all(b: Board, i: u8) -> bool
-    requires { ⌜ (1 ≤ i) × (i ≤ 32) ⌝ }
-    ensures { λ r. ⌜ r ≡ apartAll b i ⌝ }
-{
-    let k = (i - 1) as usize;
-    let me = b.programs[k];
-    let mut j: u8 = 1;
-    while j <= 32 {
-        let n = (j - 1) as usize;
-        let other = b.programs[n];
-        if !are_apart(i, me, j, other) {
+    let mut written: u64 = 0;
+    let mut read: u64 = 0;
+    let mut i: usize = 0;
+    while i < 32 {
+        let w = sets[64 + i];
+        if w & written != 0 {
             return false;
         }
-        j += 1;
-    }
-    true
-}
-
-// No two different programs conflict.
-fn no_conflict(b: Board) -> bool
-    ensures { λ r. ⌜ r ≡ noConflict b ⌝ }
-{
-    let mut i: u8 = 1;
-    while i <= 32 {
-        if !apart_from_all(b, i) {
-            return false;
-        }
+        written = written | w;
+        read = read | sets[96 + i];
         i += 1;
     }
-    true
+    written & read == 0
 }
 
 // Whether the standing is held, or else waiting.
@@ -152,102 +140,70 @@ fn does_stand(held: bool, s: Standing) -> bool
     s.is_waiting()
 }
 
-// Whether p is a program that stands so.
-fn is_right_name(b: Board, held: bool, p: u8) -> bool
-    ensures { λ r. ⌜ r ≡ rightName b held p ⌝ }
+// The programs that are held, or else waiting.
+fn standing_set(b: Board, held: bool) -> ProgramSet
+    ensures { λ r. ⌜ r ≡ standSet b held ⌝ }
 {
-    if p == 0 {
-        return false;
-    }
-    if 32 < p {
-        return false;
-    }
-    let i = (p - 1) as usize;
-    let q = b.programs[i];
-    let s = q.standing;
-    does_stand(held, s)
-}
-
-// Whether all names of the line are programs that stand so.
-fn names_right(b: Board, line: [u8; 32], held: bool) -> bool
-    ensures { λ r. ⌜ r ≡ all (rightName b held) (names line) ⌝ }
-{
-    let mut k: usize = 0;
-    while k < 32 {
-        let p = line[k];
-        if p == 0 {
-            return true;
-        }
-        if !is_right_name(b, held, p) {
-            return false;
-        }
-        k += 1;
-    }
-    true
-}
-
-// Whether q, which is program p, is in the line if it stands so.
-fn is_in_line(q: Program, line: [u8; 32], held: bool, p: u8) -> bool
-    ensures { λ r. ⌜ r ≡ not (stands held (q .standing)) || listed p (names line) ⌝ }
-{
-    let s = q.standing;
-    if !does_stand(held, s) {
-        return true;
-    }
-    lines::is_listed(p, line, 0)
-}
-
-// Whether all programs that stand so are in the line.
-fn has_all(b: Board, line: [u8; 32], held: bool) -> bool
-    ensures { λ r. ⌜ r ≡ all (inLine b line held) everyone ⌝ }
-{
+    let mut set = ProgramSet::EMPTY;
     let mut p: u8 = 1;
     while p <= 32 {
         let i = (p - 1) as usize;
         let q = b.programs[i];
-        if !is_in_line(q, line, held, p) {
-            return false;
-        }
+        let s = q.standing;
+        let yes = does_stand(held, s);
+        set = tables::join(set, p, yes);
         p += 1;
     }
-    true
+    set
 }
 
-// The line names each program that stands so once, and nobody else, and is then 0.
-fn line_sound(b: Board, line: [u8; 32], held: bool) -> bool
-    ensures { λ r. ⌜ r ≡ lineSound line (standsAt b held) ⌝ }
+// Whether the names of the line take all programs out of the set, each once.
+fn takes_all(line: [u8; 32], set: ProgramSet) -> bool
+    ensures { λ r. ⌜ r ≡ takes (names line) set ⌝ }
 {
-    if !names_right(b, line, held) {
-        return false;
+    let mut left = set;
+    let mut k: usize = 0;
+    while k < 32 {
+        let p = line[k];
+        if p == 0 {
+            return left.bits == 0;
+        }
+        if !left.has(p) {
+            return false;
+        }
+        left = left.without(p);
+        k += 1;
     }
-    if !has_all(b, line, held) {
-        return false;
-    }
-    if !lines::is_distinct(line) {
+    left.bits == 0
+}
+
+// The line names each program of the set once, and nobody else, and is then 0.
+fn line_sound(line: [u8; 32], set: ProgramSet) -> bool
+    ensures { λ r. ⌜ r ≡ lineSound line (hasProgram set) ⌝ }
+{
+    if !takes_all(line, set) {
         return false;
     }
     lines::is_zero_after(line)
 }
 
 // The waiter's file is claimed, not open by it, and can't be given now.
-fn waiter_sound(b: Board, p: u8, f: u8) -> bool
+fn waiter_sound(q: Program, sets: &[u64; 128], rows: &[u32; 32], uses: Uses, p: u8, f: u8) -> bool
     requires { ⌜ (1 ≤ p) × (p ≤ 32) ⌝ }
-    ensures { λ r. ⌜ r ≡ waiterSound b p f ⌝ }
+    ensures { λ r. ⌜ WaiterFor q (now (sets .entry)) (now (rows .entry)) uses p f r ⌝ }
 {
-    let i = (p - 1) as usize;
-    let q = b.programs[i];
     if !q.claims(f) {
         return false;
     }
     if q.has_open(f) {
         return false;
     }
-    !search::can_give(b, p, f)
+    !search::gives::can_give(sets, rows, uses, p, f)
 }
 
-// All waiters of a line whose names are programs.
-fn waiters_sound(b: Board, line: [u8; 32]) -> bool
-    requires { ⌜ all isProgram (names line) ≡ true ⌝ }
+// All waiters of a line that names waiting programs.
+fn waiters_sound(b: Board, sets: &[u64; 128], rows: &[u32; 32], uses: Uses, line: [u8; 32]) -> bool
+    requires { ⌜ Known b (now sets) (now rows) uses × (all (rightName b false) (names line) ≡ true) ⌝ }
     ensures { λ r. ⌜ r ≡ all (waiterAt b) (names line) ⌝ }
 {
     let mut k: usize = 0;
@@ -256,8 +212,11 @@ fn waiters_sound(b: Board, line: [u8; 32]) -> bool
         if p == 0 {
             return true;
         }
-        let f = search::awaited(b, p);
-        if !waiter_sound(b, p, f) {
+        let i = (p - 1) as usize;
+        let q = b.programs[i];
+        let s = q.standing;
+        let f = s.awaited();
+        if !waiter_sound(q, sets, rows, uses, p, f) {
             return false;
         }
         k += 1;
@@ -265,28 +224,12 @@ fn waiters_sound(b: Board, line: [u8; 32]) -> bool
     true
 }
 
-// Whether somebody is held.
-fn is_any_held(b: Board) -> bool
-    ensures { λ r. ⌜ r ≡ any (heldAt b) everyone ⌝ }
-{
-    let mut p: u8 = 1;
-    while p <= 32 {
-        let i = (p - 1) as usize;
-        let q = b.programs[i];
-        let s = q.standing;
-        if s.is_held() {
-            return true;
-        }
-        p += 1;
-    }
-    false
-}
-
 // Nobody favoured: nobody held, and both numbers 0.
-fn none_favoured(b: Board) -> bool
+fn none_favoured(b: Board, held: ProgramSet) -> bool
+    requires { ⌜ held ≡ standSet b true ⌝ }
     ensures { λ r. ⌜ r ≡ noneFavoured b ⌝ }
 {
-    if is_any_held(b) {
+    if held.bits != 0 {
         return false;
     }
     let n = b.initial;
@@ -297,11 +240,11 @@ fn none_favoured(b: Board) -> bool
 }
 
 // The favoured program is waiting; leaves plus admitted equal the number at favouring, which is at most 32.
-fn some_favoured(b: Board) -> bool
+fn some_favoured(b: Board, waiters: ProgramSet) -> bool
+    requires { ⌜ waiters ≡ standSet b false ⌝ }
     ensures { λ r. ⌜ r ≡ someFavoured b ⌝ }
 {
-    let p = b.favoured;
-    if !is_right_name(b, false, p) {
+    if !waiters.has(b.favoured) {
         return false;
     }
     let n = search::admitted_count(b) as u16;
@@ -314,31 +257,57 @@ fn some_favoured(b: Board) -> bool
 }
 
 // Sets; no conflict; a completion order exists; the two lines; the waiters; the favoured program.
-pub fn is_sound(b: Board) -> bool
+fn is_sound_by(b: Board, sets: &[u64; 128], rows: &[u32; 32], uses: Uses, ordered: bool) -> bool
+    requires { ⌜ SetsOf b (now sets) × RowsOf b (now rows) × (uses ≡ usesOf b (now sets)) × (ordered ≡ found (carried b)) ⌝ }
     ensures { λ r. ⌜ r ≡ sound b ⌝ }
 {
     if !programs_sound(b) {
         return false;
     }
-    if !no_conflict(b) {
+    if !no_conflict(sets) {
         return false;
     }
-    if !search::has_order(b) {
+    if !ordered {
         return false;
     }
     let waiting = b.waiting;
-    if !line_sound(b, waiting, false) {
+    let waiters = standing_set(b, false);
+    if !line_sound(waiting, waiters) {
         return false;
     }
     let entry = b.entry;
-    if !line_sound(b, entry, true) {
+    let held = standing_set(b, true);
+    if !line_sound(entry, held) {
         return false;
     }
-    if !waiters_sound(b, waiting) {
+    if !waiters_sound(b, sets, rows, uses, waiting) {
         return false;
     }
     if b.favoured == 0 {
-        return none_favoured(b);
+        return none_favoured(b, held);
     }
-    some_favoured(b)
+    some_favoured(b, waiters)
+}
+
+// Whether the board is sound, and its carried order.
+pub fn judge(b: Board) -> Judged
+    ensures { λ r. ⌜ (r .sound ≡ sound b) × (r .order ≡ asOrder (carried b)) ⌝ }
+{
+    let mut sets = [0u64; 128];
+    let mut rows = [0u32; 32];
+    tables::fill(b, &mut sets, &mut rows);
+    let uses = search::gives::uses_of(b, &sets);
+    let admitted = uses.admitted;
+    let order = search::order_in(&rows, admitted);
+    let ordered = search::is_found(order);
+    let sound = is_sound_by(b, &sets, &rows, uses, ordered);
+    Judged { sound, order }
+}
+
+// Whether the board is sound.
+pub fn is_sound(b: Board) -> bool
+    ensures { λ r. ⌜ r ≡ sound b ⌝ }
+{
+    let j = judge(b);
+    j.sound
 }

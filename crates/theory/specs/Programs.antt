@@ -554,7 +554,7 @@ claimed-use x y f m e = by-test (member (x .writable) f)
     (λ z. inl (conflict-by x y (any-3 (meets-sym (x .reading) (y .writing) z))))
     (λ z. inr (holdsBack-by y x (any-2 (meets-at _ _ f z (⊎-elim (λ k. never k t) (λ k. k) m)))))))
 
-holdsBack-claims : (x y : Program) (f : ℕ) → holdsBack x (opening y f) ≡ holdsBack x y
+pub holdsBack-claims : (x y : Program) (f : ℕ) → holdsBack x (opening y f) ≡ holdsBack x y
 holdsBack-claims x y f = rw (opening-v y f, opening-q y f)
 
 pub first-can : (P : Progs) (p f : ℕ) (o : List ℕ) → Base P → Is p → IsOrder (holds P) (ins P) (p ∷ o)

@@ -20,12 +20,12 @@ use Rattle.rules.specs.Boards.{isAbsent, isHeld, isWaiting, isAdmitted, isProgr
 use Rattle.rules.specs.Orders.{conflict, carried, canGive}
 use Rattle.rules.specs.Soundness.{setsSound, standingSound, programSound, noConflict, lineSound, waiterSound, noneFavoured, someFavoured, sound}
 use Rattle.rules.specs.Calls.{Call, apply}
-use Rattle.theory.specs.Lists.{any-some, some-any, all-each, each-all, found-some, listed-mem, mem-listed, distinct-once}
+use Rattle.theory.specs.Lists.{any-some, some-any, all-each, each-all, listed-mem, mem-listed, distinct-once}
 use Rattle.theory.specs.Lists.{once-distinct, same-eq, eq-same}
 use Rattle.theory.specs.Order.{IsOrder}
 use Rattle.theory.specs.Programs.{Is, is-of, of-is, mem-everyone, everyone-is, Sized, canGive-is, admitted-is, Own}
-use Rattle.theory.specs.Carried.{holdsOn, CompletionOrder, carried-sound, carried-complete}
-use Rattle.theory.specs.Loose.{OnLine, Asked, Good, waiting-file}
+use Rattle.theory.specs.Carried.{holdsOn, CompletionOrder, order-of, of-order}
+use Rattle.theory.specs.Loose.{Loose, waiting-in, OnLine, Asked, Good, waiting-file}
 use Rattle.theory.specs.Calls.{apply-stepped}
 
 -- "W is within V, R within Q, V and Q share nothing"
@@ -174,12 +174,6 @@ module _ (b : Board) where
       (λ t. or-right (eqb i j) (not (conflict (at b i) (at b j))) (true-not (conflict (at b i) (at b j))
       (f i j (everyone-is i m) (everyone-is j k) (eqb-false i j t))))))
 
-  order-of : found (carried b) ≡ true → (o : List ℕ) × CompletionOrder b o
-  order-of e = let (o, u) = found-some (carried b) e in (o, carried-sound b o u)
-
-  of-order : (o : List ℕ) → CompletionOrder b o → found (carried b) ≡ true
-  of-order o c = ap found (carried-complete b o c .1)
-
   waiter-of : (p f : ℕ) → waiterSound b p f ≡ true → Asked (at b p) f × (canGive b p f ≡ false)
   unfolding waiterSound
   waiter-of p f e =
@@ -285,7 +279,7 @@ module _ (b : Board) where
     absent-empty = λ p i. stand p i .0;
     held-closed = λ p i. stand p i .1;
     no-conflict = conflict-of (k .part-2);
-    order-exists = order-of (k .part-3);
+    order-exists = order-of b (k .part-3);
     waiting-line = l;
     entry-line = line-of (b .entry) _ (k .part-5);
     waiter-asked = λ p f i u. waiter p f i u .0;
@@ -321,7 +315,7 @@ module _ (b : Board) where
         and-both (setsSound (at b p)) (standingSound (at b p .standing) (at b p)) (of-sets (at b p) (k .sets p i))
         (of-standing (at b p) (at b p .standing) refl (k .absent-empty p i) (k .held-closed p i)));
     part-2 = of-conflict (k .no-conflict);
-    part-3 = of-order (k .order-exists .0) (k .order-exists .1);
+    part-3 = of-order b (k .order-exists .0) (k .order-exists .1);
     part-4 = of-line (b .waiting) (λ p. isWaiting (at b p .standing)) (k .waiting-line);
     part-5 = of-line (b .entry) (λ p. isHeld (at b p .standing)) (k .entry-line);
     part-6 = each-all (λ p. waiterSound b p (awaited b p)) (names (b .waiting))
@@ -395,6 +389,18 @@ sound-good b z s = record {
       idle = λ e. idle-of (at b p) (at b p .standing) refl e (λ u. let (_, _, x, y) = s .absent-empty p i u in (x, y)) (s .held-closed p i);
       gone = λ u. let (x, y, _, _) = s .absent-empty p i u in (x, y);
     }
+
+-- What a board has between two steps of settling: no conflict, an order, and each waiter is admitted and has not opened its file.
+pub loose-apart : (b : Board) → Loose b → noConflict b ≡ true
+loose-apart b k = of-conflict b (k .base .apart)
+
+pub loose-order : (b : Board) → Loose b → found (carried b) ≡ true
+loose-order b k = let (o, c) = k .base .order in of-order b o (subst (λ l. IsOrder (holdsOn b) l o) (sym (admitted-is b)) c)
+
+pub loose-waiter : (b : Board) (p : ℕ) → Loose b → Is p → isWaiting (at b p .standing) ≡ true
+    → (isAdmitted (at b p .standing) ≡ true) × (hasOpen (at b p) (awaited b p) ≡ false)
+loose-waiter b p k i w = let (f, d) = waiting-file (at b p .standing) w in
+    (waiting-in (at b p .standing) w, ap (λ s. hasOpen (at b p) (awaitedOf s)) d ∙ k .asked p f i d .shut)
 
 -- Every call, accepted or refused, keeps a board sound, and with 32 programs.
 pub sound-kept : (b : Board) (c : Call) → Sized (b .programs) → sound b ≡ true

@@ -1,22 +1,57 @@
 -- `end_line` meets its contract. Assumes nothing.
-use mathlib.Core.Path.{_≡_, sym}
+use mathlib.Core.Path.{_≡_, ap, sym, _∙_}
+use mathlib.Core.List.{_++_}
 use native.Mathlib.Omega.{arith}
-use lib.ListN.{length}
+use lib.ListN.{take}
 use lib.Seq.{length-take-le}
+use Rattle.board.specs.Input.{boardAfter}
+use Rattle.board.proofs.Laws.{with-room}
 use borrow.Author.Needs.{needs}
 use Rattle.board.proofs.end_line.Statement.{statement}
 use Rattle.board.proofs.end_line.Tie as tie
 
-array-share-prefix-line : tie.Need-array-share-prefix-line
-array-share-prefix-line c =
-    let e : length (c .before .before .args .s .line) ≡ 408 = search needs in
-    omega arith
+returns : tie.Need-returns
+returns c =
+    let s = c .before .before .before .before .before .before .before .before .before .before .before in
+    let a = s .args in
+    let k = c .before .before .before .before .serve .ensures in
+    let m = c .make-room .ensures in
+    let e : take 408 (a .part .now) ≡ take 408 (take (a .s .kept) (a .kept .now) ++ a .part .now) = rw (c .before .before .before .before .before .before .before .if1 .taken) in (
+      m .0 ∙ k .0 ∙ with-room (a .s .board) _ (a .journal .now) (a .s .place) (s .pre .1 .1) (s .pre .1 .0)
+          ∙ ap (boardAfter (a .s .board)) (c .before .before .before .before .before .before .cut .ensures ∙ e),
+      (m .1 ∙ k .1 .1 .1 .0, m .2),
+    )
 
 slice-aggregate-serve : tie.Need-slice-aggregate-serve
 slice-aggregate-serve c =
-    let e : length (c .before .before .before .args .s .line) ≡ 408 = search needs in
-    sym (length-take-le _ _ (omega arith))
+    let k = c .before .before .before .keep in
+    sym (length-take-le (k .result) (k .last .0) (omega (arith, k .ensures .1, k .kept .0, c .before .before .before .before .before .before .before .before .before .pre .0 .1)))
+
+returns-2 : tie.Need-returns-2
+returns-2 c =
+    let s = c .before .before .before .before .before .before .before .before .before .before .before .before .before .before .before in
+    let a = s .args in
+    let k = c .before .before .before .before .serve2 .ensures in
+    let m = c .make-room2 .ensures in (
+      m .0 ∙ k .0 ∙ with-room (a .s .board) _ (a .journal .now) (a .s .place) (s .pre .1 .1) (s .pre .1 .0)
+          ∙ ap (boardAfter (a .s .board)) (c .before .before .before .before .before .before .before .before .before .keep .ensures .0),
+      (m .1 ∙ k .1 .1 .1 .0, m .2),
+    )
 
 pub end-line-spec : {M : Type 1} → statement M
 end-line-spec =
-    tie.close (tie.spec array-share-prefix-line slice-aggregate-serve (λ c κs. search needs) (λ c. search needs))
+    tie.close
+    (tie.spec
+    (λ c κs. search needs)
+    (λ c κs. search needs)
+    (λ c κs. search needs)
+    (λ c. search needs)
+    returns
+    (λ c κs. search needs)
+    (λ c. search needs)
+    slice-aggregate-serve
+    (λ c κs. search needs)
+    (λ c κs. search needs)
+    (λ c. search needs)
+    (λ c. search needs)
+    returns-2)

@@ -1,43 +1,65 @@
 -- `take_chunk` meets its contract. Assumes nothing.
+use Prim.Native.Nat.{_+_, _-_, _≤_}
+use mathlib.Core.Path.{_≡_, refl, ap, sym, _∙_}
+use mathlib.Core.Logic.{_≢_}
+use native.Mathlib.Omega.{arith}
+use lib.ListN.{length, take, drop, length-take}
+use Rattle.board.specs.Input.{held, fed}
+use Rattle.board.proofs.Laws.{chunk-part, chunk-line, chunk-done}
 use borrow.Author.Needs.{needs}
-use Prim.Native.Nat.{_-_, _≤_}
-use lib.ListN.{length}
 use Rattle.board.proofs.take_chunk.Statement.{statement}
 use Rattle.board.proofs.take_chunk.Tie as tie
 
 abbrev Inv-loop : tie.InvT-loop
-Inv-loop chunk t₀ i₀ t i = (i ≤ length chunk) × (t .len ≤ 408)
+Inv-loop chunk kept₀ journal₀ s₀ at₀ kept journal s at =
+    (at ≤ length chunk) × (s .kept ≤ 408) × (s .place ≤ 65024) × (length kept ≡ 408) × (length journal ≡ 65536)
+    × (fed (held (s₀ .board) (take (s₀ .kept) kept₀)) chunk ≡ fed (held (s .board) (take (s .kept) kept)) (drop at chunk))
 
 abbrev μ-loop : tie.MeasureT-loop
-μ-loop chunk t₀ i₀ t i = length chunk - i
+μ-loop chunk kept₀ journal₀ s₀ at₀ kept journal s at = length chunk - at
 
 loop-holds : tie.Need-loop-holds Inv-loop μ-loop
 loop-holds c =
-    search needs
-
-shared-slice-read-take-byte : tie.Need-shared-slice-read-take-byte Inv-loop μ-loop
-shared-slice-read-take-byte c =
-    search needs
-
-take-byte-requires : tie.Need-take-byte-requires Inv-loop μ-loop
-take-byte-requires c κs =
-    search needs
-
-add-i : tie.Need-add-i Inv-loop μ-loop
-add-i c =
-    search needs
-
-loop-less : tie.Need-loop-less Inv-loop μ-loop
-loop-less c =
-    search needs
-
-loop-again : tie.Need-loop-again Inv-loop μ-loop
-loop-again c =
-    search needs
+    let p = c .before .before .before .pre in
+    (omega arith, p .0 .0, p .1 .0, p .0 .1, p .1 .1, refl)
 
 returns : tie.Need-returns Inv-loop μ-loop
 returns c =
-    search needs
+    let a = c .before .before .before .before .before .before .before .before .before .before .before .before .args in
+    let l = c .before .before .before .before .before .before .before .before .loop in
+    let e = c .before .before .before .before .before .before .line-end in
+    let k = c .before .before .keep in (
+      ap (held (l .s .board)) (k .ensures .0)
+          ∙ chunk-part (l .s .board) (take (l .s .kept) (l .kept)) (a .chunk .now) (l .at) (e .result)
+          (omega (arith, length-take (l .s .kept) (l .kept))) (e .ensures .0) (c .before .before .before .before .before .if1 .taken)
+          ∙ sym (l .inv .5),
+      (k .ensures .1, l .inv .2),
+    )
+
+loop-again : tie.Need-loop-again Inv-loop μ-loop
+loop-again c =
+    let a = c .before .before .before .before .before .before .before .before .before .before .before .before .before .before .before .args in
+    let l = c .before .before .before .before .before .before .before .before .before .before .before .loop in
+    let e = c .before .before .before .before .before .before .before .before .before .line-end in
+    let k = c .before .before .before .before .end-line in
+    let ne : e .result ≢ length (a .chunk .now) = c .before .before .before .before .before .before .before .before .if1 .left in
+    let h = e .ensures .1 in (
+      omega arith,
+      omega (arith, k .ensures .1 .0),
+      k .ensures .1 .1,
+      search needs,
+      search needs,
+      l .inv .5
+          ∙ chunk-line (l .s .board) (take (l .s .kept) (l .kept)) (a .chunk .now) (l .at) (e .result)
+          (omega (arith, length-take (l .s .kept) (l .kept))) (e .ensures .0) (omega arith)
+          ∙ rw (k .ensures .0, k .ensures .1 .0),
+    )
+
+returns-2 : tie.Need-returns-2 Inv-loop μ-loop
+returns-2 c =
+    let a = c .before .before .before .before .before .args in
+    let l = c .before .loop in
+    (sym (l .inv .5 ∙ chunk-done _ (a .chunk .now) (l .at) (omega arith)), (l .inv .1, l .inv .2))
 
 pub take-chunk-spec : {M : Type 1} → statement M
 take-chunk-spec =
@@ -46,9 +68,21 @@ take-chunk-spec =
     Inv-loop
     μ-loop
     loop-holds
-    shared-slice-read-take-byte
-    take-byte-requires
-    add-i
-    loop-less
+    (λ c κs. search needs)
+    (λ c. search needs)
+    (λ c. search needs)
+    (λ c. search needs)
+    (λ c κs. search needs)
+    (λ c. search needs)
+    (λ c. search needs)
+    returns
+    (λ c. search needs)
+    (λ c. search needs)
+    (λ c. search needs)
+    (λ c κs. search needs)
+    (λ c. search needs)
+    (λ c. search needs)
     loop-again
-    returns)
+    (λ c. search needs)
+    (λ c. search needs)
+    returns-2)

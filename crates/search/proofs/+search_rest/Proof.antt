@@ -12,21 +12,21 @@ use borrow.Fn.PlainCycle.{Measures, is, falls, and}
 use Rattle.search.proofs.search_rest.Reads as search-rest
 use Rattle.search.proofs.search_rest.Kinds as search-rest-kinds
 use Rattle.search.proofs.+search_rest.Lts-search_rest as search-rest-lts
-use Rattle.search.proofs.ProgramSet.without.Reads as without-reads
+use Rattle.tables.proofs.ProgramSet.without.Reads as without-reads
 use Rattle.search.proofs.lowest_free.Reads as lowest-free-reads
 use Rattle.search.proofs.+search_rest.{statement}
 use Rattle.search.proofs.+search_rest.Tie.{close}
 
-abbrev μ-search-rest : Measures 0 search-rest-kinds.ps ℕ
+abbrev μ-search-rest : Measures 1 search-rest-kinds.ps ℕ
 μ-search-rest κs a = a .1 .1 .0
 
-abbrev search-rest-at : ℕ → In 0 search-rest-kinds.ps
+abbrev search-rest-at : ℕ → In 1 search-rest-kinds.ps
 search-rest-at t =
-    and 0 search-rest-kinds.ps (is 0 search-rest-kinds.ps μ-search-rest t) search-rest.Pre
+    and 1 search-rest-kinds.ps (is 1 search-rest-kinds.ps μ-search-rest t) search-rest.Pre
 
-abbrev search-rest-below : ℕ → In 0 search-rest-kinds.ps
+abbrev search-rest-below : ℕ → In 1 search-rest-kinds.ps
 search-rest-below t =
-    and 0 search-rest-kinds.ps (falls 0 search-rest-kinds.ps _<_ μ-search-rest t) search-rest.Pre
+    and 1 search-rest-kinds.ps (falls 1 search-rest-kinds.ps _<_ μ-search-rest t) search-rest.Pre
 
 -- src/lib.rt:241:9
 search-rest-returns : (t : ℕ) → search-rest-lts.Need-returns (
@@ -37,7 +37,7 @@ search-rest-returns : (t : ℕ) → search-rest-lts.Need-returns (
   search-rest-below t,
   search-rest.Post,
 ) (search-rest-at t) search-rest.Post
-search-rest-returns t c = let a = c .before .args in order-done (a .rows) (a .left) (a .at) (a .n) (a .k) (c .if1 .taken)
+search-rest-returns t c = let a = c .before .args in order-done (a .rows .now) (a .left) (a .at) (a .n) (a .k) (c .if1 .taken)
 
 -- src/lib.rt:246:9
 search-rest-lowest-free-requires : (t : ℕ) → search-rest-lts.Need-lowest-free-requires (
@@ -60,7 +60,7 @@ search-rest-returns-2 : (t : ℕ) → search-rest-lts.Need-returns-2 (
   search-rest.Post,
 ) (search-rest-at t) search-rest.Post
 search-rest-returns-2 t c = let a = c .before .before .before .args in
-    order-stuck (a .rows) (a .left) (a .at) (a .n) (a .k) (c .before .lowest-free .result) (c .before .before .if1 .left)
+    order-stuck (a .rows .now) (a .left) (a .at) (a .n) (a .k) (c .before .lowest-free .result) (c .before .before .if1 .left)
     (c .before .lowest-free .ensures .0) (c .if2 .taken)
 
 -- src/lib.rt:253:9
@@ -129,7 +129,7 @@ search-rest-returns-3 : (t : ℕ) → search-rest-lts.Need-returns-3 (
 ) (search-rest-at t) search-rest.Post
 search-rest-returns-3 t c = let s = c .before .before .before .before .before in let a = s .args in
     let l : length (a .at) ≡ 32 = search needs in
-    c .search-rest .ensures ∙ rw (c .before .without .ensures) (order-more (a .rows) (a .left) (a .at) (a .n) (a .k)
+    c .search-rest .ensures ∙ rw (c .before .without .ensures) (order-more (a .rows .now) (a .left) (a .at) (a .n) (a .k)
     (c .before .before .before .lowest-free .result) (c .before .before .before .before .if1 .left)
     (c .before .before .before .lowest-free .ensures .0) (c .before .before .if2 .left)
     (omega (arith, c .before .before .before .before .if1 .left)))

@@ -10,7 +10,7 @@ use borrow.Author.Needs.{needs}
 use Rattle.rules.specs.Lists.{keep, rising}
 use Rattle.rules.specs.Boards.{everyone, admitted}
 use Rattle.search.specs.Rows.{admits}
-use Rattle.search.proofs.Laws.{keep-more, keep-less, keep-end}
+use Rattle.tables.proofs.Laws.{keep-more, keep-less, keep-end}
 use Rattle.search.proofs.admitted_count.Statement.{statement}
 use Rattle.search.proofs.admitted_count.Tie as tie
 

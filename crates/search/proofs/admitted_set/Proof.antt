@@ -4,8 +4,9 @@ use Prim.Native.Nat.{_-_, _≤_}
 use native.Mathlib.Omega.{arith}
 use lib.ListN.{set}
 use borrow.Author.Needs.{needs}
-use Rattle.search.specs.Rows.{joined, packed, admits, admittedSet}
-use Rattle.search.proofs.Laws.{packed-more, packed-all}
+use Rattle.tables.specs.Tables.{joined, packed}
+use Rattle.search.specs.Rows.{admits, admittedSet}
+use Rattle.tables.proofs.Laws.{packed-more, packed-all}
 use Rattle.search.proofs.admitted_set.Statement.{statement}
 use Rattle.search.proofs.admitted_set.Tie as tie
 

@@ -1,26 +1,21 @@
 -- `carried_order` meets its contract. Assumes nothing.
-use mathlib.Core.Path.{ap, _∙_}
-use lib.ListN.{replicate}
-use Rattle.rules.specs.Orders.{carried}
-use Rattle.search.specs.Rows.{placed}
-use Rattle.search.proofs.Laws.{carried-is, placed-start}
 use borrow.Author.Needs.{needs}
 use Rattle.search.proofs.carried_order.Statement.{statement}
 use Rattle.search.proofs.carried_order.Tie as tie
 
+fill-requires : tie.Need-fill-requires
+fill-requires c κs = search needs
+
+admitted-set-requires : tie.Need-admitted-set-requires
+admitted-set-requires c κs = search needs
+
+order-in-requires : tie.Need-order-in-requires
+order-in-requires c κs = search needs
+
 returns : tie.Need-returns
-returns c = let b = c .before .before .before .before .args .b in
-    c .search-rest .ensures ∙ rw (c .before .admitted-count .ensures .0, c .before .before .admitted-set .ensures)
-    (ap (placed (replicate 32 0) 0) (carried-is b (c .before .before .before .all-rows .result)
-    (c .before .before .before .all-rows .ensures)) ∙ placed-start (carried b))
+returns c = let f = c .before .before .before in
+    c .order-in .ensures (f .before .before .before .args .b) (f .fill .ensures .1) (c .before .before .admitted-set .ensures)
 
 pub carried-order-spec : {M : Type 1} → statement M
 carried-order-spec =
-    tie.close
-    (tie.spec
-    (λ c κs. search needs)
-    (λ c κs. search needs)
-    (λ c κs. search needs)
-    (λ c. search needs)
-    (λ c κs. search needs)
-    returns)
+    tie.close (tie.spec fill-requires admitted-set-requires order-in-requires returns)

@@ -9,7 +9,7 @@ use Rattle.rules.specs.Lists.{any, rising}
 use Rattle.rules.specs.Boards.{everyone, at}
 use Rattle.rules.specs.Orders.{inUse}
 use Rattle.search.specs.Rows.{clashes}
-use Rattle.search.proofs.Laws.{any-step, any-end}
+use Rattle.tables.proofs.Laws.{any-step, any-end}
 use Rattle.search.proofs.in_use.Statement.{statement}
 use Rattle.search.proofs.in_use.Tie as tie
 

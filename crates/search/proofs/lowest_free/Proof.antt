@@ -8,7 +8,7 @@ use borrow.Author.Needs.{needs}
 use Rattle.rules.specs.Lists.{first, rising}
 use Rattle.rules.specs.Boards.{everyone, at}
 use Rattle.search.specs.Rows.{free, lowest}
-use Rattle.search.proofs.Laws.{first-step, first-end}
+use Rattle.tables.proofs.Laws.{first-step, first-end}
 use Rattle.search.proofs.lowest_free.Statement.{statement}
 use Rattle.search.proofs.lowest_free.Tie as tie
 
@@ -25,7 +25,7 @@ loop-holds c = (search needs, search needs, refl)
 returns : tie.Need-returns Inv-loop μ-loop
 returns c = let l = c .before .before .before .loop in let a = c .before .before .before .before .args in (
   sym (rw (sym (c .before .is-free .ensures) ∙ c .if1 .taken) at (l .inv .2 ∙ ap (λ (x : Option ℕ). Option·getD x 0)
-      (first-step (free (a .rows) (a .left)) (l .p) (omega arith)))),
+      (first-step (free (a .rows .now) (a .left)) (l .p) (omega arith)))),
   search needs,
 )
 
@@ -34,12 +34,12 @@ loop-again c = let l = c .before .before .before .loop in let a = c .before .bef
   search needs,
   search needs,
   rw (add-one (l .p)) (rw (sym (c .before .is-free .ensures) ∙ c .if1 .left) at
-      (l .inv .2 ∙ ap (λ (x : Option ℕ). Option·getD x 0) (first-step (free (a .rows) (a .left)) (l .p) (omega arith)))),
+      (l .inv .2 ∙ ap (λ (x : Option ℕ). Option·getD x 0) (first-step (free (a .rows .now) (a .left)) (l .p) (omega arith)))),
 )
 
 returns-2 : tie.Need-returns-2 Inv-loop μ-loop
 returns-2 c = let l = c .before .loop in let a = c .before .before .args in
-    (sym (l .inv .2 ∙ ap (λ (x : Option ℕ). Option·getD x 0) (first-end (free (a .rows) (a .left)) (l .p) (omega arith))), search needs)
+    (sym (l .inv .2 ∙ ap (λ (x : Option ℕ). Option·getD x 0) (first-end (free (a .rows .now) (a .left)) (l .p) (omega arith))), search needs)
 
 pub lowest-free-spec : {M : Type 1} → statement M
 lowest-free-spec =

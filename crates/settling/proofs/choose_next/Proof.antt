@@ -1,6 +1,6 @@
 -- `choose_next` meets its contract. Assumes nothing.
 use mathlib.Core.Path.{_∙_}
-use Rattle.settling.proofs.Laws.{all-waiting, all-held, candidate-none, candidate-some, choose-still, run-held-is, favour-is}
+use Rattle.settling.proofs.Laws.{all-held, candidate-none, candidate-some, choose-still, run-held-is, favour-is}
 use Rattle.settling.proofs.Laws.{held-fits, favour-fits}
 use Rattle.settling.proofs.choose_next.Statement.{statement}
 use Rattle.settling.proofs.choose_next.Tie as tie
@@ -9,7 +9,7 @@ returns : tie.Need-returns
 returns c = choose-still (c .before .before .args .w) (c .if1 .taken)
 
 oldest-unused-requires : tie.Need-oldest-unused-requires
-oldest-unused-requires c κs = all-waiting (c .before .before .args .w .board) (c .before .before .pre .0)
+oldest-unused-requires c κs = c .before .before .pre .0
 
 admit-all-requires : tie.Need-admit-all-requires
 admit-all-requires c κs = let s = c .before .before .before .before in let w = s .args .w in (

@@ -1,55 +1,32 @@
 -- `line_sound` meets its contract. Assumes nothing.
-use mathlib.Core.Path.{sym, _∙_}
+use mathlib.Core.Path.{_≡_, sym, _∙_}
+use mathlib.Core.Bool.{Bool, not, _&&_, _||_}
+use Prim.Native.Nat.{_<_, _^_}
 use borrow.Author.Tests.{not-true, not-false}
-use Rattle.rules.specs.Soundness.{lineSound}
 use borrow.Author.Needs.{needs}
+use Rattle.rules.specs.Lists.{all, names, listed, distinct}
+use Rattle.rules.specs.Boards.{isProgram, everyone}
+use Rattle.rules.specs.Soundness.{lineSound}
+use Rattle.tables.specs.ProgramSets.{hasProgram}
+use Rattle.sound.proofs.Taken.{takes-is}
 use Rattle.sound.proofs.line_sound.Statement.{statement}
 use Rattle.sound.proofs.line_sound.Tie as tie
 
+-- the names are the programs of the set, each once
+right : (c : tie.After-takes-all) → (all (λ p. isProgram p && hasProgram (c .before .args .set) p) (names (c .before .args .line))
+    && all (λ p. not (hasProgram (c .before .args .set) p) || listed p (names (c .before .args .line))) everyone
+    && distinct (names (c .before .args .line))) ≡ c .takes-all .result
+right c = let a = c .before .args in let h : a .set .bits < 2 ^ 32 = search needs in
+    sym (c .takes-all .ensures ∙ takes-is (names (a .line)) (a .set) h)
+
 returns : tie.Need-returns
 unfolding lineSound
-returns c = rw (sym (c .before .names-right .ensures) ∙ not-true (c .before .names-right .result) (c .if1 .taken))
+returns c = rw (right (c .before) ∙ not-true (c .before .takes-all .result) (c .if1 .taken))
 
 returns-2 : tie.Need-returns-2
 unfolding lineSound
-returns-2 c = rw (
-  sym (c .before .before .before .names-right .ensures)
-      ∙ not-false (c .before .before .before .names-right .result) (c .before .before .if1 .left),
-  sym (c .before .has-all .ensures) ∙ not-true (c .before .has-all .result) (c .if2 .taken),
-)
-
-returns-3 : tie.Need-returns-3
-unfolding lineSound
-returns-3 c = rw (
-  sym (c .before .before .before .before .before .names-right .ensures)
-      ∙ not-false (c .before .before .before .before .before .names-right .result)
-      (c .before .before .before .before .if1 .left),
-  sym (c .before .before .before .has-all .ensures)
-      ∙ not-false (c .before .before .before .has-all .result) (c .before .before .if2 .left),
-  sym (c .before .is-distinct .ensures) ∙ not-true (c .before .is-distinct .result) (c .if3 .taken),
-)
-
-returns-4 : tie.Need-returns-4
-unfolding lineSound
-returns-4 c = rw (
-  sym (c .before .before .before .before .before .before .names-right .ensures)
-      ∙ not-false (c .before .before .before .before .before .before .names-right .result)
-      (c .before .before .before .before .before .if1 .left),
-  sym (c .before .before .before .before .has-all .ensures)
-      ∙ not-false (c .before .before .before .before .has-all .result) (c .before .before .before .if2 .left),
-  sym (c .before .before .is-distinct .ensures) ∙ not-false (c .before .before .is-distinct .result)
-      (c .before .if3 .left),
-) (c .is-zero-after .ensures)
+returns-2 c = rw (right (c .before .before) ∙ not-false (c .before .before .takes-all .result) (c .before .if1 .left))
+    (c .is-zero-after .ensures)
 
 pub line-sound-spec : {M : Type 1} → statement M
-line-sound-spec =
-    tie.close
-    (tie.spec
-    (λ c κs. search needs)
-    returns
-    (λ c κs. search needs)
-    returns-2
-    (λ c κs. search needs)
-    returns-3
-    (λ c κs. search needs)
-    returns-4)
+line-sound-spec = tie.close (tie.spec (λ c κs. search needs) returns (λ c κs. search needs) returns-2)

@@ -1,36 +1,45 @@
 -- `some_favoured` meets its contract. Assumes nothing.
-use mathlib.Core.Path.{sym, _∙_}
+use mathlib.Core.Path.{_≡_, sym, ap, _∙_}
+use mathlib.Core.Bool.{true, false, _&&_}
 use Prim.Native.Nat.{_+_}
 use borrow.Author.Tests.{not-true, not-false, eq-eqb, ne-eqb}
-use Rattle.rules.specs.Soundness.{someFavoured}
 use borrow.Author.Needs.{needs}
+use Rattle.rules.specs.Boards.{isProgram}
+use Rattle.rules.specs.Soundness.{someFavoured}
+use Rattle.tables.specs.declared.ProgramSet.{ProgramSet}
+use Rattle.tables.specs.ProgramSets.{hasProgram}
+use Rattle.sound.specs.Parts.{standsAt}
+use Rattle.sound.proofs.Taken.{packed-is}
 use Rattle.sound.proofs.some_favoured.Statement.{statement}
 use Rattle.sound.proofs.some_favoured.Tie as tie
 
+-- the favoured program is a program that waits, if it is in the set
+right : (c : tie.After-has) → c .has .result ≡ (isProgram (c .before .args .b .favoured)
+    && standsAt (c .before .args .b) false (c .before .args .b .favoured))
+right c = let a = c .before .args in c .has .ensures
+    ∙ ap (λ (s : ProgramSet). hasProgram s (a .b .favoured)) (c .before .pre)
+    ∙ packed-is (standsAt (a .b) false) (a .b .favoured)
+
 returns : tie.Need-returns
 unfolding someFavoured
-returns c = rw (sym (c .before .is-right-name .ensures) ∙ not-true (c .before .is-right-name .result) (c .if1 .taken))
+returns c = rw (sym (right (c .before)) ∙ not-true (c .before .has .result) (c .if1 .taken))
 
 returns-2 : tie.Need-returns-2
 unfolding someFavoured
-returns-2 c = let b = c .before .before .before .before .before .args .b in
+returns-2 c = let h = c .before .before .before .before in let b = h .before .args .b in
     rw (
-      sym (c .before .before .before .before .is-right-name .ensures)
-          ∙ not-false (c .before .before .before .before .is-right-name .result) (c .before .before .before .if1 .left),
+      sym (right h) ∙ not-false (h .has .result) (c .before .before .before .if1 .left),
       ← c .before .before .admitted-count .ensures .0,
-      ne-eqb (b .leaves + c .before .before .admitted-count .result)
-          (b .initial) (c .if2 .taken),
+      ne-eqb (b .leaves + c .before .before .admitted-count .result) (b .initial) (c .if2 .taken),
     )
 
 returns-3 : tie.Need-returns-3
 unfolding someFavoured
-returns-3 c = let b = c .before .before .before .before .before .args .b in
+returns-3 c = let h = c .before .before .before .before in let b = h .before .args .b in
     rw (
-      sym (c .before .before .before .before .is-right-name .ensures)
-          ∙ not-false (c .before .before .before .before .is-right-name .result) (c .before .before .before .if1 .left),
+      sym (right h) ∙ not-false (h .has .result) (c .before .before .before .if1 .left),
       ← c .before .before .admitted-count .ensures .0,
-      eq-eqb (b .leaves + c .before .before .admitted-count .result)
-          (b .initial) (c .if2 .left),
+      eq-eqb (b .leaves + c .before .before .admitted-count .result) (b .initial) (c .if2 .left),
     )
 
 pub some-favoured-spec : {M : Type 1} → statement M

@@ -1,73 +1,88 @@
 -- `waiters_sound` meets its contract. Assumes nothing.
-use mathlib.Core.Path.{_≡_, refl, sym, _∙_}
-use mathlib.Core.Bool.{true}
+use mathlib.Core.Path.{_≡_, refl, sym, ap, _∙_}
+use mathlib.Core.Bool.{true, false}
 use Prim.Native.Nat.{_-_, _≤_}
 use native.Mathlib.Numerals.{add-one}
 use native.Mathlib.Omega.{arith}
-use lib.ListN.{length, drop}
+use lib.ListN.{length, getD, drop}
 use borrow.Author.Tests.{not-true, not-false}
-use borrow.Author.Needs.{needs}
 use Rattle.rules.specs.Lists.{all, names}
-use Rattle.rules.specs.Boards.{isProgram, at}
-use Rattle.rules.specs.Settling.{line}
-use Rattle.sound.specs.Parts.{waiterAt}
-use Rattle.lines.proofs.Laws.{name-range, names-left}
+use Rattle.rules.specs.Soundness.{waiterSound}
+use Rattle.sound.specs.Parts.{rightName, waiterAt}
+use Rattle.lines.proofs.Laws.{names-left}
 use Rattle.lines.proofs.Laws.{all-names-on, all-names-stop, all-names-end}
+use Rattle.sound.proofs.Laws.{waiter-named}
+use borrow.Author.Needs.{needs}
 use Rattle.sound.proofs.waiters_sound.Statement.{statement}
 use Rattle.sound.proofs.waiters_sound.Tie as tie
 
 abbrev Inv-loop : tie.InvT-loop
-Inv-loop b line k₀ k = (k ≤ 32) × (all isProgram (names (drop k line)) ≡ true) × (all (waiterAt b) (names line) ≡ all
-    (waiterAt b) (names (drop k line)))
+Inv-loop sets rows uses b line k₀ k = (k ≤ 32) × (all (rightName b false) (names (drop k line)) ≡ true) × (all (waiterAt b) (names line)
+    ≡ all (waiterAt b) (names (drop k line))) × (length line ≡ 32)
 
 abbrev μ-loop : tie.MeasureT-loop
-μ-loop b line k₀ k = 32 - k
+μ-loop sets rows uses b line k₀ k = 32 - k
 
 loop-holds : tie.Need-loop-holds Inv-loop μ-loop
-loop-holds c = (search needs, c .pre, refl)
+loop-holds c = (search needs, c .pre .1, refl, search needs)
+
+array-read-p : tie.Need-array-read-p Inv-loop μ-loop
+array-read-p c = search needs
 
 returns : tie.Need-returns Inv-loop μ-loop
-returns c = let l = c .before .before .loop in let a = c .before .before .before .args in
-    let m : length (a .t2) ≡ 32 = search needs in
-    sym (l .inv .2 ∙ all-names-stop (a .t2) (l .k) (waiterAt (a .b)) (omega arith) (c .if1 .taken))
+returns c = let l = c .before .before .loop in let a = c .before .before .before .args in let m = l .inv .3 in
+    sym (l .inv .2 ∙ all-names-stop (a .t5) (l .k) (waiterAt (a .t1)) (omega arith) (c .if1 .taken))
+
+sub-i : tie.Need-sub-i Inv-loop μ-loop
+sub-i c = let l = c .before .before .loop in let a = c .before .before .before .args in let n = waiter-named (a .t1) (a .t5) (l .k) (omega (arith, l .inv .3)) (c .if1 .left) (l .inv .1) in n .0 .0
+
+cast-i : tie.Need-cast-i Inv-loop μ-loop
+cast-i c = let l = c .before .before .loop in let a = c .before .before .before .args in
+    let n = waiter-named (a .t1) (a .t5) (l .k) (omega (arith, l .inv .3)) (c .if1 .left) (l .inv .1) in let h = n .0 .1 in omega arith
+
+mul-q : tie.Need-mul-q Inv-loop μ-loop
+mul-q c = let l = c .before .before .loop in let a = c .before .before .before .args in
+    let n = waiter-named (a .t1) (a .t5) (l .k) (omega (arith, l .inv .3)) (c .if1 .left) (l .inv .1) in let h = n .0 .1 in omega arith
+
+element-copy-out-q : tie.Need-element-copy-out-q Inv-loop μ-loop
+element-copy-out-q c = let l = c .before .before .loop in let a = c .before .before .before .args in let n = waiter-named (a .t1) (a .t5) (l .k) (omega (arith, l .inv .3)) (c .if1 .left) (l .inv .1) in omega (arith, n .0 .0, n .0 .1)
 
 awaited-requires : tie.Need-awaited-requires Inv-loop μ-loop
-awaited-requires c κs = let l = c .before .before .loop in let a = c .before .before .before .args in
-    let m : length (a .t2) ≡ 32 = search needs in
-    name-range (a .t2) (l .k) (omega arith) (c .if1 .left) (l .inv .1)
+awaited-requires c κs = search needs
 
 waiter-sound-requires : tie.Need-waiter-sound-requires Inv-loop μ-loop
-waiter-sound-requires c κs = let l = c .before .before .before .loop in let a = c .before .before .before .before .args in
-    let m : length (a .t2) ≡ 32 = search needs in
-    name-range (a .t2) (l .k) (omega arith) (c .before .if1 .left) (l .inv .1)
+waiter-sound-requires c κs = let e = c .before .before in let l = e .before .before .loop in let a = e .before .before .before .args in
+    waiter-named (a .t1) (a .t5) (l .k) (omega (arith, l .inv .3)) (e .if1 .left) (l .inv .1) .0
 
 returns-2 : tie.Need-returns-2 Inv-loop μ-loop
-returns-2 c = let l = c .before .before .before .before .before .loop in let a = c .before .before .before .before .before .before .args in
-    let m : length (a .t2) ≡ 32 = search needs in
-    sym (rw (
-      ← c .before .before .awaited .ensures,
-      sym (c .before .waiter-sound .ensures)
-          ∙ not-true (c .before .waiter-sound .result) (c .if2 .taken),
-    ) at (l .inv .2 ∙ all-names-on (a .t2) (l .k)
-    (waiterAt (a .b)) (omega arith) (c .before .before .before .if1 .left)))
+returns-2 c = let w = c .before in let e = w .before .before .before in let l = e .before .before .loop in let s = e .before .before .before in let a = s .args in
+    let n = waiter-named (a .t1) (a .t5) (l .k) (omega (arith, l .inv .3)) (e .if1 .left) (l .inv .1) in
+    let t : w .waiter-sound .result ≡ waiterAt (a .t1) (getD (a .t5) (l .k) 0) = w .waiter-sound .ensures (a .t1) refl (s .pre .0) (n .1)
+    ∙ ap (waiterSound (a .t1) (getD (a .t5) (l .k) 0)) (w .before .awaited .ensures) in
+    sym (rw (sym t ∙ not-true (w .waiter-sound .result) (c .if2 .taken)) at (l .inv .2
+    ∙ all-names-on (a .t5) (l .k) (waiterAt (a .t1)) (omega (arith, l .inv .3)) (e .if1 .left)))
+
+add-k : tie.Need-add-k Inv-loop μ-loop
+add-k c = search needs
+
+loop-less : tie.Need-loop-less Inv-loop μ-loop
+loop-less c = search needs
 
 loop-again : tie.Need-loop-again Inv-loop μ-loop
-loop-again c = let l = c .before .before .before .before .before .loop in let a = c .before .before .before .before .before .before .args in
-    let m : length (a .t2) ≡ 32 = search needs in (
+loop-again c = let w = c .before in let e = w .before .before .before in let l = e .before .before .loop in let s = e .before .before .before in let a = s .args in
+    let n = waiter-named (a .t1) (a .t5) (l .k) (omega (arith, l .inv .3)) (e .if1 .left) (l .inv .1) in
+    let t : w .waiter-sound .result ≡ waiterAt (a .t1) (getD (a .t5) (l .k) 0) = w .waiter-sound .ensures (a .t1) refl (s .pre .0) (n .1)
+    ∙ ap (waiterSound (a .t1) (getD (a .t5) (l .k) 0)) (w .before .awaited .ensures) in (
       search needs,
-      rw (add-one (l .k)) (names-left isProgram (a .t2) (l .k) (omega arith) (c .before .before .before .if1 .left) (l .inv .1)),
-      rw (add-one (l .k)) (rw (
-        ← c .before .before .awaited .ensures,
-        sym (c .before .waiter-sound .ensures)
-            ∙ not-false (c .before .waiter-sound .result) (c .if2 .left),
-      ) at (l .inv .2 ∙ all-names-on (a .t2) (l .k)
-          (waiterAt (a .b)) (omega arith) (c .before .before .before .if1 .left))),
+      rw (add-one (l .k)) (names-left (rightName (a .t1) false) (a .t5) (l .k) (omega (arith, l .inv .3)) (e .if1 .left) (l .inv .1)),
+      rw (add-one (l .k)) (rw (sym t ∙ not-false (w .waiter-sound .result) (c .if2 .left)) at (l .inv .2
+          ∙ all-names-on (a .t5) (l .k) (waiterAt (a .t1)) (omega (arith, l .inv .3)) (e .if1 .left))),
+      l .inv .3,
     )
 
 returns-3 : tie.Need-returns-3 Inv-loop μ-loop
-returns-3 c = let l = c .before .loop in let a = c .before .before .args in
-    let m : length (a .t2) ≡ 32 = search needs in
-    sym (l .inv .2 ∙ all-names-end (a .t2) (l .k) (waiterAt (a .b)) (omega arith))
+returns-3 c = let l = c .before .loop in let a = c .before .before .args in let m = l .inv .3 in
+    sym (l .inv .2 ∙ all-names-end (a .t5) (l .k) (waiterAt (a .t1)) (omega arith))
 
 pub waiters-sound-spec : {M : Type 1} → statement M
 waiters-sound-spec =
@@ -76,12 +91,16 @@ waiters-sound-spec =
     Inv-loop
     μ-loop
     loop-holds
-    (λ c. search needs)
+    array-read-p
     returns
+    sub-i
+    cast-i
+    mul-q
+    element-copy-out-q
     awaited-requires
     waiter-sound-requires
     returns-2
-    (λ c. search needs)
-    (λ c. search needs)
+    add-k
+    loop-less
     loop-again
     returns-3)

@@ -1,0 +1,2 @@
+-- Laws for the functions of the program.
+pub mod Laws

@@ -1,0 +1,31 @@
+-- `last_line` meets its contract. Assumes nothing.
+use mathlib.Core.Path.{_∙_}
+use native.Mathlib.Omega.{arith}
+use Rattle.board.proofs.Laws.{last-none, last-some}
+use borrow.Author.Needs.{needs}
+use Rattle.board.proofs.last_line.Statement.{statement}
+use Rattle.board.proofs.last_line.Tie as tie
+
+returns : tie.Need-returns
+returns c =
+    let a = c .before .before .before .before .args in
+    last-none (a .s .board) (a .kept .now) (a .s .kept) (c .if1 .taken)
+
+returns-2 : tie.Need-returns-2
+returns-2 c =
+    let s = c .before .before .before .before .before .before .before .before .before .before .before .before .before .before in
+    let a = s .args in
+    c .flush .ensures .0 ∙ c .before .before .before .before .before .before .end-line .ensures .0
+    ∙ last-some (a .s .board) (a .kept .now) (a .s .kept) (c .before .before .before .before .before .before .before .before .before .before .if1 .left) (s .pre .0 .0) (omega (arith, s .pre .0 .0, s .pre .0 .1))
+
+pub last-line-spec : {M : Type 1} → statement M
+last-line-spec =
+    tie.close
+    (tie.spec
+    returns
+    (λ c. search needs)
+    (λ c κs. search needs)
+    (λ c κs. search needs)
+    (λ c. search needs)
+    (λ c. search needs)
+    returns-2)

@@ -1,0 +1,40 @@
+-- `order_line` meets its contract. Assumes nothing.
+use mathlib.Core.Path.{_≡_, ap, _∙_}
+use native.Mathlib.Omega.{arith}
+use lib.ListN.{length-set}
+use Rattle.search.specs.declared.Order.{Order}
+use Rattle.board.specs.Input.{orderLine}
+use Rattle.board.proofs.Laws.{order-is}
+use borrow.Author.Needs.{needs}
+use Rattle.board.proofs.order_line.Statement.{statement}
+use Rattle.board.proofs.order_line.Tie as tie
+
+same-length : tie.Need-same-length
+same-length c =
+    let k = c .before .before .put-programs in
+    length-set (k .last .0) (k .result) 10 ∙ k .kept .0 ∙ c .before .before .before .before .before .before .before .before .copy .kept .1 .0
+
+returns : tie.Need-returns
+returns c =
+    let a = c .before .before .before .before .before .before .before .before .before .before .before .before .args in
+    let w = c .before .before .before .before .before .before .before .before .copy in
+    let o = c .before .before .before .before .before .carried-order in
+    let k = c .before .before .put-programs in (
+      order-is (o .result .at) (a .out .now) (w .last .1 .0) (k .last .0) (k .result) (w .ensures .1) (k .ensures .0)
+          (omega (arith, k .ensures .1, k .kept .0, w .kept .1 .0))
+          ∙ ap (λ (x : Order). orderLine (x .at)) (o .ensures),
+      omega (arith, k .ensures .1),
+    )
+
+pub order-line-spec : {M : Type 1} → statement M
+order-line-spec =
+    tie.close
+    (tie.spec
+    (λ c. search needs)
+    (λ c κs. search needs)
+    (λ c κs. search needs)
+    (λ c κs. search needs)
+    (λ c. search needs)
+    (λ c. search needs)
+    same-length
+    returns)

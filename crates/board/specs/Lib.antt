@@ -1,0 +1,2 @@
+-- What the program's input does, and the last line of its output.
+pub mod Input

@@ -1,0 +1,179 @@
+-- `is_sound_by` meets its contract. Assumes nothing.
+use mathlib.Core.Path.{_≡_, sym, ap, _∙_}
+use mathlib.Core.Bool.{Bool, true, false, _&&_}
+use borrow.Author.Tests.{not-true, not-false, eq-eqb, ne-eqb}
+use borrow.Author.Needs.{needs}
+use Rattle.files.proofs.Tests.{and-both, and-right}
+use Rattle.rules.specs.declared.Board.{Board}
+use Rattle.rules.specs.Lists.{all, names, found}
+use Rattle.rules.specs.Boards.{everyone}
+use Rattle.rules.specs.Orders.{carried}
+use Rattle.rules.specs.Soundness.{noConflict, lineSound, sound}
+use Rattle.tables.specs.declared.ProgramSet.{ProgramSet}
+use Rattle.tables.specs.ProgramSets.{hasProgram}
+use Rattle.sound.specs.Parts.{isSoundAt, standsAt, waiterAt}
+use Rattle.sound.proofs.Laws.{line-waiters}
+use Rattle.sound.proofs.Taken.{line-packed}
+use Rattle.sound.proofs.is_sound_by.Statement.{statement}
+use Rattle.sound.proofs.is_sound_by.Tie as tie
+
+-- ---- what has been found true after each test
+
+abbrev first2 : Board → Bool
+first2 b = all (isSoundAt b) everyone && noConflict b
+
+abbrev first3 : Board → Bool
+first3 b = first2 b && found (carried b)
+
+abbrev first4 : Board → Bool
+first4 b = first3 b && lineSound (b .waiting) (standsAt b false)
+
+abbrev first5 : Board → Bool
+first5 b = first4 b && lineSound (b .entry) (standsAt b true)
+
+abbrev first6 : Board → Bool
+first6 b = first5 b && all (waiterAt b) (names (b .waiting))
+
+abbrev b1 : tie.Else1 → Board
+b1 c = c .before .before .args .b
+
+abbrev b2 : tie.Else2 → Board
+b2 c = b1 (c .before .before)
+
+abbrev b3 : tie.Else3 → Board
+b3 c = b2 (c .before)
+
+abbrev b4 : tie.Else4 → Board
+b4 c = b3 (c .before .before .before .before)
+
+abbrev b5 : tie.Else5 → Board
+b5 c = b4 (c .before .before .before .before)
+
+abbrev b6 : tie.Else6 → Board
+b6 c = b5 (c .before .before)
+
+past1 : (c : tie.Else1) → all (isSoundAt (b1 c)) everyone ≡ true
+past1 c = sym (c .before .programs-sound .ensures) ∙ not-false (c .before .programs-sound .result) (c .if1 .left)
+
+conflicts : (c : tie.After-no-conflict) → c .no-conflict .result ≡ noConflict (b1 (c .before))
+conflicts c = let e = c .before in c .no-conflict .ensures (b1 e) (e .before .before .pre .0) (past1 e)
+
+past2 : (c : tie.Else2) → first2 (b2 c) ≡ true
+past2 c = and-both (all (isSoundAt (b2 c)) everyone) (noConflict (b2 c)) (past1 (c .before .before))
+    (sym (conflicts (c .before)) ∙ not-false (c .before .no-conflict .result) (c .if2 .left))
+
+past3 : (c : tie.Else3) → first3 (b3 c) ≡ true
+past3 c = let s = c .before .before .before .before .before in
+    and-both (first2 (b3 c)) (found (carried (b3 c))) (past2 (c .before)) (sym (s .pre .3) ∙ not-false (s .args .ordered) (c .if3 .left))
+
+waiting-line : (c : tie.After-line-sound) → let b = b3 (c .before .before .before) in
+    c .line-sound .result ≡ lineSound (b .waiting) (standsAt b false)
+waiting-line c = let b = b3 (c .before .before .before) in c .line-sound .ensures
+    ∙ ap (λ (s : ProgramSet). lineSound (b .waiting) (hasProgram s)) (c .before .standing-set .ensures)
+    ∙ line-packed (b .waiting) (standsAt b false)
+
+past4 : (c : tie.Else4) → first4 (b4 c) ≡ true
+past4 c = and-both (first3 (b4 c)) (lineSound (b4 c .waiting) (standsAt (b4 c) false)) (past3 (c .before .before .before .before))
+    (sym (waiting-line (c .before)) ∙ not-false (c .before .line-sound .result) (c .if4 .left))
+
+entry-line : (c : tie.After-line-sound2) → let b = b4 (c .before .before .before) in
+    c .line-sound2 .result ≡ lineSound (b .entry) (standsAt b true)
+entry-line c = let b = b4 (c .before .before .before) in c .line-sound2 .ensures
+    ∙ ap (λ (s : ProgramSet). lineSound (b .entry) (hasProgram s)) (c .before .standing-set2 .ensures)
+    ∙ line-packed (b .entry) (standsAt b true)
+
+past5 : (c : tie.Else5) → first5 (b5 c) ≡ true
+past5 c = and-both (first4 (b5 c)) (lineSound (b5 c .entry) (standsAt (b5 c) true)) (past4 (c .before .before .before .before))
+    (sym (entry-line (c .before)) ∙ not-false (c .before .line-sound2 .result) (c .if5 .left))
+
+past6 : (c : tie.Else6) → first6 (b6 c) ≡ true
+past6 c = and-both (first5 (b6 c)) (all (waiterAt (b6 c)) (names (b6 c .waiting))) (past5 (c .before .before))
+    (sym (c .before .waiters-sound .ensures) ∙ not-false (c .before .waiters-sound .result) (c .if6 .left))
+
+-- ---- the returns
+
+returns : tie.Need-returns
+unfolding sound
+returns c = rw (sym (c .before .programs-sound .ensures) ∙ not-true (c .before .programs-sound .result) (c .if1 .taken))
+
+returns-2 : tie.Need-returns-2
+unfolding sound
+returns-2 c = rw (
+  past1 (c .before .before),
+  sym (conflicts (c .before)) ∙ not-true (c .before .no-conflict .result) (c .if2 .taken),
+)
+
+returns-3 : tie.Need-returns-3
+unfolding sound
+returns-3 c = let s = c .before .before .before .before .before in
+    rw (past2 (c .before), sym (s .pre .3) ∙ not-true (s .args .ordered) (c .if3 .taken))
+
+returns-4 : tie.Need-returns-4
+unfolding sound
+returns-4 c = rw (
+  past3 (c .before .before .before .before),
+  sym (waiting-line (c .before)) ∙ not-true (c .before .line-sound .result) (c .if4 .taken),
+)
+
+returns-5 : tie.Need-returns-5
+unfolding sound
+returns-5 c = rw (
+  past4 (c .before .before .before .before),
+  sym (entry-line (c .before)) ∙ not-true (c .before .line-sound2 .result) (c .if5 .taken),
+)
+
+waiters-sound-requires : tie.Need-waiters-sound-requires
+waiters-sound-requires c κs = let l = c .before .before .before .before in
+    let e = l .before .before .before .before in let s = e .before .before .before .before .before in (
+      record {
+        in-sets = s .pre .0;
+        in-rows = s .pre .1;
+        in-use = s .pre .2;
+        apart = and-right (all (isSoundAt (b5 c)) everyone) (noConflict (b5 c)) (past2 (e .before));
+        ordered = and-right (first2 (b5 c)) (found (carried (b5 c))) (past3 e);
+      },
+      line-waiters (b5 c) (b5 c .waiting) (sym (waiting-line (l .before)) ∙ not-false (l .before .line-sound .result) (l .if4 .left)),
+    )
+
+returns-6 : tie.Need-returns-6
+unfolding sound
+returns-6 c = rw (
+  past5 (c .before .before),
+  sym (c .before .waiters-sound .ensures) ∙ not-true (c .before .waiters-sound .result) (c .if6 .taken),
+)
+
+returns-7 : tie.Need-returns-7
+unfolding sound
+returns-7 c = let e = c .before .before .before in
+    rw (past6 e, eq-eqb (b6 e .favoured) 0 (c .before .if7 .taken)) (c .none-favoured .ensures)
+
+some-favoured-requires : tie.Need-some-favoured-requires
+some-favoured-requires c κs = let l = c .before .before .before .before .before .before .before .before in
+    l .before .before .standing-set .ensures
+
+returns-8 : tie.Need-returns-8
+unfolding sound
+returns-8 c = let e = c .before .before .before in
+    rw (past6 e, ne-eqb (b6 e .favoured) 0 (c .before .if7 .left)) (c .some-favoured .ensures)
+
+pub is-sound-by-spec : {M : Type 1} → statement M
+is-sound-by-spec =
+    tie.close
+    (tie.spec
+    (λ c κs. search needs)
+    returns
+    (λ c κs. search needs)
+    returns-2
+    returns-3
+    (λ c κs. search needs)
+    (λ c κs. search needs)
+    returns-4
+    (λ c κs. search needs)
+    (λ c κs. search needs)
+    returns-5
+    waiters-sound-requires
+    returns-6
+    (λ c κs. search needs)
+    returns-7
+    some-favoured-requires
+    returns-8)

@@ -1,0 +1,49 @@
+-- `judge` meets its contract. Assumes nothing.
+use mathlib.Core.Path.{_≡_, ap, _∙_}
+use Rattle.search.specs.declared.Uses.{Uses}
+use Rattle.search.specs.declared.Order.{Order}
+use Rattle.search.specs.Rows.{isFound, asOrder}
+use Rattle.rules.specs.Orders.{carried}
+use Rattle.search.proofs.Laws.{has-found}
+use borrow.Author.Needs.{needs}
+use Rattle.sound.proofs.judge.Statement.{statement}
+use Rattle.sound.proofs.judge.Tie as tie
+
+fill-requires : tie.Need-fill-requires
+fill-requires c κs = search needs
+
+uses-of-requires : tie.Need-uses-of-requires
+uses-of-requires c κs = search needs
+
+order-in-requires : tie.Need-order-in-requires
+order-in-requires c κs = search needs
+
+is-found-requires : tie.Need-is-found-requires
+is-found-requires c κs = search needs
+
+order : (c : tie.After-order-in) → c .order-in .result ≡ asOrder (carried (c .before .before .before .before .before .before .before .before .args .b))
+order c = let u = c .before .before .before in let f = u .before .before in
+    c .order-in .ensures (f .before .before .before .args .b) (f .fill .ensures .1) (ap (λ (z : Uses). z .admitted) (u .uses-of .ensures))
+
+is-sound-by-requires : tie.Need-is-sound-by-requires
+is-sound-by-requires c κs = let i = c .before .before in let o = i .before in let u = o .before .before .before in let f = u .before .before in
+    let b = f .before .before .before .args .b in (
+      f .fill .ensures .0,
+      f .fill .ensures .1,
+      u .uses-of .ensures,
+      i .is-found .ensures ∙ ap (λ (z : Order). isFound (z .kind)) (order o) ∙ has-found (carried b),
+    )
+
+returns : tie.Need-returns
+returns c = (c .is-sound-by .ensures, order (c .before .before .before .before))
+
+pub judge-spec : {M : Type 1} → statement M
+judge-spec =
+    tie.close
+    (tie.spec
+    fill-requires
+    uses-of-requires
+    order-in-requires
+    is-found-requires
+    is-sound-by-requires
+    returns)

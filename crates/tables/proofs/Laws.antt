@@ -1,0 +1,364 @@
+-- Laws of the arrays of a board. Assumes nothing.
+use mathlib.Core.Path.{_≡_, refl, sym, ap, ap₂, _∙_}
+use mathlib.Core.Logic.{_≢_}
+use mathlib.Core.Bool.{Bool, true, false, not, cond, _&&_, _||_}
+use mathlib.Core.List.{List, [], _∷_}
+use mathlib.Core.Option.{none, some}
+use Prim.Native.Nat.{ℕ, zero, suc, _+_, _-_, _≤_, _<_}
+use native.Mathlib.Numerals.{add-one}
+use native.Mathlib.Omega.{arith}
+use lib.Bits.{bitAnd, bitOr, or-add-and, and-le-l, and-comm}
+use lib.Dec.{eqb}
+use lib.ListN.{length, getD, set, length-set}
+use lib.Seq.{getD-set-same, getD-set-other}
+use borrow.Author.Tests.{eq-eqb, ne-eqb, eqb-true, eqb-false}
+use Rattle.files.proofs.Tests.{by-test, never, no-true, or-cases, or-left, or-right, and-left, and-right, and-both, and-false}
+use Rattle.files.specs.Bits.{hasBit, isNumber, hasNumber}
+use Rattle.files.proofs.Bits.{or-has, and-has, zero-share, zero-has, with-only, is-number, least, most, has-number, has-bit, with-number-same, with-number-other}
+use Rattle.rules.specs.declared.Program.{Program}
+use Rattle.rules.specs.declared.Board.{Board}
+use Rattle.rules.specs.Lists.{rising, any, all, keep, first}
+use Rattle.rules.specs.Boards.{noProgram, at}
+use Rattle.tables.specs.declared.ProgramSet.{ProgramSet}
+use Rattle.tables.specs.ProgramSets.{noPrograms, hasProgram, unionOf, commonOf}
+use Rattle.tables.specs.Tables.{inPlace, SetsTo, SetsOf, RowsUpTo, joined, packed, stops, holdsBits, HolderAdded, rowOf, holdersOf, Chain, Reached, Cleared}
+
+-- ---- the sets, one program after another
+
+-- four columns of 32 places with one more place of each written
+abbrev pub putSets : List ℕ → ℕ → Program → List ℕ
+putSets l i q = set (set (set (set l i (q .writable .bits)) (32 + i) (q .readable .bits)) (64 + i) (q .writing .bits)) (96 + i)
+    (q .reading .bits)
+
+module _ (b : Board) (i : ℕ) (l : List ℕ) (q : Program) (h : i < 32) (n : length l ≡ 128) (e : q ≡ inPlace b i) where
+  abbrev l₁ : List ℕ
+  l₁ = set l i (q .writable .bits)
+
+  abbrev l₂ : List ℕ
+  l₂ = set l₁ (32 + i) (q .readable .bits)
+
+  abbrev l₃ : List ℕ
+  l₃ = set l₂ (64 + i) (q .writing .bits)
+
+  n₁ : length l₁ ≡ 128
+  n₁ = length-set l i (q .writable .bits) ∙ n
+
+  n₂ : length l₂ ≡ 128
+  n₂ = length-set l₁ (32 + i) (q .readable .bits) ∙ n₁
+
+  n₃ : length l₃ ≡ 128
+  n₃ = length-set l₂ (64 + i) (q .writing .bits) ∙ n₂
+
+  last : (k : ℕ) → k ≢ 96 + i → getD (putSets l i q) k 0 ≡ getD l₃ k 0
+  last k d = getD-set-other l₃ (96 + i) k (q .reading .bits) 0 d
+
+  third : (k : ℕ) → k ≢ 64 + i → getD l₃ k 0 ≡ getD l₂ k 0
+  third k d = getD-set-other l₂ (64 + i) k (q .writing .bits) 0 d
+
+  second : (k : ℕ) → k ≢ 32 + i → getD l₂ k 0 ≡ getD l₁ k 0
+  second k d = getD-set-other l₁ (32 + i) k (q .readable .bits) 0 d
+
+  one : (k : ℕ) → k ≢ i → getD l₁ k 0 ≡ getD l k 0
+  one k d = getD-set-other l i k (q .writable .bits) 0 d
+
+  pub sets-more : SetsTo b i l → SetsTo b (i + 1) (putSets l i q)
+  sets-more f k m = by-test (eqb k i)
+      (λ t. let z : k ≡ i = eqb-true k i t in rw z (
+        last i (omega arith) ∙ third i (omega arith) ∙ second i (omega arith) ∙ getD-set-same l i (q .writable .bits) 0 (omega arith)
+            ∙ ap (λ (x : Program). x .writable .bits) e,
+        last (32 + i) (omega arith) ∙ third (32 + i) (omega arith) ∙ getD-set-same l₁ (32 + i) (q .readable .bits) 0 (omega (arith, n₁))
+            ∙ ap (λ (x : Program). x .readable .bits) e,
+        last (64 + i) (omega arith) ∙ getD-set-same l₂ (64 + i) (q .writing .bits) 0 (omega (arith, n₂))
+            ∙ ap (λ (x : Program). x .writing .bits) e,
+        getD-set-same l₃ (96 + i) (q .reading .bits) 0 (omega (arith, n₃)) ∙ ap (λ (x : Program). x .reading .bits) e,
+      ))
+      (λ t. let z : k ≢ i = eqb-false k i t in let r = f k (omega arith) in (
+        last k (omega arith) ∙ third k (omega arith) ∙ second k (omega arith) ∙ one k z ∙ r .0,
+        last (32 + k) (omega arith) ∙ third (32 + k) (omega arith) ∙ second (32 + k) (omega arith) ∙ one (32 + k) (omega arith) ∙ r .1,
+        last (64 + k) (omega arith) ∙ third (64 + k) (omega arith) ∙ second (64 + k) (omega arith) ∙ one (64 + k) (omega arith) ∙ r .2,
+        last (96 + k) (omega arith) ∙ third (96 + k) (omega arith) ∙ second (96 + k) (omega arith) ∙ one (96 + k) (omega arith) ∙ r .3,
+      ))
+
+  pub sets-length : length (putSets l i q) ≡ 128
+  sets-length = length-set l₃ (96 + i) (q .reading .bits) ∙ n₃
+
+-- ---- the rows, with one holder more
+
+abbrev pub rowIn : List ℕ → ℕ → ProgramSet
+rowIn l j = record { bits = getD l j 0 }
+
+module _ (sets : List ℕ) (i : ℕ) (before : List ℕ) where
+  abbrev pub holdsAt : ℕ → Bool
+  holdsAt j = holdsBits (getD sets (64 + i) 0) (getD sets (96 + i) 0) (getD sets j 0) (getD sets (32 + j) 0)
+
+  -- the holder has joined the first n rows where it holds back, its own among them
+  abbrev pub JoinedTo : ℕ → List ℕ → Type 0
+  JoinedTo n after = (length after ≡ 32) × ((j : ℕ) → j < n → rowIn after j ≡ joined (rowIn before j) (suc i) (holdsAt j))
+      × ((j : ℕ) → n ≤ j → getD after j 0 ≡ getD before j 0)
+
+  pub joined-more : (n : ℕ) (after : List ℕ) (r : ProgramSet) → n < 32 → JoinedTo n after
+      → r ≡ joined (rowIn after n) (i + 1) (holdsAt n) → JoinedTo (n + 1) (set after n (r .bits))
+  joined-more n after r h (k, f, g) e = (
+    length-set after n (r .bits) ∙ k,
+    λ j m. by-test (eqb j n)
+        (λ t. let z : j ≡ n = eqb-true j n t in rw z (
+        ap {B = ProgramSet} (λ x. record { bits = x }) (getD-set-same after n (r .bits) 0 (omega arith)) ∙ e
+        ∙ ap₂ (λ (x : ProgramSet) (y : ℕ). joined x y (holdsAt n)) (ap {B = ProgramSet} (λ x. record { bits = x }) (g n (omega arith))) (add-one i)))
+        (λ t. let z : j ≢ n = eqb-false j n t in
+        ap {B = ProgramSet} (λ x. record { bits = x }) (getD-set-other after n j (r .bits) 0 z) ∙ f j (omega arith)),
+    λ j m. getD-set-other after n j (r .bits) 0 (omega arith) ∙ g j (omega arith),
+  )
+
+  -- a program with nothing open holds back nobody
+  pub joined-none : length before ≡ 32 → bitOr (getD sets (64 + i) 0) (getD sets (96 + i) 0) ≡ 0 → HolderAdded sets i before before
+  joined-none n e = (n, λ j m. sym (ap (joined (rowIn before j) (suc i)) (ap (λ (x : Bool). not (eqb i j) && x) (holds-none j) ∙ and-false (not (eqb i j)))))
+    where
+      holds-none : (j : ℕ) → holdsAt j ≡ false
+      holds-none j = rw (
+        zero-share (getD sets (64 + i) 0) (getD sets j 0) (omega (arith, or-add-and (getD sets (64 + i) 0) (getD sets (96 + i) 0), and-le-l (getD sets (96 + i) 0) (getD sets (64 + i) 0), and-comm (getD sets (64 + i) 0) (getD sets (96 + i) 0))),
+        zero-share (getD sets (64 + i) 0) (getD sets (32 + j) 0) (omega (arith, or-add-and (getD sets (64 + i) 0) (getD sets (96 + i) 0), and-le-l (getD sets (96 + i) 0) (getD sets (64 + i) 0), and-comm (getD sets (64 + i) 0) (getD sets (96 + i) 0))),
+        zero-share (getD sets (96 + i) 0) (getD sets j 0) (omega (arith, or-add-and (getD sets (64 + i) 0) (getD sets (96 + i) 0), and-le-l (getD sets (64 + i) 0) (getD sets (96 + i) 0))),
+      )
+
+  pub joined-done : (after : List ℕ) → i < 32 → JoinedTo 32 after → HolderAdded sets i before (set after i (getD before i 0))
+  joined-done after h (k, f, g) = (
+    length-set after i (getD before i 0) ∙ k,
+    λ j m. by-test (eqb i j)
+        (λ t. let z : i ≡ j = eqb-true i j t in rw (t, sym z) (
+        ap {B = ProgramSet} (λ x. record { bits = x }) (getD-set-same after i (getD before i 0) 0 (omega arith))))
+        (λ t. let z : i ≢ j = eqb-false i j t in rw t (
+        ap {B = ProgramSet} (λ x. record { bits = x }) (getD-set-other after i j (getD before i 0) 0 (λ d. z (sym d))) ∙ f j m)),
+  )
+
+-- ---- the rows, one holder after another
+
+pub at-place : (b : Board) (i : ℕ) → at b (suc i) ≡ inPlace b i
+at-place b i = let z : suc i - 1 ≡ i = omega arith in ap (λ (x : ℕ). getD (b .programs) x noProgram) z
+
+eqb-suc : (i j : ℕ) → eqb (suc i) (suc j) ≡ eqb i j
+eqb-suc i j = by-test (eqb i j) (λ t. let z : i ≡ j = eqb-true i j t in eq-eqb (suc i) (suc j) (ap suc z) ∙ sym t)
+    (λ t. let z : i ≢ j = eqb-false i j t in ne-eqb (suc i) (suc j) (λ d. z (omega arith)) ∙ sym t)
+
+-- whether one holds back another, by the sets
+pub stops-is : (b : Board) (sets : List ℕ) (i j : ℕ) → i < 32 → j < 32 → SetsOf b sets
+    → stops b (suc j) (suc i) ≡ (not (eqb i j) && holdsAt sets i [] j)
+stops-is b sets i j h k (n, f) =
+    rw (eqb-suc i j, at-place b i, at-place b j, f i h .2, f i h .3, f j k .0, f j k .1)
+
+module _ (b : Board) (sets : List ℕ) (s : SetsOf b sets) (i : ℕ) (h : i < 32) where
+  pub rows-more : (before after : List ℕ) → RowsUpTo b i before → HolderAdded sets i before after → RowsUpTo b (i + 1) after
+  unfolding packed
+  rows-more before after f (n, g) j k = rw (add-one i) (g j k
+      ∙ ap₂ (λ (x : ProgramSet) (y : Bool). joined x (suc i) y) (f j k) (sym (stops-is b sets i j h k s)))
+
+pub rows-none : (b : Board) (rows : List ℕ) → Cleared rows → RowsUpTo b 0 rows
+unfolding packed
+rows-none b rows c j k = ap {B = ProgramSet} (λ x. record { bits = x }) (c .1 j k)
+
+-- the first n places are cleared
+abbrev pub ClearedTo : ℕ → List ℕ → Type 0
+ClearedTo n rows = (length rows ≡ 32) × ((i : ℕ) → i < n → getD rows i 0 ≡ 0)
+
+pub cleared-more : (n : ℕ) (rows : List ℕ) → n < 32 → ClearedTo n rows → ClearedTo (n + 1) (set rows n 0)
+cleared-more n rows h (k, f) = (
+  length-set rows n 0 ∙ k,
+  λ i m. by-test (eqb i n)
+      (λ t. let z : i ≡ n = eqb-true i n t in rw z (getD-set-same rows n 0 0 (omega arith)))
+      (λ t. let z : i ≢ n = eqb-false i n t in getD-set-other rows n i 0 0 z ∙ f i (omega arith)),
+)
+
+-- ---- sets of the numbers that pass a test
+
+-- the set of those up to i
+pub packed-more : (t : ℕ → Bool) (i : ℕ) (s r : ProgramSet) → 1 ≤ i → s ≡ packed t (i - 1) → r ≡ joined s i (t i) → r ≡ packed t (i + 1 - 1)
+unfolding packed
+packed-more t zero s r h e k = absurd (omega arith)
+packed-more t (suc i) s r h e k =
+    let a : suc i + 1 - 1 ≡ suc i = omega arith in
+    let z : suc i - 1 ≡ i = omega arith in
+    rw a (k ∙ ap (λ (x : ProgramSet). joined x (suc i) (t (suc i))) (e ∙ ap (packed t) z))
+
+-- and of all
+pub packed-all : (t : ℕ → Bool) (i : ℕ) (s : ProgramSet) → i ≡ 33 → s ≡ packed t (i - 1) → s ≡ packed t 32
+packed-all t i s h e = e ∙ ap (λ (x : ℕ). packed t (x - 1)) h
+
+-- ---- members of a packed set
+
+-- a bit of a packed set is that of a number that passes the test
+pub packed-bit : (t : ℕ → Bool) (n i : ℕ) → n ≤ 32 → hasBit (packed t n .bits) i ≡ true → (i < n) × (t (suc i) ≡ true)
+unfolding packed
+packed-bit t zero i h e = never e (zero-has i)
+packed-bit t (suc n) i h e =
+    by-test (t (suc n))
+    (λ y. by-test (eqb i n) (λ d. let z : i ≡ n = eqb-true i n d in (omega arith, ap (λ x. t (suc x)) z ∙ y))
+    (λ d. let z : i ≢ n = eqb-false i n d in
+    let k : suc n - 1 ≡ n = omega arith in
+    let r = packed-bit t n i (omega arith) (with-only (packed t n .bits) n i (rw (y, is-number 32 (suc n) (omega arith) h, k) at e) z) in
+    (omega (arith, r .0), r .1)))
+    (λ y. let r = packed-bit t n i (omega arith) (rw y at e) in (omega (arith, r .0), r .1))
+
+pub packed-has : (t : ℕ → Bool) (n i : ℕ) → n ≤ 32 → 1 ≤ i → i ≤ n → hasProgram (packed t n) i ≡ t i
+unfolding packed
+packed-has t zero i m l h = absurd (omega arith)
+packed-has t (suc n) i m l h =
+    by-test (eqb i (suc n))
+    (λ e. let z : i ≡ suc n = eqb-true i (suc n) e in rw z last)
+    (λ e. let z : i ≢ suc n = eqb-false i (suc n) e in
+    by-test (t (suc n))
+    (λ y. rw y (with-number-other 32 (packed t n .bits) (suc n) i z ∙ packed-has t n i (omega arith) l (omega arith)))
+    (λ y. rw y (packed-has t n i (omega arith) l (omega arith))))
+  where
+    is : isNumber 32 (suc n) ≡ true
+    is = is-number 32 (suc n) (omega arith) m
+
+    last : hasProgram (joined (packed t n) (suc n) (t (suc n))) (suc n) ≡ t (suc n)
+    last =
+        by-test (t (suc n)) (λ y. rw y (with-number-same 32 (packed t n .bits) (suc n) is))
+        (λ y. rw y (no-true (hasProgram (packed t n) (suc n)) (λ d. let k : suc n - 1 ≡ n = omega arith in
+        let r = packed-bit t n n (omega arith) (rw k at (has-bit 32 (packed t n .bits) (suc n) d)) .0 in omega arith)))
+
+-- ---- those that hold back one of a set
+
+pub holders-more : (rows : List ℕ) (s : ProgramSet) (p : ℕ) (a r : ProgramSet) → 1 ≤ p → a ≡ holdersOf rows s (p - 1)
+    → r ≡ cond (hasProgram s p) (unionOf a (rowOf rows p)) a → r ≡ holdersOf rows s (p + 1 - 1)
+unfolding holdersOf
+holders-more rows s zero a r h e k = absurd (omega arith)
+holders-more rows s (suc p) a r h e k =
+    let y : suc p + 1 - 1 ≡ suc p = omega arith in
+    let z : suc p - 1 ≡ p = omega arith in
+    rw y (k ∙ ap (λ (x : ProgramSet). cond (hasProgram s (suc p)) (unionOf x (rowOf rows (suc p))) x) (e ∙ ap (holdersOf rows s) z))
+
+pub holders-all : (rows : List ℕ) (s : ProgramSet) (p : ℕ) (a : ProgramSet) → p ≡ 33 → a ≡ holdersOf rows s (p - 1) → a ≡ holdersOf rows s 32
+holders-all rows s p a h e = e ∙ ap (λ (x : ℕ). holdersOf rows s (x - 1)) h
+
+-- members of a union, and of what two sets have in common
+pub union-has : (s t : ProgramSet) (x : ℕ) → hasProgram (unionOf s t) x ≡ (hasProgram s x || hasProgram t x)
+union-has s t x = by-test (isNumber 32 x) (λ e. rw e (or-has (s .bits) (t .bits) (x - 1))) (λ e. rw e)
+
+pub common-has : (s t : ProgramSet) (x : ℕ) → hasProgram (commonOf s t) x ≡ (hasProgram s x && hasProgram t x)
+common-has s t x = by-test (isNumber 32 x) (λ e. rw e (and-has (s .bits) (t .bits) (x - 1))) (λ e. rw e)
+
+pub none-has : (x : ℕ) → hasProgram noPrograms x ≡ false
+none-has x = by-test (isNumber 32 x) (λ e. rw e (zero-has (x - 1))) (λ e. rw e)
+
+-- who holds back one of the set is among its holders, and nobody else
+pub holder-in : (rows : List ℕ) (s : ProgramSet) (n x y : ℕ) → 1 ≤ y → y ≤ n → hasProgram s y ≡ true → hasProgram (rowOf rows y) x ≡ true
+    → hasProgram (holdersOf rows s n) x ≡ true
+unfolding holdersOf
+holder-in rows s zero x y l h e k = absurd (omega arith)
+holder-in rows s (suc n) x y l h e k =
+    by-test (eqb y (suc n))
+    (λ t. let z : y ≡ suc n = eqb-true y (suc n) t in
+    rw (rw z at e) (union-has (holdersOf rows s n) (rowOf rows (suc n)) x ∙ or-right (hasProgram (holdersOf rows s n) x) _ (rw z at k)))
+    (λ t. let z : y ≢ suc n = eqb-false y (suc n) t in let r = holder-in rows s n x y l (omega arith) e k in
+    by-test (hasProgram s (suc n))
+    (λ u. rw u (union-has (holdersOf rows s n) (rowOf rows (suc n)) x ∙ or-left _ (hasProgram (rowOf rows (suc n)) x) r)) (λ u. rw u r))
+
+pub in-holder : (rows : List ℕ) (s : ProgramSet) (n x : ℕ) → hasProgram (holdersOf rows s n) x ≡ true
+    → (y : ℕ) × (hasProgram s y ≡ true) × (hasProgram (rowOf rows y) x ≡ true)
+unfolding holdersOf
+in-holder rows s zero x e = never e (none-has x)
+in-holder rows s (suc n) x e =
+    by-test (hasProgram s (suc n))
+    (λ u. or-cases (hasProgram (holdersOf rows s n) x) (hasProgram (rowOf rows (suc n)) x)
+    (sym (union-has (holdersOf rows s n) (rowOf rows (suc n)) x) ∙ rw u at e) (in-holder rows s n x) (λ k. (suc n, u, k)))
+    (λ u. in-holder rows s n x (rw u at e))
+
+-- ---- reaching, one round after another
+
+module _ (rows : List ℕ) (among : ProgramSet) where
+  abbrev pub grownBy : ProgramSet → ProgramSet
+  grownBy s = unionOf s (commonOf (holdersOf rows s 32) among)
+
+  -- what is reached so far: the first ones, and only those with a chain to them
+  abbrev pub SoFar : ProgramSet → ProgramSet → Type 0
+  SoFar start s = ((x : ℕ) → hasProgram start x ≡ true → hasProgram s x ≡ true)
+      × ((x : ℕ) → hasProgram s x ≡ true → Chain rows among start x)
+
+  pub sofar-start : (set start : ProgramSet) → start ≡ commonOf set among → SoFar start start
+  sofar-start set start e = (
+    λ x h. h,
+    λ x h. Chain.first h (and-right (hasProgram set x) (hasProgram among x)
+        (sym (common-has set among x) ∙ ap (λ (s : ProgramSet). hasProgram s x) (sym e) ∙ h)),
+  )
+
+  pub sofar-more : (start s : ProgramSet) → SoFar start s → SoFar start (grownBy s)
+  sofar-more start s (f, g) = (
+    λ x h. union-has s (commonOf (holdersOf rows s 32) among) x ∙ or-left (hasProgram s x) _ (f x h),
+    λ x h. or-cases (hasProgram s x) (hasProgram (commonOf (holdersOf rows s 32) among) x)
+        (sym (union-has s (commonOf (holdersOf rows s 32) among) x) ∙ h) (g x)
+        (λ k. let c = sym (common-has (holdersOf rows s 32) among x) ∙ k in
+        let (y, u, v) = in-holder rows s 32 x (and-left (hasProgram (holdersOf rows s 32) x) (hasProgram among x) c) in
+        Chain.next (and-right (hasProgram (holdersOf rows s 32) x) (hasProgram among x) c) v (g y u)),
+  )
+
+  pub grown-le : (s : ProgramSet) → s .bits ≤ grownBy s .bits
+  grown-le s = omega (
+    arith,
+    or-add-and (s .bits) (bitAnd (holdersOf rows s 32 .bits) (among .bits)),
+    and-le-l (bitAnd (holdersOf rows s 32 .bits) (among .bits)) (s .bits),
+    and-comm (s .bits) (bitAnd (holdersOf rows s 32 .bits) (among .bits)),
+  )
+
+  -- where a round adds nobody, all are reached
+  pub reached-all : (set start s : ProgramSet) → start ≡ commonOf set among → SoFar start s → grownBy s .bits ≡ s .bits
+      → Reached rows among set s
+  reached-all set start s e (f, g) d = record {
+    starts = λ x h k. f x (rw e (common-has set among x ∙ and-both (hasProgram set x) (hasProgram among x) h k));
+    closed = λ x y h k u. ap (λ (n : ℕ). hasNumber 32 n x) (sym d) ∙ union-has s (commonOf (holdersOf rows s 32) among) x
+        ∙ or-right (hasProgram s x) _ (common-has (holdersOf rows s 32) among x
+        ∙ and-both (hasProgram (holdersOf rows s 32) x) (hasProgram among x)
+        (holder-in rows s 32 x y (least 32 y (has-number 32 (s .bits) y k)) (most 32 y (has-number 32 (s .bits) y k)) k u) h);
+    chained = λ x h. widen x (g x h);
+  }
+    where
+      widen : (x : ℕ) → Chain rows among start x → Chain rows among set x
+      widen x (Chain.first h k) = Chain.first (and-left (hasProgram set x) (hasProgram among x) (sym (common-has set among x) ∙ rw e at h)) k
+      widen x (Chain.next {y = y} h k c) = Chain.next h k (widen y c)
+
+-- ---- the numbers from p to 32
+
+pub rising-step : (p : ℕ) → p ≤ 32 → rising (33 - p) p ≡ p ∷ rising (33 - suc p) (suc p)
+unfolding rising
+rising-step p h = let e : 33 - p ≡ suc (33 - suc p) = omega arith in rw e
+
+pub rising-end : (p : ℕ) → 32 < p → rising (33 - p) p ≡ []
+unfolding rising
+rising-end p h = let e : 33 - p ≡ 0 = omega arith in rw e
+
+module _ (t : ℕ → Bool) (p : ℕ) where
+  pub any-step : p ≤ 32 → any t (rising (33 - p) p) ≡ (t p || any t (rising (33 - suc p) (suc p)))
+  unfolding any
+  any-step h = ap (any t) (rising-step p h)
+
+  pub any-end : 32 < p → any t (rising (33 - p) p) ≡ false
+  unfolding any
+  any-end h = ap (any t) (rising-end p h)
+
+  pub all-step : p ≤ 32 → all t (rising (33 - p) p) ≡ (t p && all t (rising (33 - suc p) (suc p)))
+  unfolding all
+  all-step h = ap (all t) (rising-step p h)
+
+  pub all-end : 32 < p → all t (rising (33 - p) p) ≡ true
+  unfolding all
+  all-end h = ap (all t) (rising-end p h)
+
+  pub first-step : p ≤ 32 → first t (rising (33 - p) p) ≡ cond (t p) (some p) (first t (rising (33 - suc p) (suc p)))
+  unfolding first
+  first-step h = ap (first t) (rising-step p h)
+
+  pub first-end : 32 < p → first t (rising (33 - p) p) ≡ none
+  unfolding first
+  first-end h = ap (first t) (rising-end p h)
+
+  pub keep-more : p ≤ 32 → t p ≡ true → length (keep t (rising (33 - p) p)) ≡ suc (length (keep t (rising (33 - suc p) (suc p))))
+  unfolding keep
+  keep-more h e = rw (rising-step p h, e)
+
+  pub keep-less : p ≤ 32 → t p ≡ false → length (keep t (rising (33 - p) p)) ≡ length (keep t (rising (33 - suc p) (suc p)))
+  unfolding keep
+  keep-less h e = rw (rising-step p h, e)
+
+  pub keep-end : 32 < p → length (keep t (rising (33 - p) p)) ≡ 0
+  unfolding keep
+  keep-end h = rw (rising-end p h)

@@ -1,0 +1,13 @@
+-- `join` meets its contract. Assumes nothing.
+use borrow.Author.Needs.{needs}
+use Rattle.tables.proofs.join.Statement.{statement}
+use Rattle.tables.proofs.join.Tie as tie
+
+returns : tie.Need-returns
+returns c = rw (c .before .if1 .taken) (c .with .ensures)
+
+returns-2 : tie.Need-returns-2
+returns-2 c = rw (c .if1 .left)
+
+pub join-spec : {M : Type 1} → statement M
+join-spec = tie.close (tie.spec (λ c κs. search needs) returns returns-2)

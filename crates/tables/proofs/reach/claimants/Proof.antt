@@ -1,0 +1,84 @@
+-- `claimants` meets its contract. Assumes nothing.
+use mathlib.Core.Path.{_≡_, refl, ap, _∙_}
+use Prim.Native.Nat.{_-_, _≤_}
+use native.Mathlib.Omega.{arith}
+use Rattle.tables.specs.Tables.{packed, joined, claimsAt}
+use Rattle.tables.proofs.Laws.{packed-more, packed-all}
+use borrow.Author.Needs.{needs}
+use Rattle.tables.proofs.reach.claimants.Statement.{statement}
+use Rattle.tables.proofs.reach.claimants.Tie as tie
+
+abbrev Inv-loop : tie.InvT-loop
+Inv-loop sets f both set₀ p₀ set p = (1 ≤ p) × (p ≤ 33) × (set ≡ packed (claimsAt sets f both) (p - 1))
+
+abbrev μ-loop : tie.MeasureT-loop
+μ-loop sets f both set₀ p₀ set p = 33 - p
+
+loop-holds : tie.Need-loop-holds Inv-loop μ-loop
+unfolding packed
+loop-holds c = (search needs, search needs, refl)
+
+sub-i : tie.Need-sub-i Inv-loop μ-loop
+sub-i c = search needs
+
+cast-i : tie.Need-cast-i Inv-loop μ-loop
+cast-i c = search needs
+
+mul-t12 : tie.Need-mul-t12 Inv-loop μ-loop
+mul-t12 c = search needs
+
+element-copy-out-t15 : tie.Need-element-copy-out-t15 Inv-loop μ-loop
+element-copy-out-t15 c = search needs
+
+add-t12 : tie.Need-add-t12 Inv-loop μ-loop
+add-t12 c = search needs
+
+mul-t16 : tie.Need-mul-t16 Inv-loop μ-loop
+mul-t16 c = search needs
+
+element-copy-out-t15-2 : tie.Need-element-copy-out-t15-2 Inv-loop μ-loop
+element-copy-out-t15-2 c = search needs
+
+is-claimed-requires : tie.Need-is-claimed-requires Inv-loop μ-loop
+is-claimed-requires c κs = search needs
+
+join-requires : tie.Need-join-requires Inv-loop μ-loop
+join-requires c κs = search needs
+
+add-p : tie.Need-add-p Inv-loop μ-loop
+add-p c = search needs
+
+loop-less : tie.Need-loop-less Inv-loop μ-loop
+loop-less c = search needs
+
+loop-again : tie.Need-loop-again Inv-loop μ-loop
+loop-again c = let l = c .before .before .before .before .before .loop in let a = c .before .before .before .before .before .before .args in (
+  search needs,
+  search needs,
+  packed-more (claimsAt (a .sets .now) (a .f) (a .both)) (l .p) (l .set) (c .join .result) (l .inv .0) (l .inv .2)
+      (c .join .ensures ∙ ap (joined (l .set) (l .p)) (c .before .is-claimed .ensures)),
+)
+
+returns : tie.Need-returns Inv-loop μ-loop
+returns c = let a = c .before .before .args in packed-all (claimsAt (a .sets .now) (a .f) (a .both)) (c .before .loop .p) (c .before .loop .set) (omega arith) (c .before .loop .inv .2)
+
+pub claimants-spec : {M : Type 1} → statement M
+claimants-spec =
+    tie.close
+    (tie.spec
+    Inv-loop
+    μ-loop
+    loop-holds
+    sub-i
+    cast-i
+    mul-t12
+    element-copy-out-t15
+    add-t12
+    mul-t16
+    element-copy-out-t15-2
+    is-claimed-requires
+    join-requires
+    add-p
+    loop-less
+    loop-again
+    returns)

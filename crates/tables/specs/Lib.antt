@@ -1,0 +1,3 @@
+-- The definitions that the contracts of tables cite.
+pub mod ProgramSets
+pub mod Tables

@@ -1,0 +1,34 @@
+-- Sets of programs, as sets of the numbers 1 to 32.
+-- Assumes nothing.
+use Prim.Native.Nat.{ℕ}
+use mathlib.Core.Bool.{Bool}
+use lib.Bits.{bitAnd, bitOr}
+use Rattle.files.specs.Bits.{hasNumber, withNumber, withoutNumber, share}
+use Rattle.tables.specs.declared.ProgramSet.{ProgramSet}
+
+abbrev pub noPrograms : ProgramSet
+noPrograms = record { bits = 0 }
+
+-- p is in s
+abbrev pub hasProgram : ProgramSet → ℕ → Bool
+hasProgram s p = hasNumber 32 (s .bits) p
+
+-- s and p
+abbrev pub withProgram : ProgramSet → ℕ → ProgramSet
+withProgram s p = record { bits = withNumber 32 (s .bits) p }
+
+-- s but p
+abbrev pub withoutProgram : ProgramSet → ℕ → ProgramSet
+withoutProgram s p = record { bits = withoutNumber 32 (s .bits) p }
+
+-- the sets have a program in common
+abbrev pub programsMeet : ProgramSet → ProgramSet → Bool
+programsMeet s t = share (s .bits) (t .bits)
+
+-- the programs of both
+abbrev pub unionOf : ProgramSet → ProgramSet → ProgramSet
+unionOf s t = record { bits = bitOr (s .bits) (t .bits) }
+
+-- the programs that they have in common
+abbrev pub commonOf : ProgramSet → ProgramSet → ProgramSet
+commonOf s t = record { bits = bitAnd (s .bits) (t .bits) }

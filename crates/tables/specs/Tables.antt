@@ -1,0 +1,111 @@
+-- The arrays of a board: the sets of its programs, and for each program the set of those that hold it back.
+-- Assumes nothing.
+use Prim.Native.Nat.{ℕ, zero, suc, _+_, _-_, _<_}
+use mathlib.Core.Path.{_≡_}
+use mathlib.Core.Bool.{Bool, true, not, cond, _&&_, _||_}
+use mathlib.Core.List.{List}
+use lib.Dec.{eqb}
+use lib.Bits.{bitOr}
+use lib.ListN.{length, getD}
+use Rattle.files.specs.declared.FileSet.{FileSet}
+use Rattle.files.specs.Bits.{share}
+use Rattle.files.specs.Sets.{member}
+use Rattle.rules.specs.declared.Program.{Program}
+use Rattle.rules.specs.declared.Board.{Board}
+use Rattle.rules.specs.Boards.{noProgram, at}
+use Rattle.rules.specs.Orders.{holdsBack}
+use Rattle.tables.specs.declared.ProgramSet.{ProgramSet}
+use Rattle.tables.specs.ProgramSets.{noPrograms, hasProgram, withProgram, unionOf}
+
+-- the program at place i
+abbrev pub inPlace : Board → ℕ → Program
+inPlace b i = getD (b .programs) i noProgram
+
+-- the sets of the first n programs stand in their places
+abbrev pub SetsTo : Board → ℕ → List ℕ → Type 0
+SetsTo b n l = (i : ℕ) → i < n → (getD l i 0 ≡ inPlace b i .writable .bits) × (getD l (32 + i) 0 ≡ inPlace b i .readable .bits)
+    × (getD l (64 + i) 0 ≡ inPlace b i .writing .bits) × (getD l (96 + i) 0 ≡ inPlace b i .reading .bits)
+
+-- the sets of all programs, in 128 places
+abbrev pub SetsOf : Board → List ℕ → Type 0
+SetsOf b l = (length l ≡ 128) × SetsTo b 32 l
+
+-- the bits of the n sets from place k on
+unfoldable pub gathered : List ℕ → ℕ → ℕ → ℕ
+gathered l k zero = 0
+gathered l k (suc n) = bitOr (gathered l k n) (getD l (k + n) 0)
+
+-- the files of the 32 sets from place k on
+abbrev pub openedFrom : List ℕ → ℕ → FileSet
+openedFrom l k = record { bits = gathered l k 32 }
+
+-- s, and n where the test passes
+abbrev pub joined : ProgramSet → ℕ → Bool → ProgramSet
+joined s n t = cond t (withProgram s n) s
+
+-- the set of those of 1 to n that pass the test
+unfoldable pub packed : (ℕ → Bool) → ℕ → ProgramSet
+packed t zero = noPrograms
+packed t (suc n) = joined (packed t n) (suc n) (t (suc n))
+
+-- i is another program than p, and holds it back
+abbrev pub stops : Board → ℕ → ℕ → Bool
+stops b p i = not (eqb i p) && holdsBack (at b i) (at b p)
+
+-- the programs that hold p back
+unfoldable pub holders : Board → ℕ → ProgramSet
+holders b p = packed (stops b p) 32
+
+-- the row of the program at place i holds those of the first n programs that hold it back
+abbrev pub RowsUpTo : Board → ℕ → List ℕ → Type 0
+RowsUpTo b n l = (i : ℕ) → i < 32 → record { bits = getD l i 0 } ≡ packed (stops b (suc i)) n
+
+-- the row of every program, in 32 places
+abbrev pub RowsOf : Board → List ℕ → Type 0
+RowsOf b l = (length l ≡ 32) × RowsUpTo b 32 l
+
+-- W and R hold back a program with claims V and Q
+abbrev pub holdsBits : ℕ → ℕ → ℕ → ℕ → Bool
+holdsBits w r v q = share w v || share w q || share r v
+
+-- the program at place i has joined the rows of those it holds back
+abbrev pub HolderAdded : List ℕ → ℕ → List ℕ → List ℕ → Type 0
+HolderAdded sets i before after = (length after ≡ 32) × ((j : ℕ) → j < 32 → record { bits = getD after j 0 }
+    ≡ joined (record { bits = getD before j 0 }) (suc i) (not (eqb i j)
+    && holdsBits (getD sets (64 + i) 0) (getD sets (96 + i) 0) (getD sets j 0) (getD sets (32 + j) 0)))
+
+-- the rows are those of every board that has the sets
+abbrev pub RowsFor : List ℕ → List ℕ → Type 0
+RowsFor sets rows = (b : Board) → SetsOf b sets → RowsOf b rows
+
+-- ---- reaching
+
+-- the row of p
+abbrev pub rowOf : List ℕ → ℕ → ProgramSet
+rowOf rows p = record { bits = getD rows (p - 1) 0 }
+
+-- those that hold back one of the programs 1 to n of a set
+unfoldable pub holdersOf : List ℕ → ProgramSet → ℕ → ProgramSet
+holdersOf rows s zero = noPrograms
+holdersOf rows s (suc n) = cond (hasProgram s (suc n)) (unionOf (holdersOf rows s n) (rowOf rows (suc n))) (holdersOf rows s n)
+
+-- x is one of the first, or holds back somebody with a chain to them; all among a set
+pub data Chain (rows : List ℕ) (among start : ProgramSet) : ℕ → Type 0 where
+  first : {x : ℕ} → hasProgram start x ≡ true → hasProgram among x ≡ true → Chain rows among start x
+  next : {x y : ℕ} → hasProgram among x ≡ true → hasProgram (rowOf rows y) x ≡ true → Chain rows among start y → Chain rows among start x
+
+-- the set has those that are among the others with a chain to the first, and nobody else
+pub record Reached (rows : List ℕ) (among start r : ProgramSet) : Type 0 where
+  pub starts : (x : ℕ) → hasProgram start x ≡ true → hasProgram among x ≡ true → hasProgram r x ≡ true
+  pub closed : (x y : ℕ) → hasProgram among x ≡ true → hasProgram r y ≡ true → hasProgram (rowOf rows y) x ≡ true → hasProgram r x ≡ true
+  pub chained : (x : ℕ) → hasProgram r x ≡ true → Chain rows among start x
+
+-- ---- claims of a file
+
+-- the program at place p - 1 may write f or, if both count, read it
+abbrev pub claimsAt : List ℕ → ℕ → Bool → ℕ → Bool
+claimsAt sets f both p = member (record { bits = getD sets (p - 1) 0 }) f || (both && member (record { bits = getD sets (32 + (p - 1)) 0 }) f)
+
+-- 32 places that hold nobody
+abbrev pub Cleared : List ℕ → Type 0
+Cleared rows = (length rows ≡ 32) × ((i : ℕ) → i < 32 → getD rows i 0 ≡ 0)
