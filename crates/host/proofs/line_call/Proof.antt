@@ -52,9 +52,9 @@ reply-to-requires c κs = let i = c .before .before .before .before in (sure i, 
 
 write-reply-requires : tie.Need-write-reply-requires
 write-reply-requires c κs = let r = c .before .before in let k = r .before in let f = k .before in let i = f .before .before in (
-      Laws.room _ _ (sym (f .is-full .ensures) ∙ k .if2 .left) .1,
-      rw (c .before .reply-to .ensures) (Laws.reply-fits (start i .args .b) (r .read .result) (programs (start i)) (sure i)),
-    )
+  Laws.room _ _ (sym (f .is-full .ensures) ∙ k .if2 .left) .1,
+  rw (c .before .reply-to .ensures) (Laws.reply-fits (start i .args .b) (r .read .result) (programs (start i)) (sure i)),
+)
 
 same-length : tie.Need-same-length
 same-length c = search needs
