@@ -10,6 +10,7 @@ use rules::Reply;
 use rules::Standing;
 use rules::Verb;
 use rules::Word;
+use search::Order;
 use search::Search;
 ghost use mathlib.Core.Path.{_≡_};
 ghost use mathlib.Core.Bool.{true};
@@ -17,11 +18,13 @@ ghost use Prim.Native.Nat.{_≤_, _<_};
 ghost use lib.ListN.{length};
 ghost use Rattle.rules.specs.declared.Check.{Check};
 ghost use Rattle.rules.specs.Lists.{names, padded};
+ghost use Rattle.rules.specs.Orders.{carried};
 ghost use Rattle.rules.specs.Soundness.{sound};
 ghost use Rattle.rules.specs.Checks.{enterCheck, openCheck, closeCheck, leaveCheck};
 ghost use Rattle.rules.specs.Calls.{newcomer, enter, wait, openFile, closeFile, dropFile, countLeave, leave, apply, callOf, Enter, Open};
 ghost use Rattle.rules.specs.Calls.{Close, Drop, Leave};
 ghost use Rattle.theory.specs.Loose.{Good};
+ghost use Rattle.search.specs.Rows.{asOrder};
 
 mod checks;
 pub mod replies;
@@ -61,14 +64,14 @@ fn do_enter(b: Board, p: u8, writable: FileSet, readable: FileSet) -> Reply
     replies::reply_with(replies::one_line(c, Word::Held, p, 0), Answer::Held)
 }
 
-fn call_enter(b: Board, p: u8, writable: FileSet, readable: FileSet) -> Reply
-    requires { ⌜ ((1 ≤ p) × (p ≤ 32)) × Good b ⌝ }
+fn call_enter(b: Board, order: Order, p: u8, writable: FileSet, readable: FileSet) -> Reply
+    requires { ⌜ ((1 ≤ p) × (p ≤ 32)) × Good b × (order ≡ asOrder (carried b)) ⌝ }
     ensures { λ r. ⌜ r ≡ apply b (Enter p writable readable) ⌝ }
 {
     let check = checks::check_enter(b, p, writable, readable);
     match check {
         Check::Passed => do_enter(b, p, writable, readable),
-        Check::Failed(refusal) => replies::refused(b, refusal),
+        Check::Failed(refusal) => replies::refused(b, order, refusal),
     }
 }
 
@@ -118,18 +121,18 @@ fn do_open(b: Board, p: u8, f: u8) -> Reply
     }
 }
 
-fn call_open(b: Board, p: u8, file: u64) -> Reply
-    requires { ⌜ ((1 ≤ p) × (p ≤ 32)) × Good b ⌝ }
+fn call_open(b: Board, order: Order, p: u8, file: u64) -> Reply
+    requires { ⌜ ((1 ≤ p) × (p ≤ 32)) × Good b × (order ≡ asOrder (carried b)) ⌝ }
     ensures { λ r. ⌜ r ≡ apply b (Open p file) ⌝ }
 {
     let f = checks::file_of(file);
     if f == 0 {
-        return replies::refused(b, Refusal::OutOfRange);
+        return replies::refused(b, order, Refusal::OutOfRange);
     }
     let check = checks::check_open(b, p, f);
     match check {
         Check::Passed => do_open(b, p, f),
-        Check::Failed(refusal) => replies::refused(b, refusal),
+        Check::Failed(refusal) => replies::refused(b, order, refusal),
     }
 }
 
@@ -146,18 +149,18 @@ fn do_close(b: Board, p: u8, f: u8) -> Reply
     replies::done_reply(c, p, f)
 }
 
-fn call_close(b: Board, p: u8, file: u64) -> Reply
-    requires { ⌜ ((1 ≤ p) × (p ≤ 32)) × Good b ⌝ }
+fn call_close(b: Board, order: Order, p: u8, file: u64) -> Reply
+    requires { ⌜ ((1 ≤ p) × (p ≤ 32)) × Good b × (order ≡ asOrder (carried b)) ⌝ }
     ensures { λ r. ⌜ r ≡ apply b (Close p file) ⌝ }
 {
     let f = checks::file_of(file);
     if f == 0 {
-        return replies::refused(b, Refusal::OutOfRange);
+        return replies::refused(b, order, Refusal::OutOfRange);
     }
     let check = checks::check_close(b, p, f);
     match check {
         Check::Passed => do_close(b, p, f),
-        Check::Failed(refusal) => replies::refused(b, refusal),
+        Check::Failed(refusal) => replies::refused(b, order, refusal),
     }
 }
 
@@ -174,18 +177,18 @@ fn do_drop(b: Board, p: u8, f: u8) -> Reply
     replies::done_reply(c, p, f)
 }
 
-fn call_drop(b: Board, p: u8, file: u64) -> Reply
-    requires { ⌜ ((1 ≤ p) × (p ≤ 32)) × Good b ⌝ }
+fn call_drop(b: Board, order: Order, p: u8, file: u64) -> Reply
+    requires { ⌜ ((1 ≤ p) × (p ≤ 32)) × Good b × (order ≡ asOrder (carried b)) ⌝ }
     ensures { λ r. ⌜ r ≡ apply b (Drop p file) ⌝ }
 {
     let f = checks::file_of(file);
     if f == 0 {
-        return replies::refused(b, Refusal::OutOfRange);
+        return replies::refused(b, order, Refusal::OutOfRange);
     }
     let check = checks::check_open(b, p, f);
     match check {
         Check::Passed => do_drop(b, p, f),
-        Check::Failed(refusal) => replies::refused(b, refusal),
+        Check::Failed(refusal) => replies::refused(b, order, refusal),
     }
 }
 
@@ -216,22 +219,22 @@ fn do_leave(b: Board, p: u8) -> Reply
     replies::done_reply(c, p, 0)
 }
 
-fn call_leave(b: Board, p: u8) -> Reply
-    requires { ⌜ ((1 ≤ p) × (p ≤ 32)) × Good b ⌝ }
+fn call_leave(b: Board, order: Order, p: u8) -> Reply
+    requires { ⌜ ((1 ≤ p) × (p ≤ 32)) × Good b × (order ≡ asOrder (carried b)) ⌝ }
     ensures { λ r. ⌜ r ≡ apply b (Leave p) ⌝ }
 {
     let check = checks::check_leave(b, p);
     match check {
         Check::Passed => do_leave(b, p),
-        Check::Failed(refusal) => replies::refused(b, refusal),
+        Check::Failed(refusal) => replies::refused(b, order, refusal),
     }
 }
 
 // ---- any call
 
 // The call of a program in range.
-fn call_by(b: Board, p: u8, a: Asked) -> Reply
-    requires { ⌜ ((1 ≤ p) × (p ≤ 32)) × (p ≡ a .program) × Good b ⌝ }
+fn call_by(b: Board, order: Order, p: u8, a: Asked) -> Reply
+    requires { ⌜ ((1 ≤ p) × (p ≤ 32)) × (p ≡ a .program) × Good b × (order ≡ asOrder (carried b)) ⌝ }
     ensures { λ r. ⌜ r ≡ apply b (callOf a) ⌝ }
 {
     let file = a.file;
@@ -239,22 +242,22 @@ fn call_by(b: Board, p: u8, a: Asked) -> Reply
     let readable = a.readable;
     let verb = a.verb;
     match verb {
-        Verb::Enter => call_enter(b, p, writable, readable),
-        Verb::Open => call_open(b, p, file),
-        Verb::Close => call_close(b, p, file),
-        Verb::Drop => call_drop(b, p, file),
-        Verb::Leave => call_leave(b, p),
+        Verb::Enter => call_enter(b, order, p, writable, readable),
+        Verb::Open => call_open(b, order, p, file),
+        Verb::Close => call_close(b, order, p, file),
+        Verb::Drop => call_drop(b, order, p, file),
+        Verb::Leave => call_leave(b, order, p),
     }
 }
 
-// The call that is asked for, on a sound board.
-pub fn call(b: Board, a: Asked) -> Reply
-    requires { ⌜ sound b ≡ true ⌝ }
+// The call that is asked for, on a sound board with its order.
+pub fn call(b: Board, order: Order, a: Asked) -> Reply
+    requires { ⌜ (sound b ≡ true) × (order ≡ asOrder (carried b)) ⌝ }
     ensures { λ r. ⌜ r ≡ apply b (callOf a) ⌝ }
 {
     let p = checks::program_of(a.program);
     if p == 0 {
-        return replies::refused(b, Refusal::OutOfRange);
+        return replies::refused(b, order, Refusal::OutOfRange);
     }
-    call_by(b, p, a)
+    call_by(b, order, p, a)
 }

@@ -5,14 +5,17 @@ use rules::Line;
 use rules::Refusal;
 use rules::Reply;
 use rules::Word;
+use search::Order;
 use search::Search;
 use settling::Written;
 ghost use mathlib.Core.Path.{_≡_};
 ghost use mathlib.Core.List.{[], _∷_};
+ghost use Rattle.rules.specs.Orders.{carried};
 ghost use Rattle.rules.specs.Settling.{line};
 ghost use Rattle.rules.specs.Replies.{refuse, refuseUnsound};
 ghost use Rattle.rules.specs.Calls.{done};
 ghost use Rattle.theory.specs.Loose.{Loose};
+ghost use Rattle.search.specs.Rows.{asOrder};
 ghost use Rattle.apply.specs.Replies.{wrote, replied, DoneFits};
 
 // What stands in the places after the last line.
@@ -53,13 +56,13 @@ pub fn one_line(b: Board, word: Word, p: u8, f: u8) -> Written
 }
 
 // The reply with what was written, and with the order of its board.
-pub fn reply_with(w: Written, answer: Answer) -> Reply
+pub fn with_order(w: Written, answer: Answer, order: Order) -> Reply
+    requires { ⌜ order ≡ asOrder (carried (w .board)) ⌝ }
     ensures { λ r. ⌜ r ≡ replied w answer ⌝ }
 {
     let b = w.board;
     let lines = w.lines;
     let count = w.count;
-    let order = search::carried_order(b);
     let kind = order.kind;
     let Search::Found(n) = kind else {
         return Reply {
@@ -82,11 +85,21 @@ pub fn reply_with(w: Written, answer: Answer) -> Reply
     }
 }
 
+// The same; the order is sought.
+pub fn reply_with(w: Written, answer: Answer) -> Reply
+    ensures { λ r. ⌜ r ≡ replied w answer ⌝ }
+{
+    let b = w.board;
+    let order = search::carried_order(b);
+    with_order(w, answer, order)
+}
+
 // A refusal, with the order of the unchanged board.
-pub fn refused(b: Board, refusal: Refusal) -> Reply
+pub fn refused(b: Board, order: Order, refusal: Refusal) -> Reply
+    requires { ⌜ order ≡ asOrder (carried b) ⌝ }
     ensures { λ r. ⌜ r ≡ refuse b refusal ⌝ }
 {
-    reply_with(no_line(b), Answer::Refuse(refusal))
+    with_order(no_line(b), Answer::Refuse(refusal), order)
 }
 
 // Refusal 1, with an empty order.

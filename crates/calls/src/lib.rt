@@ -12,10 +12,12 @@ ghost use Rattle.rules.specs.Calls.{direct, callOf, callWith, Enter, Open, Clos
 pub fn call(b: Board, a: Asked) -> Reply
     ensures { λ r. ⌜ r ≡ direct b (callOf a) ⌝ }
 {
-    if !sound::is_sound(b) {
+    let j = sound::judge(b);
+    if !j.sound {
         return apply::replies::refused_unsound(b);
     }
-    apply::call(b, a)
+    let order = j.order;
+    apply::call(b, order, a)
 }
 
 // A program enters with its claims.

@@ -8,12 +8,15 @@ use rules::Line;
 use rules::Refusal;
 use rules::Reply;
 use rules::Word;
+use search::Order;
 ghost use mathlib.Core.Path.{_≡_};
 ghost use Prim.Native.Nat.{_+_, _*_, _≤_};
 ghost use lib.ListN.{length};
 ghost use mathlib.Core.Bool.{true};
+ghost use Rattle.rules.specs.Orders.{carried};
 ghost use Rattle.rules.specs.Soundness.{sound};
 ghost use Rattle.rules.specs.Calls.{direct};
+ghost use Rattle.search.specs.Rows.{asOrder};
 ghost use Rattle.request.specs.Requests.{requestCall};
 ghost use Rattle.journal.specs.Journal.{written};
 ghost use Rattle.host.specs.Host.{journalFull, refuseLine, linesFor, replyTo, readImage, lineCall, hostCall, emptyAnswer, emptyImage};
@@ -63,8 +66,8 @@ fn write_reply(journal: &mut [u8], place: usize, q: Request, r: Reply) -> usize
 }
 
 // The direct call that a taken line asks for, on a board that is known to be sound.
-fn call(b: Board, q: Request) -> Reply
-    requires { ⌜ sound b ≡ true ⌝ }
+fn call(b: Board, order: Order, q: Request) -> Reply
+    requires { ⌜ (sound b ≡ true) × (order ≡ asOrder (carried b)) ⌝ }
     ensures { λ r. ⌜ r ≡ direct b (requestCall q) ⌝ }
 {
     let verb = q.verb;
@@ -77,18 +80,18 @@ fn call(b: Board, q: Request) -> Reply
         writable: writable,
         readable: readable,
     };
-    apply::call(b, asked)
+    apply::call(b, order, asked)
 }
 
 // The reply to what a line says, on a board that is known to be sound.
-fn reply_to(b: Board, q: Request) -> Reply
-    requires { ⌜ sound b ≡ true ⌝ }
+fn reply_to(b: Board, order: Order, q: Request) -> Reply
+    requires { ⌜ (sound b ≡ true) × (order ≡ asOrder (carried b)) ⌝ }
     ensures { λ r. ⌜ r ≡ replyTo b q ⌝ }
 {
     let reading = q.reading;
     match reading {
-        Reading::Taken => call(b, q),
-        Reading::Refused(n) => apply::replies::refused(b, n),
+        Reading::Taken => call(b, order, q),
+        Reading::Refused(n) => apply::replies::refused(b, order, n),
     }
 }
 
@@ -98,16 +101,18 @@ pub fn line_call(b: Board, line: &[u8], journal: &mut [u8], place: u64) -> Poste
     ensures { λ r. ⌜ r .place ≡ lineCall b (now (line .entry)) (now (journal .entry)) place .place ⌝ }
     ensures { λ r. ⌜ now (journal .exit) ≡ lineCall b (now (line .entry)) (now (journal .entry)) place .journal ⌝ }
 {
-    if !sound::is_sound(b) {
+    let j = sound::judge(b);
+    if !j.sound {
         let reply = apply::replies::refused_unsound(b);
         return Posted { reply, place };
     }
+    let order = j.order;
     if is_full(journal.len(), place) {
-        let reply = apply::replies::refused(b, Refusal::JournalFull);
+        let reply = apply::replies::refused(b, order, Refusal::JournalFull);
         return Posted { reply, place };
     }
     let q = request::read(line);
-    let reply = reply_to(b, q);
+    let reply = reply_to(b, order, q);
     let at = write_reply(journal, place as usize, q, reply);
     Posted {
         reply,

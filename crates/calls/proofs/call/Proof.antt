@@ -6,19 +6,26 @@ use borrow.Author.Needs.{needs}
 use Rattle.calls.proofs.call.Statement.{statement}
 use Rattle.calls.proofs.call.Tie as tie
 
+judge-requires : tie.Need-judge-requires
+judge-requires c κs = search needs
+
+refused-unsound-requires : tie.Need-refused-unsound-requires
+refused-unsound-requires c κs = search needs
+
 returns : tie.Need-returns
 unfolding direct
-returns c = rw (sym (c .before .before .is-sound .ensures) ∙ not-true (c .before .before .is-sound .result)
-    (c .before .if1 .taken)) (c .refused-unsound .ensures)
+returns c = let i = c .before in let j = i .before .before .judge in
+    rw (sym (j .ensures .0) ∙ not-true (j .result .sound) (i .if1 .taken)) (c .refused-unsound .ensures)
 
 call-requires : tie.Need-call-requires
-call-requires c κs = sym (c .before .is-sound .ensures) ∙ not-false (c .before .is-sound .result) (c .if1 .left)
+call-requires c κs = let i = c .before in let j = i .before .before .judge in
+    (sym (j .ensures .0) ∙ not-false (j .result .sound) (i .if1 .left), j .ensures .1)
 
 returns-2 : tie.Need-returns-2
 unfolding direct
-returns-2 c = rw (sym (c .before .before .is-sound .ensures) ∙ not-false (c .before .before .is-sound .result)
-    (c .before .if1 .left)) (c .call .ensures)
+returns-2 c = let i = c .before .before in let j = i .before .before .judge in
+    rw (sym (j .ensures .0) ∙ not-false (j .result .sound) (i .if1 .left)) (c .call .ensures)
 
 pub call-spec : {M : Type 1} → statement M
 call-spec =
-    tie.close (tie.spec (λ c κs. search needs) (λ c κs. search needs) returns call-requires returns-2)
+    tie.close (tie.spec judge-requires refused-unsound-requires returns call-requires returns-2)

@@ -8,7 +8,7 @@ use Rattle.host.proofs.call.Tie as tie
 
 returns : tie.Need-returns
 returns c = let s = c .before .before .before .before .before in c .call .ensures
-    ∙ sym (direct-is-apply (s .args .b) (requestCall (s .args .q)) (s .pre))
+    ∙ sym (direct-is-apply (s .args .b) (requestCall (s .args .q)) (s .pre .0))
 
 pub call-spec : {M : Type 1} → statement M
 call-spec = tie.close (tie.spec (λ c. search needs) (λ c. search needs) (λ c κs. search needs) returns)

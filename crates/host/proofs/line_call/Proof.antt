@@ -1,7 +1,9 @@
 -- `line_call` meets its contract. Assumes nothing.
 use mathlib.Core.Path.{_≡_, ap, sym, _∙_}
+use mathlib.Core.Bool.{true}
 use lib.ListN.{length, length-map}
 use borrow.Author.Tests.{not-true, not-false}
+use Rattle.rules.specs.Soundness.{sound}
 use Rattle.host.specs.Host.{replyTo, posted}
 use Rattle.host.proofs.Laws
 use borrow.Author.Needs.{needs}
@@ -12,54 +14,61 @@ use Rattle.host.proofs.line_call.Tie as tie
 programs : (s : tie.Start) → length (s .args .b .programs) ≡ 32
 programs s = sym (length-map (s .args .b .programs) _) ∙ s .good .0 .1 .1 .0 .1 .0 .1
 
+abbrev start : tie.Else1 → tie.Start
+start c = c .before .before .before .before .before
+
+-- the board is sound
+sure : (c : tie.Else1) → sound (start c .args .b) ≡ true
+sure c = let j = c .before .before .judge in sym (j .ensures .0) ∙ not-false (j .result .sound) (c .if1 .left)
+
+judge-requires : tie.Need-judge-requires
+judge-requires c κs = search needs
+
+refused-unsound-requires : tie.Need-refused-unsound-requires
+refused-unsound-requires c κs = search needs
+
 returns : tie.Need-returns
-returns c =
-    let a = c .before .before .before .before .before .args in
-    let e = Laws.call-unsound (a .b) (a .line .now) (a .journal .now) (a .place) (sym (c .before .before .is-sound .ensures)
-    ∙ not-true (c .before .before .is-sound .result) (c .before .if1 .taken)) in
+returns c = let i = c .before in let j = i .before .before in let a = j .before .before .before .args in
+    let e = Laws.call-unsound (a .b) (a .line .now) (a .journal .now) (a .place) (sym (j .judge .ensures .0)
+    ∙ not-true (j .judge .result .sound) (i .if1 .taken)) in
     (rw e (c .refused-unsound .ensures), (rw e, rw e))
 
+is-full-requires : tie.Need-is-full-requires
+is-full-requires c κs = search needs
+
+refused-requires : tie.Need-refused-requires
+refused-requires c κs = search needs
+
 returns-2 : tie.Need-returns-2
-returns-2 c =
-    let a = c .before .before .before .before .before .before .before .args in
-    let e = Laws.call-full (a .b) (a .line .now) (a .journal .now) (a .place)
-    (sym (c .before .before .before .before .is-sound .ensures)
-    ∙ not-false (c .before .before .before .before .is-sound .result) (c .before .before .before .if1 .left))
-    (sym (c .before .before .is-full .ensures) ∙ c .before .if2 .taken) in
+returns-2 c = let f = c .before .before in let i = f .before .before in let a = start i .args in
+    let e = Laws.call-full (a .b) (a .line .now) (a .journal .now) (a .place) (sure i) (sym (f .is-full .ensures) ∙ c .before .if2 .taken) in
     (rw e (c .refused .ensures), (rw e, rw e))
 
+read-requires : tie.Need-read-requires
+read-requires c κs = search needs
+
 reply-to-requires : tie.Need-reply-to-requires
-reply-to-requires c κs =
-    sym (c .before .before .before .before .is-sound .ensures)
-    ∙ not-false (c .before .before .before .before .is-sound .result) (c .before .before .before .if1 .left)
+reply-to-requires c κs = let i = c .before .before .before .before in (sure i, i .before .before .judge .ensures .1)
 
 write-reply-requires : tie.Need-write-reply-requires
-write-reply-requires c κs =
-    let s = c .before .before .before .before .before .before .before .before .before in (
-      Laws.room _ _ (sym (c .before .before .before .before .is-full .ensures) ∙ c .before .before .before .if2 .left) .1,
-      rw (c .before .reply-to .ensures) (Laws.reply-fits (s .args .b) (c .before .before .read .result) (programs s)
-          (sym (c .before .before .before .before .before .before .is-sound .ensures)
-          ∙ not-false (c .before .before .before .before .before .before .is-sound .result)
-          (c .before .before .before .before .before .if1 .left))),
-    )
+write-reply-requires c κs = let r = c .before .before in let k = r .before in let f = k .before in let i = f .before .before in (
+  Laws.room _ _ (sym (f .is-full .ensures) ∙ k .if2 .left) .1,
+  rw (c .before .reply-to .ensures) (Laws.reply-fits (start i .args .b) (r .read .result) (programs (start i)) (sure i)),
+)
+
+same-length : tie.Need-same-length
+same-length c = search needs
 
 returns-3 : tie.Need-returns-3
 unfolding posted
-returns-3 c =
-    let a = c .before .before .before .before .before .before .before .before .before .before .before .before .args in
-    let e = Laws.call-posted (a .b) (a .line .now) (a .journal .now) (a .place)
-    (sym (c .before .before .before .before .before .before .before .before .before .is-sound .ensures)
-    ∙ not-false (c .before .before .before .before .before .before .before .before .before .is-sound .result)
-    (c .before .before .before .before .before .before .before .before .if1 .left))
-    (sym (c .before .before .before .before .before .before .before .is-full .ensures)
-    ∙ c .before .before .before .before .before .before .if2 .left) in
-    let r = c .before .before .before .before .reply-to .ensures ∙ ap (replyTo (a .b)) (c .before .before .before .before .before .read .ensures) in (
+returns-3 c = let w = c .before .before in let p = w .before .before in let d = p .before in let k = d .before in let f = k .before in
+    let i = f .before .before in let a = start i .args in
+    let e = Laws.call-posted (a .b) (a .line .now) (a .journal .now) (a .place) (sure i) (sym (f .is-full .ensures) ∙ k .if2 .left) in
+    let r = p .reply-to .ensures ∙ ap (replyTo (a .b)) (d .read .ensures) in (
       rw e r,
       (
-        rw (e, ← r, ← c .before .before .before .before .before .read .ensures)
-            (c .before .before .write-reply .ensures .0),
-        rw (e, ← r, ← c .before .before .before .before .before .read .ensures)
-            (c .before .before .write-reply .ensures .1),
+        rw (e, ← r, ← d .read .ensures) (w .write-reply .ensures .0),
+        rw (e, ← r, ← d .read .ensures) (w .write-reply .ensures .1),
       ),
     )
 
@@ -67,14 +76,14 @@ pub line-call-spec : {M : Type 1} → statement M
 line-call-spec =
     tie.close
     (tie.spec
-    (λ c κs. search needs)
-    (λ c κs. search needs)
+    judge-requires
+    refused-unsound-requires
     returns
-    (λ c κs. search needs)
-    (λ c κs. search needs)
+    is-full-requires
+    refused-requires
     returns-2
-    (λ c κs. search needs)
+    read-requires
     reply-to-requires
     write-reply-requires
-    (λ c. search needs)
+    same-length
     returns-3)

@@ -1,0 +1,33 @@
+-- `with_order` meets its contract. Assumes nothing.
+use mathlib.Core.Path.{_≡_}
+use native.Mathlib.Omega.{arith}
+use lib.ListN.{length}
+use Rattle.rules.specs.Orders.{carried}
+use Rattle.apply.proofs.Laws.{order-none, order-count, order-at, order-short, replied-stuck, replied-found}
+use borrow.Author.Needs.{needs}
+use Rattle.apply.proofs.replies.with_order.Statement.{statement}
+use Rattle.apply.proofs.replies.with_order.Tie as tie
+
+enum-known-kind : tie.Need-enum-known-kind
+enum-known-kind c = search needs
+
+enum-told : tie.Need-enum-told
+enum-told c = search needs
+
+returns : tie.Need-returns
+returns c = let s = c .before .before .before .before in let a = s .args in
+    replied-stuck (a .w) (a .answer) (order-none (carried (a .w .board)) (a .order) (s .pre) (c .enum-told .given .1))
+
+cast-t11 : tie.Need-cast-t11
+cast-t11 c = let k = c .before .before .kind in let s = c .before .before .before .before .before .before in let a = s .args in
+    let m : length (a .order .at) ≡ 32 = search needs in
+    let h = order-short (carried (a .w .board)) (a .order) (k .given .0 .0) (s .pre) (k .given .1) m in omega (arith, h)
+
+returns-2 : tie.Need-returns-2
+returns-2 c = let k = c .before .before .kind in let s = c .before .before .before .before .before .before in let a = s .args in
+    replied-found (a .w) (a .answer) (a .order .at) (k .given .0 .0)
+    (order-at (carried (a .w .board)) (a .order) (k .given .0 .0) (s .pre) (k .given .1))
+    (order-count (carried (a .w .board)) (a .order) (k .given .0 .0) (s .pre) (k .given .1))
+
+pub with-order-spec : {M : Type 1} → statement M
+with-order-spec = tie.close (tie.spec enum-known-kind enum-told returns cast-t11 returns-2)
