@@ -1,10 +1,9 @@
 -- A board with the lines written so far, and the reply made of it; parts of the checks.
 -- Assumes nothing.
 use Prim.Native.Nat.{ℕ, _≤_, suc}
-use mathlib.Core.Path.{_≡_}
 use mathlib.Core.Bool.{Bool, not, cond}
-use mathlib.Core.List.{List, [], _∷_}
-use mathlib.Core.Option.{Option, Option·getD}
+use mathlib.Core.List.{List, []}
+use mathlib.Core.Option.{Option·getD}
 use lib.ListN.{length}
 use Rattle.rules.specs.declared.Program.{Program}
 use Rattle.rules.specs.declared.Board.{Board}

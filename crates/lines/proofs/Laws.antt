@@ -1,18 +1,17 @@
 -- Laws of the names of a line, and of lists in 32 places. Assumes nothing.
 use mathlib.Core.Path.{_≡_, refl, sym, ap, ap₂, _∙_}
-use mathlib.Core.Bool.{Bool, true, false, not, cond, _&&_, _||_}
+use mathlib.Core.Bool.{Bool, true, not, _&&_}
 use mathlib.Core.List.{List, [], _∷_, _++_, append-assoc, append-nil}
 use mathlib.Core.Logic.{_≢_}
 use Prim.Native.Nat.{ℕ, zero, suc, _+_, _-_, _≤_, _<_}
-use native.Mathlib.Nat.{zero-add, add-zero, add-suc, suc-add}
-use native.Mathlib.Numerals.{add-one, sub-one}
+use native.Mathlib.Numerals.{add-one}
 use native.Mathlib.Omega.{arith}
 use lib.Dec.{eqb, leb}
-use lib.ListN.{length, getD, set, take, drop, replicate, drop-of-length-le, length-append, length-replicate}
+use lib.ListN.{length, getD, set, drop, replicate, drop-of-length-le, length-append, length-replicate}
 use lib.Seq.{drop-cons, set-append-seam}
-use borrow.Author.Tests.{eq-eqb, ne-eqb, eqb-true, eqb-false, leb-true}
+use borrow.Author.Tests.{eq-eqb, ne-eqb, eqb-true, leb-true}
 use Rattle.files.proofs.Tests.{by-test, never, and-left, and-right}
-use Rattle.rules.specs.Lists.{any, all, keep, listed, distinct, same, names, padded, without}
+use Rattle.rules.specs.Lists.{all, keep, same, names, padded, without}
 use Rattle.rules.specs.Boards.{isProgram}
 use Rattle.lines.specs.declared.Kept.{Kept}
 use Rattle.lines.specs.Kept.{keptAs, keepOther, keepOthers}
@@ -155,31 +154,6 @@ module _ (p : ℕ) where
 -- ---- steps of the tests of a line
 
 module _ (l : List ℕ) (k : ℕ) where
-  pub listed-on : (p : ℕ) → k < length l → getD l k 0 ≢ 0 → listed p (names (drop k l)) ≡ (eqb p (getD l k 0) || listed p (names (drop (suc k) l)))
-  unfolding listed any
-  listed-on p h ne = rw (names-on l k h ne)
-
-  pub listed-stop : (p : ℕ) → k < length l → getD l k 0 ≡ 0 → listed p (names (drop k l)) ≡ false
-  unfolding listed any
-  listed-stop p h e = rw (names-stop l k h e)
-
-  pub listed-end : (p : ℕ) → length l ≤ k → listed p (names (drop k l)) ≡ false
-  unfolding listed any
-  listed-end p h = rw (names-end l k h)
-
-  pub distinct-on : k < length l → getD l k 0 ≢ 0 → distinct (names (drop k l)) ≡
-      (not (listed (getD l k 0) (names (drop (suc k) l))) && distinct (names (drop (suc k) l)))
-  unfolding distinct
-  distinct-on h ne = rw (names-on l k h ne)
-
-  pub distinct-stop : k < length l → getD l k 0 ≡ 0 → distinct (names (drop k l)) ≡ true
-  unfolding distinct
-  distinct-stop h e = rw (names-stop l k h e)
-
-  pub distinct-end : length l ≤ k → distinct (names (drop k l)) ≡ true
-  unfolding distinct
-  distinct-end h = rw (names-end l k h)
-
   pub all-names-on : (t : ℕ → Bool) → k < length l → getD l k 0 ≢ 0 → all t (names (drop k l)) ≡ (t (getD l k 0) && all t (names (drop (suc k) l)))
   unfolding all
   all-names-on t h ne = rw (names-on l k h ne)

@@ -1,8 +1,8 @@
 -- Laws of lists of numbers, of sets of programs, and of the search. Assumes nothing.
-use mathlib.Core.Path.{_≡_, refl, sym, ap, ap₂, _∙_}
-use mathlib.Core.Bool.{Bool, true, false, not, cond, _&&_, _||_}
-use mathlib.Core.List.{List, [], _∷_, _++_}
-use mathlib.Core.Option.{Option, none, some, Option·getD}
+use mathlib.Core.Path.{_≡_, refl, sym, ap, _∙_}
+use mathlib.Core.Bool.{Bool, true, not, cond, _&&_, _||_}
+use mathlib.Core.List.{List, [], _∷_}
+use mathlib.Core.Option.{Option, none, some}
 use Prim.Native.Nat.{ℕ, zero, suc, _+_, _-_, _≤_, _<_}
 use native.Mathlib.Numerals.{add-one, sub-one}
 use native.Mathlib.Omega.{arith}
@@ -10,23 +10,23 @@ use lib.ListN.{length}
 use mathlib.Core.List.{append-assoc}
 use mathlib.Core.Logic.{_≢_}
 use native.Mathlib.Nat.{zero-add, add-zero, add-suc, suc-add}
-use lib.Dec.{eqb, leb}
-use lib.ListN.{getD, set, take, drop, replicate, take-append-drop}
-use lib.Seq.{take-suc-set, drop-set-lt, getD-set-same, getD-set-other}
-use borrow.Author.Tests.{eq-eqb, ne-eqb, eqb-true, eqb-false, leb-true, leb-false}
-use Rattle.files.proofs.Tests.{by-test, by-option, never, and-left, and-right, and-both, no-true, same-test, or-true, and-false, and-true}
+use lib.Dec.{eqb}
+use lib.ListN.{set, drop, replicate, take-append-drop}
+use lib.Seq.{take-suc-set, drop-set-lt}
+use borrow.Author.Tests.{eqb-true, eqb-false}
+use Rattle.files.proofs.Tests.{by-test, by-option, never, and-left, and-right, and-both, same-test, or-true, and-false, and-true}
 use Rattle.files.specs.Bits.{hasBit, isNumber}
-use Rattle.files.proofs.Bits.{zero-has, with-only, share-of, of-share, is-number, has-bit, with-number-same, with-number-other}
+use Rattle.files.proofs.Bits.{share-of, of-share, is-number, has-bit}
 use Rattle.files.proofs.Bits.{without-number-same, without-number-other}
 use Rattle.rules.specs.declared.Board.{Board}
-use Rattle.rules.specs.Lists.{rising, any, all, keep, first, found, withFound, without, padded}
-use Rattle.rules.specs.Boards.{everyone, at, admitted, isAdmitted}
+use Rattle.rules.specs.Lists.{rising, any, keep, first, found, withFound, without, padded}
+use Rattle.rules.specs.Boards.{everyone, at, admitted}
 use Rattle.rules.specs.Orders.{heldBack, carriedFrom, carried}
 use Rattle.tables.specs.declared.ProgramSet.{ProgramSet}
 use Rattle.search.specs.declared.Search.{Search}
 use Rattle.search.specs.declared.Order.{Order}
-use Rattle.tables.specs.ProgramSets.{noPrograms, hasProgram, withProgram, withoutProgram, programsMeet}
-use Rattle.tables.specs.Tables.{packed, stops, holders, rowOf, RowsOf}
+use Rattle.tables.specs.ProgramSets.{hasProgram, withoutProgram, programsMeet}
+use Rattle.tables.specs.Tables.{packed, stops, holders, RowsOf}
 use Rattle.tables.proofs.Laws.{packed-bit, packed-has}
 use Rattle.search.specs.Rows.{isFound, RowsAt, admits, admittedSet, free, lowest, orderFrom, placed, asOrder}
 

@@ -1,27 +1,25 @@
 -- A file given, decided by who reaches the program. Assumes nothing.
-use mathlib.Core.Path.{_≡_, refl, sym, ap, ap₂, _∙_}
+use mathlib.Core.Path.{_≡_, sym, ap, ap₂, _∙_}
 use mathlib.Core.Bool.{Bool, true, false, not, cond, _&&_, _||_}
 use mathlib.Core.List.{List}
-use Prim.Native.Nat.{ℕ, suc, _+_, _-_, _≤_}
+use Prim.Native.Nat.{ℕ, suc, _-_, _≤_}
 use native.Mathlib.Omega.{arith}
 use lib.Dec.{eqb}
 use lib.ListN.{getD}
 use borrow.Author.Tests.{eqb-true, eqb-false}
-use Rattle.files.proofs.Tests.{by-test, never, and-left, and-right, and-both, or-right, no-true, not-true, true-not, same-test}
+use Rattle.files.proofs.Tests.{by-test, never, and-left, and-right, and-both, or-right, no-true, not-true, true-not}
 use Rattle.files.specs.Bits.{hasBit, isNumber, hasNumber}
 use Rattle.files.specs.Sets.{member}
 use Rattle.files.proofs.Bits.{is-number, has-number, least, most, share-of, of-share, has-bit, without-number-same, without-number-other}
-use Rattle.rules.specs.declared.Program.{Program}
 use Rattle.rules.specs.declared.Board.{Board}
 use Rattle.rules.specs.Lists.{found}
-use Rattle.rules.specs.Boards.{at, isProgram, isAdmitted, claims, hasOpen, opening}
+use Rattle.rules.specs.Boards.{at, isProgram, claims, hasOpen}
 use Rattle.rules.specs.Orders.{holdsBack, carried, inUse, safe}
 use Rattle.rules.specs.Soundness.{noConflict}
-use Rattle.theory.specs.Carried.{holdsOn}
 use Rattle.theory.specs.Reach.{isOther, ReachesOn, ClosedOn, no-back, reaches-direct, reaches-through, given-holds, safe-by-closed, unsafe-by-reach}
 use Rattle.tables.specs.declared.ProgramSet.{ProgramSet}
 use Rattle.tables.specs.ProgramSets.{hasProgram, withoutProgram, programsMeet}
-use Rattle.tables.specs.Tables.{packed, stops, holders, rowOf, inPlace, SetsOf, RowsOf, Chain, Reached, claimsAt}
+use Rattle.tables.specs.Tables.{packed, stops, holders, rowOf, SetsOf, RowsOf, Chain, Reached, claimsAt}
 use Rattle.tables.proofs.Laws.{packed-bit, packed-has}
 use Rattle.tables.proofs.Gathered.{written-is, read-is}
 use Rattle.theory.specs.Used.{used-is}

@@ -1,37 +1,34 @@
 -- Laws of settling. Assumes nothing.
-use mathlib.Core.Path.{_≡_, refl, sym, ap, ap₂, _∙_, subst}
+use mathlib.Core.Path.{_≡_, refl, sym, ap, _∙_, subst}
 use mathlib.Core.Logic.{_≢_}
-use mathlib.Core.Bool.{Bool, true, false, not, cond, _&&_, _||_}
+use mathlib.Core.Bool.{Bool, true, false, cond}
 use mathlib.Core.List.{List, [], _∷_, _++_, List·Memᴰ·head, List·Memᴰ·tail, List·Memᴰ·eq-of-singleton, List·Memᴰ·not-nil}
-use mathlib.Core.Option.{Option, none, some, Option·getD}
-use Prim.Native.Nat.{ℕ, zero, suc, _+_, _-_, _≤_, _<_}
-use native.Mathlib.Nat.{add-zero, zero-add, add-suc, suc-add, add-assoc}
+use mathlib.Core.Option.{none, some, Option·getD}
+use Prim.Native.Nat.{ℕ, suc, _+_, _-_, _≤_, _<_}
+use native.Mathlib.Nat.{add-zero, add-assoc}
 use native.Mathlib.Numerals.{add-one}
 use native.Mathlib.Omega.{arith}
-use lib.Dec.{eqb}
 use lib.ListN.{length, getD, set, drop, length-append}
 use lib.Seq.{sets}
-use borrow.Author.Tests.{eq-eqb, ne-eqb, eqb-true, eqb-false}
-use Rattle.files.proofs.Tests.{by-test, by-option, never}
-use Rattle.rules.specs.declared.Standing.{Standing}
+use borrow.Author.Tests.{eq-eqb, ne-eqb}
+use Rattle.files.proofs.Tests.{by-option}
 use Rattle.rules.specs.declared.Program.{Program}
 use Rattle.rules.specs.declared.Board.{Board}
 use Rattle.rules.specs.declared.Word.{Word}
-use Rattle.rules.specs.declared.Line.{Line}
-use Rattle.rules.specs.Lists.{all, first, withFound, names}
-use Rattle.rules.specs.Boards.{at, awaited, awaitedOf, isProgram, isWaiting, hasOpen, setEntry}
+use Rattle.rules.specs.Lists.{all, first, names}
+use Rattle.rules.specs.Boards.{at, awaited, isProgram, isWaiting, hasOpen, setEntry}
 use Rattle.rules.specs.Orders.{withGiven, inUse, canGive}
 use Rattle.rules.specs.Settling.{Step, line, still, andThen, unfavour, resume, tryGive, pass, candidate, favour, runHeld, choose, settle}
-use Rattle.theory.specs.Lists.{_∈_, Pairs, NoRepeat, here, each-all, first-some}
+use Rattle.theory.specs.Lists.{_∈_, Pairs, here, each-all, first-some}
 use Rattle.theory.specs.Programs.{Is, of-is}
-use Rattle.theory.specs.Loose.{waitsIn, stands, waiting-file, Loose}
+use Rattle.theory.specs.Loose.{waitsIn, Loose}
 use Rattle.theory.specs.Settling.{pass-passed}
 use Rattle.theory.specs.Sound.{loose-apart, loose-order, loose-waiter}
 use Rattle.tables.specs.Tables.{SetsOf, RowsOf}
 use Rattle.search.specs.declared.Uses.{Uses}
 use Rattle.search.specs.Gives.{usesOf, UsedFor, GivenFor}
-use Rattle.lines.proofs.Laws.{names-on, names-end, all-names-on}
-use Rattle.lines.proofs.Laws.{program-range, names-left}
+use Rattle.lines.proofs.Laws.{names-on, names-end}
+use Rattle.lines.proofs.Laws.{names-left}
 use Rattle.settling.specs.declared.Written.{Written}
 use Rattle.settling.specs.Writing.{Ready, NextGiven, after, Fits, admitOne, unused}
 
@@ -59,10 +56,6 @@ after-still w = rw (add-zero (w .count))
 pub give-fits : (w : Written) (b : Board) (p f : ℕ) → canGive b p f ≡ true → Fits w (tryGive b p f) → w .count < 32
 unfolding tryGive
 give-fits w b p f e h = let k : w .count + 1 ≤ 32 = rw e at h in omega arith
-
-pub give-none : (w : Written) (p f : ℕ) → canGive (w .board) p f ≡ false → w ≡ after w (tryGive (w .board) p f)
-unfolding tryGive
-give-none w p f e = rw e (after-still w)
 
 pub give-some : (w : Written) (b : Board) (p f : ℕ) → canGive b p f ≡ true
     → _≡_ {A = Written} (record {

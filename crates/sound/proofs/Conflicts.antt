@@ -1,7 +1,7 @@
 -- Laws of conflict, by the sets of a board. Assumes nothing.
 use Prim.Native.Nat.{ℕ, suc, _+_, _-_, _<_}
 use native.Mathlib.Omega.{arith}
-use mathlib.Core.Path.{_≡_, refl, sym, ap, _∙_}
+use mathlib.Core.Path.{_≡_, sym, ap, _∙_}
 use mathlib.Core.Logic.{_≢_}
 use mathlib.Core.Bool.{Bool, true, false, not, _&&_, _||_}
 use mathlib.Core.List.{List}
@@ -11,7 +11,7 @@ use lib.ListN.{getD}
 use borrow.Author.Tests.{eq-eqb, ne-eqb, eqb-true, eqb-false}
 use Rattle.files.specs.Bits.{hasBit, share}
 use Rattle.files.specs.Sets.{meets, within}
-use Rattle.files.proofs.Tests.{by-test, never, or-cases, or-left, or-right, and-left, and-right, no-true, not-true, true-not, same-test}
+use Rattle.files.proofs.Tests.{by-test, never, or-left, or-right, and-left, and-right, no-true, not-true, true-not, same-test}
 use Rattle.files.proofs.Bits.{share-of, of-share, of-covers}
 use Rattle.rules.specs.declared.Program.{Program}
 use Rattle.rules.specs.declared.Board.{Board}

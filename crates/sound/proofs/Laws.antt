@@ -2,10 +2,10 @@
 use mathlib.Core.Path.{_≡_, refl, sym, _∙_}
 use mathlib.Core.Logic.{_≢_}
 use mathlib.Core.Bool.{Bool, true, false, not, _&&_, _||_}
-use mathlib.Core.List.{List, [], _∷_}
+use mathlib.Core.List.{List}
 use Prim.Native.Nat.{ℕ, suc, _≤_, _<_}
 use lib.ListN.{length, getD, drop}
-use Rattle.files.proofs.Tests.{by-test, never, and-left, and-right}
+use Rattle.files.proofs.Tests.{never, and-left, and-right}
 use Rattle.rules.specs.declared.Board.{Board}
 use Rattle.rules.specs.Lists.{all, listed, distinct, same, names, padded}
 use Rattle.rules.specs.Soundness.{lineSound}
@@ -14,15 +14,6 @@ use Rattle.theory.specs.Loose.{waiting-in}
 use Rattle.lines.proofs.Laws.{all-names-on, program-range}
 use Rattle.search.specs.Rows.{admits}
 use Rattle.sound.specs.Parts.{standsAt, rightName}
-
--- what every element passes, if each passes s only with t
-pub all-weaker : (s t : ℕ → Bool) → ((x : ℕ) → s x ≡ true → t x ≡ true) → (l : List ℕ) → all s l ≡ true → all t l ≡ true
-unfolding all
-all-weaker s t f [] e = refl
-all-weaker s t f (x ∷ l) e =
-    by-test (s x)
-    (λ z. rw (f x z) (all-weaker s t f l (rw z at e)))
-    (λ z. never (rw z at e) refl)
 
 pub four-first : (s t u v : Bool) → (s && t) ≡ false → false ≡ (s && t && u && v)
 four-first true true u v e = sym (never refl e)
@@ -33,16 +24,6 @@ pub four-last : (s t u v : Bool) → (s && t) ≡ true → (u && v) ≡ (s && t 
 four-last true true u v e = refl
 four-last true false u v e = never e refl
 four-last false t u v e = never e refl
-
--- the names of a sound line are programs
-pub line-programs : (l : List ℕ) (t : ℕ → Bool) → lineSound l t ≡ true → all isProgram (names l) ≡ true
-unfolding lineSound
-line-programs l t e =
-    let x = all (λ p. isProgram p && t p) (names l) in
-    let y = all (λ p. not (t p) || listed p (names l)) everyone in
-    let d = distinct (names l) in
-    all-weaker (λ p. isProgram p && t p) isProgram (λ p h. and-left (isProgram p) (t p) h) (names l)
-    (and-left x y (and-left (x && y) d (and-left (x && y && d) (same l (padded 0 (names l))) e)))
 
 -- a name of a line of waiting programs is that of an admitted program
 pub waiter-named : (b : Board) (l : List ℕ) (k : ℕ) → k < length l → getD l k 0 ≢ 0 → all (rightName b false) (names (drop k l)) ≡ true

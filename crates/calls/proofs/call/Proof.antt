@@ -6,12 +6,6 @@ use borrow.Author.Needs.{needs}
 use Rattle.calls.proofs.call.Statement.{statement}
 use Rattle.calls.proofs.call.Tie as tie
 
-judge-requires : tie.Need-judge-requires
-judge-requires c κs = search needs
-
-refused-unsound-requires : tie.Need-refused-unsound-requires
-refused-unsound-requires c κs = search needs
-
 returns : tie.Need-returns
 unfolding direct
 returns c = let i = c .before in let j = i .before .before .judge in
@@ -28,4 +22,4 @@ returns-2 c = let i = c .before .before in let j = i .before .before .judge in
 
 pub call-spec : {M : Type 1} → statement M
 call-spec =
-    tie.close (tie.spec judge-requires refused-unsound-requires returns call-requires returns-2)
+    tie.close (tie.spec (λ c κs. search needs) (λ c κs. search needs) returns call-requires returns-2)

@@ -21,31 +21,16 @@ start c = c .before .before .before .before .before
 sure : (c : tie.Else1) → sound (start c .args .b) ≡ true
 sure c = let j = c .before .before .judge in sym (j .ensures .0) ∙ not-false (j .result .sound) (c .if1 .left)
 
-judge-requires : tie.Need-judge-requires
-judge-requires c κs = search needs
-
-refused-unsound-requires : tie.Need-refused-unsound-requires
-refused-unsound-requires c κs = search needs
-
 returns : tie.Need-returns
 returns c = let i = c .before in let j = i .before .before in let a = j .before .before .before .args in
     let e = Laws.call-unsound (a .b) (a .line .now) (a .journal .now) (a .place) (sym (j .judge .ensures .0)
     ∙ not-true (j .judge .result .sound) (i .if1 .taken)) in
     (rw e (c .refused-unsound .ensures), (rw e, rw e))
 
-is-full-requires : tie.Need-is-full-requires
-is-full-requires c κs = search needs
-
-refused-requires : tie.Need-refused-requires
-refused-requires c κs = search needs
-
 returns-2 : tie.Need-returns-2
 returns-2 c = let f = c .before .before in let i = f .before .before in let a = start i .args in
     let e = Laws.call-full (a .b) (a .line .now) (a .journal .now) (a .place) (sure i) (sym (f .is-full .ensures) ∙ c .before .if2 .taken) in
     (rw e (c .refused .ensures), (rw e, rw e))
-
-read-requires : tie.Need-read-requires
-read-requires c κs = search needs
 
 reply-to-requires : tie.Need-reply-to-requires
 reply-to-requires c κs = let i = c .before .before .before .before in (sure i, i .before .before .judge .ensures .1)
@@ -55,9 +40,6 @@ write-reply-requires c κs = let r = c .before .before in let k = r .before in l
   Laws.room _ _ (sym (f .is-full .ensures) ∙ k .if2 .left) .1,
   rw (c .before .reply-to .ensures) (Laws.reply-fits (start i .args .b) (r .read .result) (programs (start i)) (sure i)),
 )
-
-same-length : tie.Need-same-length
-same-length c = search needs
 
 returns-3 : tie.Need-returns-3
 unfolding posted
@@ -76,14 +58,14 @@ pub line-call-spec : {M : Type 1} → statement M
 line-call-spec =
     tie.close
     (tie.spec
-    judge-requires
-    refused-unsound-requires
+    (λ c κs. search needs)
+    (λ c κs. search needs)
     returns
-    is-full-requires
-    refused-requires
+    (λ c κs. search needs)
+    (λ c κs. search needs)
     returns-2
-    read-requires
+    (λ c κs. search needs)
     reply-to-requires
     write-reply-requires
-    same-length
+    (λ c. search needs)
     returns-3)

@@ -28,7 +28,6 @@ abbrev search-rest-below : ℕ → In 1 search-rest-kinds.ps
 search-rest-below t =
     and 1 search-rest-kinds.ps (falls 1 search-rest-kinds.ps _<_ μ-search-rest t) search-rest.Pre
 
--- src/lib.rt:241:9
 search-rest-returns : (t : ℕ) → search-rest-lts.Need-returns (
   lowest-free-reads.Asked,
   lowest-free-reads.Learnt,
@@ -39,7 +38,6 @@ search-rest-returns : (t : ℕ) → search-rest-lts.Need-returns (
 ) (search-rest-at t) search-rest.Post
 search-rest-returns t c = let a = c .before .args in order-done (a .rows .now) (a .left) (a .at) (a .n) (a .k) (c .if1 .taken)
 
--- src/lib.rt:246:9
 search-rest-lowest-free-requires : (t : ℕ) → search-rest-lts.Need-lowest-free-requires (
   lowest-free-reads.Asked,
   lowest-free-reads.Learnt,
@@ -50,7 +48,6 @@ search-rest-lowest-free-requires : (t : ℕ) → search-rest-lts.Need-lowest-fre
 ) (search-rest-at t) search-rest.Post
 search-rest-lowest-free-requires t c κs = search needs
 
--- src/lib.rt:248:9
 search-rest-returns-2 : (t : ℕ) → search-rest-lts.Need-returns-2 (
   lowest-free-reads.Asked,
   lowest-free-reads.Learnt,
@@ -63,7 +60,6 @@ search-rest-returns-2 t c = let a = c .before .before .before .args in
     order-stuck (a .rows .now) (a .left) (a .at) (a .n) (a .k) (c .before .lowest-free .result) (c .before .before .if1 .left)
     (c .before .lowest-free .ensures .0) (c .if2 .taken)
 
--- src/lib.rt:253:9
 search-rest-without-requires : (t : ℕ) → search-rest-lts.Need-without-requires (
   lowest-free-reads.Asked,
   lowest-free-reads.Learnt,
@@ -74,7 +70,6 @@ search-rest-without-requires : (t : ℕ) → search-rest-lts.Need-without-requir
 ) (search-rest-at t) search-rest.Post
 search-rest-without-requires t c κs = search needs
 
--- src/lib.rt:255:5
 search-rest-array-write-next : (t : ℕ) → search-rest-lts.Need-array-write-next (
   lowest-free-reads.Asked,
   lowest-free-reads.Learnt,
@@ -85,7 +80,6 @@ search-rest-array-write-next : (t : ℕ) → search-rest-lts.Need-array-write-ne
 ) (search-rest-at t) search-rest.Post
 search-rest-array-write-next t c = search needs
 
--- src/lib.rt:256:29
 search-rest-sub-search-rest : (t : ℕ) → search-rest-lts.Need-sub-search-rest (
   lowest-free-reads.Asked,
   lowest-free-reads.Learnt,
@@ -96,7 +90,6 @@ search-rest-sub-search-rest : (t : ℕ) → search-rest-lts.Need-sub-search-rest
 ) (search-rest-at t) search-rest.Post
 search-rest-sub-search-rest t c = search needs
 
--- src/lib.rt:256:42
 search-rest-add-search-rest : (t : ℕ) → search-rest-lts.Need-add-search-rest (
   lowest-free-reads.Asked,
   lowest-free-reads.Learnt,
@@ -107,7 +100,6 @@ search-rest-add-search-rest : (t : ℕ) → search-rest-lts.Need-add-search-rest
 ) (search-rest-at t) search-rest.Post
 search-rest-add-search-rest t c = search needs
 
--- src/lib.rt:256:5
 search-rest-search-rest-requires : (t : ℕ) → search-rest-lts.Need-search-rest-requires (
   lowest-free-reads.Asked,
   lowest-free-reads.Learnt,
@@ -118,7 +110,6 @@ search-rest-search-rest-requires : (t : ℕ) → search-rest-lts.Need-search-res
 ) (search-rest-at t) search-rest.Post
 search-rest-search-rest-requires t c κs = search needs
 
--- src/lib.rt:236:1
 search-rest-returns-3 : (t : ℕ) → search-rest-lts.Need-returns-3 (
   lowest-free-reads.Asked,
   lowest-free-reads.Learnt,

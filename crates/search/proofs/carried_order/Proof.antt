@@ -3,19 +3,10 @@ use borrow.Author.Needs.{needs}
 use Rattle.search.proofs.carried_order.Statement.{statement}
 use Rattle.search.proofs.carried_order.Tie as tie
 
-fill-requires : tie.Need-fill-requires
-fill-requires c κs = search needs
-
-admitted-set-requires : tie.Need-admitted-set-requires
-admitted-set-requires c κs = search needs
-
-order-in-requires : tie.Need-order-in-requires
-order-in-requires c κs = search needs
-
 returns : tie.Need-returns
 returns c = let f = c .before .before .before in
     c .order-in .ensures (f .before .before .before .args .b) (f .fill .ensures .1) (c .before .before .admitted-set .ensures)
 
 pub carried-order-spec : {M : Type 1} → statement M
 carried-order-spec =
-    tie.close (tie.spec fill-requires admitted-set-requires order-in-requires returns)
+    tie.close (tie.spec (λ c κs. search needs) (λ c κs. search needs) (λ c κs. search needs) returns)

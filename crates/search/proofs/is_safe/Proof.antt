@@ -1,5 +1,5 @@
 -- `is_safe` meets its contract. Assumes nothing.
-use mathlib.Core.Path.{_≡_, ap, subst, _∙_}
+use mathlib.Core.Path.{ap, subst, _∙_}
 use mathlib.Core.Bool.{Bool, not}
 use Prim.Native.Nat.{_≤_}
 use Rattle.tables.specs.declared.ProgramSet.{ProgramSet}
@@ -9,39 +9,6 @@ use Rattle.search.proofs.Safe.{safe-is}
 use borrow.Author.Needs.{needs}
 use Rattle.search.proofs.is_safe.Statement.{statement}
 use Rattle.search.proofs.is_safe.Tie as tie
-
-sub-i : tie.Need-sub-i
-sub-i c = search needs
-
-cast-i : tie.Need-cast-i
-cast-i c = search needs
-
-mul-t13 : tie.Need-mul-t13
-mul-t13 c = search needs
-
-element-copy-out-t16 : tie.Need-element-copy-out-t16
-element-copy-out-t16 c = search needs
-
-mul-t13-2 : tie.Need-mul-t13-2
-mul-t13-2 c = search needs
-
-element-copy-out-t19 : tie.Need-element-copy-out-t19
-element-copy-out-t19 c = search needs
-
-has-requires : tie.Need-has-requires
-has-requires c κs = search needs
-
-claimants-requires : tie.Need-claimants-requires
-claimants-requires c κs = search needs
-
-without-requires : tie.Need-without-requires
-without-requires c κs = search needs
-
-reaching-requires : tie.Need-reaching-requires
-reaching-requires c κs = search needs
-
-meets-requires : tie.Need-meets-requires
-meets-requires c κs = search needs
 
 returns : tie.Need-returns
 returns c = λ b s r e a o.
@@ -59,15 +26,15 @@ pub is-safe-spec : {M : Type 1} → statement M
 is-safe-spec =
     tie.close
     (tie.spec
-    sub-i
-    cast-i
-    mul-t13
-    element-copy-out-t16
-    mul-t13-2
-    element-copy-out-t19
-    has-requires
-    claimants-requires
-    without-requires
-    reaching-requires
-    meets-requires
+    (λ c. search needs)
+    (λ c. search needs)
+    (λ c. search needs)
+    (λ c. search needs)
+    (λ c. search needs)
+    (λ c. search needs)
+    (λ c κs. search needs)
+    (λ c κs. search needs)
+    (λ c κs. search needs)
+    (λ c κs. search needs)
+    (λ c κs. search needs)
     returns)

@@ -12,15 +12,6 @@ use borrow.Author.Needs.{needs}
 use Rattle.search.proofs.order_in.Statement.{statement}
 use Rattle.search.proofs.order_in.Tie as tie
 
-count-requires : tie.Need-count-requires
-count-requires c κs = search needs
-
-cast-search-rest : tie.Need-cast-search-rest
-cast-search-rest c = search needs
-
-search-rest-requires : tie.Need-search-rest-requires
-search-rest-requires c κs = search needs
-
 returns : tie.Need-returns
 returns c = λ b r e. let a = c .before .before .args in
     let n : c .before .count .result ≡ length (admitted b) = c .before .count .ensures .0
@@ -29,4 +20,4 @@ returns c = λ b r e. let a = c .before .before .args in
     ∙ placed-start (carried b))
 
 pub order-in-spec : {M : Type 1} → statement M
-order-in-spec = tie.close (tie.spec count-requires cast-search-rest search-rest-requires returns)
+order-in-spec = tie.close (tie.spec (λ c κs. search needs) (λ c. search needs) (λ c κs. search needs) returns)

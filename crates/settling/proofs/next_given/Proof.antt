@@ -1,5 +1,5 @@
 -- `next_given` meets its contract. Assumes nothing.
-use mathlib.Core.Path.{_≡_, refl, sym, ap, _∙_}
+use mathlib.Core.Path.{_≡_, refl, sym, _∙_}
 use Prim.Native.Nat.{_-_, _≤_}
 use native.Mathlib.Omega.{arith}
 use lib.ListN.{length, drop}
@@ -19,17 +19,8 @@ Inv-loop from b line sets rows uses k₀ k = (k ≤ 32) × Ready b (names (drop 
 abbrev μ-loop : tie.MeasureT-loop
 μ-loop from b line sets rows uses k₀ k = 32 - k
 
-fill-requires : tie.Need-fill-requires Inv-loop μ-loop
-fill-requires c κs = search needs
-
-uses-of-requires : tie.Need-uses-of-requires Inv-loop μ-loop
-uses-of-requires c κs = search needs
-
 loop-holds : tie.Need-loop-holds Inv-loop μ-loop
 loop-holds c = let a = c .before .before .before .before .before in (a .pre .0, a .pre .1, refl, search needs, search needs)
-
-array-read-p : tie.Need-array-read-p Inv-loop μ-loop
-array-read-p c = search needs
 
 returns : tie.Need-returns Inv-loop μ-loop
 returns c = let l = c .before .before .loop in let g = c .before .before .before .before .before .before .before .before .args in
@@ -53,9 +44,6 @@ element-copy-out-q : tie.Need-element-copy-out-q Inv-loop μ-loop
 element-copy-out-q c = let l = c .before .before .loop in let g = c .before .before .before .before .before .before .before .before .args in
     let m = l .inv .3 in let n = waiter-range (g .t1) (g .t2) (l .k) (omega arith) (c .if1 .left) (l .inv .1) in let h = n .0 in let j = n .1 in omega arith
 
-awaited-requires : tie.Need-awaited-requires Inv-loop μ-loop
-awaited-requires c κs = search needs
-
 can-give-requires : tie.Need-can-give-requires Inv-loop μ-loop
 can-give-requires c κs = let i = c .before .before .before .before in let l = i .before .before .loop in
     let g = i .before .before .before .before .before .before .before .before .args in let m = l .inv .3 in
@@ -75,12 +63,6 @@ returns-2 c =
       same = l .inv .2;
       gives = λ h. (i .if1 .left, sym t ∙ c .if2 .taken);
     }
-
-add-k : tie.Need-add-k Inv-loop μ-loop
-add-k c = search needs
-
-loop-less : tie.Need-loop-less Inv-loop μ-loop
-loop-less c = search needs
 
 loop-again : tie.Need-loop-again Inv-loop μ-loop
 loop-again c =
@@ -103,19 +85,19 @@ next-given-spec =
     (tie.spec
     Inv-loop
     μ-loop
-    fill-requires
-    uses-of-requires
+    (λ c κs. search needs)
+    (λ c κs. search needs)
     loop-holds
-    array-read-p
+    (λ c. search needs)
     returns
     sub-i
     cast-i
     mul-q
     element-copy-out-q
-    awaited-requires
+    (λ c κs. search needs)
     can-give-requires
     returns-2
-    add-k
-    loop-less
+    (λ c. search needs)
+    (λ c. search needs)
     loop-again
     returns-3)

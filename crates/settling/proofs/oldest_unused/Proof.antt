@@ -21,27 +21,15 @@ Inv-loop b line sets uses k₀ k = (k ≤ 32) × Ready b (names (drop k line)) �
 abbrev μ-loop : tie.MeasureT-loop
 μ-loop b line sets uses k₀ k = 32 - k
 
-array-read-if1 : tie.Need-array-read-if1 Inv-loop μ-loop
-array-read-if1 c = search needs
-
 returns : tie.Need-returns Inv-loop μ-loop
 unfolding candidate
 returns c = let b = c .before .before .args .t1 in let m : length (b .waiting) ≡ 32 = search needs in
     sym (ap (λ (x : Option ℕ). Option·getD x 0) (first-none-left (unused b) (names (b .waiting))
     (names-stop (b .waiting) 0 (omega arith) (c .if1 .taken))))
 
-fill-requires : tie.Need-fill-requires Inv-loop μ-loop
-fill-requires c κs = search needs
-
-uses-of-requires : tie.Need-uses-of-requires Inv-loop μ-loop
-uses-of-requires c κs = search needs
-
 loop-holds : tie.Need-loop-holds Inv-loop μ-loop
 unfolding candidate
 loop-holds c = let a = c .before .before .before .before .before .before .before in (search needs, ready-all (a .args .t1) (a .pre), refl, search needs)
-
-array-read-p : tie.Need-array-read-p Inv-loop μ-loop
-array-read-p c = search needs
 
 returns-2 : tie.Need-returns-2 Inv-loop μ-loop
 returns-2 c = let l = c .before .before .loop in let b = c .before .before .before .before .before .before .before .before .before .before .args .t1 in
@@ -65,9 +53,6 @@ element-copy-out-q : tie.Need-element-copy-out-q Inv-loop μ-loop
 element-copy-out-q c = let l = c .before .before .loop in let g = c .before .before .before .before .before .before .before .before .before .before .args in
     let m = l .inv .3 in let n = waiter-range (g .t1) (g .t1 .waiting) (l .k) (omega arith) (c .if2 .left) (l .inv .1) in let h = n .0 in let j = n .1 in omega arith
 
-awaited-requires : tie.Need-awaited-requires Inv-loop μ-loop
-awaited-requires c κs = search needs
-
 in-use-requires : tie.Need-in-use-requires Inv-loop μ-loop
 in-use-requires c κs = let i = c .before .before .before in let l = i .before .before .loop in
     let g = i .before .before .before .before .before .before .before .before .before .before .args in let m = l .inv .3 in
@@ -82,12 +67,6 @@ returns-3 c =
     (w .in-use .ensures) in
     sym (rw (sym t ∙ not-true (w .in-use .result) (c .if3 .taken)) at (ap (λ (x : Option ℕ). Option·getD x 0) (l .inv .2
     ∙ first-names-on (unused (g .t1)) (g .t1 .waiting) (l .k) (omega arith) (i .if2 .left))))
-
-add-k : tie.Need-add-k Inv-loop μ-loop
-add-k c = search needs
-
-loop-less : tie.Need-loop-less Inv-loop μ-loop
-loop-less c = search needs
 
 loop-again : tie.Need-loop-again Inv-loop μ-loop
 loop-again c =
@@ -115,21 +94,21 @@ oldest-unused-spec =
     (tie.spec
     Inv-loop
     μ-loop
-    array-read-if1
+    (λ c. search needs)
     returns
-    fill-requires
-    uses-of-requires
+    (λ c κs. search needs)
+    (λ c κs. search needs)
     loop-holds
-    array-read-p
+    (λ c. search needs)
     returns-2
     sub-i
     cast-i
     mul-q
     element-copy-out-q
-    awaited-requires
+    (λ c κs. search needs)
     in-use-requires
     returns-3
-    add-k
-    loop-less
+    (λ c. search needs)
+    (λ c. search needs)
     loop-again
     returns-4)

@@ -1,5 +1,5 @@
 -- `pass_line` meets its contract. Assumes nothing.
-use mathlib.Core.Path.{_≡_, refl}
+use mathlib.Core.Path.{_≡_}
 use Prim.Native.Nat.{_-_, _≤_}
 use native.Mathlib.Omega.{arith}
 use lib.ListN.{length}
@@ -14,9 +14,6 @@ Inv-loop line s₀ k₀ s k = (k ≤ 32) × PassAt s₀ line k s × (length line
 
 abbrev μ-loop : tie.MeasureT-loop
 μ-loop line s₀ k₀ s k = 32 - k
-
-array-read-if1 : tie.Need-array-read-if1 Inv-loop μ-loop
-array-read-if1 c = search needs
 
 returns : tie.Need-returns Inv-loop μ-loop
 returns c = let a = c .before .before .before in let w = a .args .w in let m : length (w .board .waiting) ≡ 32 = search needs in
@@ -34,9 +31,6 @@ returns-2 c = let x = c .before .next-given in let l = c .before .before .before
     pass-over w (l .s) (w .board .waiting) (x .result) (pass-to w (l .s) (w .board .waiting) (l .k) (x .result) (l .inv .1) (x .ensures))
     (names-end (w .board .waiting) (x .result) (omega arith))
 
-array-read-p : tie.Need-array-read-p Inv-loop μ-loop
-array-read-p c = search needs
-
 give-waiter-requires : tie.Need-give-waiter-requires Inv-loop μ-loop
 give-waiter-requires c κs = let x = c .before .next-given in let l = c .before .before .before .before .loop in
     let w = c .before .before .before .before .before .before .before .before .args .w in let m = l .inv .2 in
@@ -44,9 +38,6 @@ give-waiter-requires c κs = let x = c .before .next-given in let l = c .before 
     let r = pass-range w (l .s) (w .board .waiting) (x .result) (omega arith) (g .0)
     (pass-to w (l .s) (w .board .waiting) (l .k) (x .result) (l .inv .1) (x .ensures)) in
     (r .0, g .1, give-fits (l .s) (l .s .board) _ _ (g .1) (r .1))
-
-add-k : tie.Need-add-k Inv-loop μ-loop
-add-k c = search needs
 
 loop-less : tie.Need-loop-less Inv-loop μ-loop
 loop-less c = let x = c .before .before .next-given in let l = c .before .before .before .before .before .loop in
@@ -72,14 +63,14 @@ pass-line-spec =
     (tie.spec
     Inv-loop
     μ-loop
-    array-read-if1
+    (λ c. search needs)
     returns
     loop-holds
     next-given-requires
     returns-2
-    array-read-p
+    (λ c. search needs)
     give-waiter-requires
-    add-k
+    (λ c. search needs)
     loop-less
     loop-again
     returns-3)

@@ -9,18 +9,6 @@ use borrow.Author.Needs.{needs}
 use Rattle.sound.proofs.judge.Statement.{statement}
 use Rattle.sound.proofs.judge.Tie as tie
 
-fill-requires : tie.Need-fill-requires
-fill-requires c κs = search needs
-
-uses-of-requires : tie.Need-uses-of-requires
-uses-of-requires c κs = search needs
-
-order-in-requires : tie.Need-order-in-requires
-order-in-requires c κs = search needs
-
-is-found-requires : tie.Need-is-found-requires
-is-found-requires c κs = search needs
-
 order : (c : tie.After-order-in) → c .order-in .result ≡ asOrder (carried (c .before .before .before .before .before .before .before .before .args .b))
 order c = let u = c .before .before .before in let f = u .before .before in
     c .order-in .ensures (f .before .before .before .args .b) (f .fill .ensures .1) (ap (λ (z : Uses). z .admitted) (u .uses-of .ensures))
@@ -41,9 +29,9 @@ pub judge-spec : {M : Type 1} → statement M
 judge-spec =
     tie.close
     (tie.spec
-    fill-requires
-    uses-of-requires
-    order-in-requires
-    is-found-requires
+    (λ c κs. search needs)
+    (λ c κs. search needs)
+    (λ c κs. search needs)
+    (λ c κs. search needs)
     is-sound-by-requires
     returns)

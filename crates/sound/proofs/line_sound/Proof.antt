@@ -1,6 +1,6 @@
 -- `line_sound` meets its contract. Assumes nothing.
 use mathlib.Core.Path.{_≡_, sym, _∙_}
-use mathlib.Core.Bool.{Bool, not, _&&_, _||_}
+use mathlib.Core.Bool.{not, _&&_, _||_}
 use Prim.Native.Nat.{_<_, _^_}
 use borrow.Author.Tests.{not-true, not-false}
 use borrow.Author.Needs.{needs}

@@ -1,9 +1,8 @@
 -- `none_favoured` meets its contract. Assumes nothing.
 use mathlib.Core.Path.{_≡_, sym, ap, _∙_}
-use mathlib.Core.Bool.{true, false, not}
+use mathlib.Core.Bool.{true, not}
 use lib.Dec.{eqb}
 use borrow.Author.Tests.{eq-eqb, ne-eqb}
-use borrow.Author.Needs.{needs}
 use Rattle.rules.specs.Lists.{any}
 use Rattle.rules.specs.Boards.{everyone}
 use Rattle.rules.specs.Soundness.{noneFavoured}

@@ -9,16 +9,10 @@ use borrow.Author.Needs.{needs}
 use Rattle.sound.proofs.waiter_sound.Statement.{statement}
 use Rattle.sound.proofs.waiter_sound.Tie as tie
 
-claims-requires : tie.Need-claims-requires
-claims-requires c κs = search needs
-
 returns : tie.Need-returns
 unfolding waiterSound
 returns c = λ b e k a. let s = c .before .before in
     rw (ap (λ (z : Program). claims z (s .args .f)) (sym e) ∙ sym (c .before .claims .ensures) ∙ not-true (c .before .claims .result) (c .if1 .taken))
-
-has-open-requires : tie.Need-has-open-requires
-has-open-requires c κs = search needs
 
 returns-2 : tie.Need-returns-2
 unfolding waiterSound
@@ -26,9 +20,6 @@ returns-2 c = λ b e k a. let i = c .before .before in let s = i .before .before
   ap (λ (z : Program). claims z (s .args .f)) (sym e) ∙ sym (i .before .claims .ensures) ∙ not-false (i .before .claims .result) (i .if1 .left),
   ap (λ (z : Program). hasOpen z (s .args .f)) (sym e) ∙ sym (c .before .has-open .ensures) ∙ c .if2 .taken,
 )
-
-can-give-requires : tie.Need-can-give-requires
-can-give-requires c κs = search needs
 
 returns-3 : tie.Need-returns-3
 unfolding waiterSound
@@ -41,4 +32,4 @@ returns-3 c = λ b e k a. let j = c .before in let i = j .before .before in let 
 pub waiter-sound-spec : {M : Type 1} → statement M
 waiter-sound-spec =
     tie.close
-    (tie.spec claims-requires returns has-open-requires returns-2 can-give-requires returns-3)
+    (tie.spec (λ c κs. search needs) returns (λ c κs. search needs) returns-2 (λ c κs. search needs) returns-3)

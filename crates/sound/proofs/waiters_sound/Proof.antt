@@ -26,9 +26,6 @@ abbrev μ-loop : tie.MeasureT-loop
 loop-holds : tie.Need-loop-holds Inv-loop μ-loop
 loop-holds c = (search needs, c .pre .1, refl, search needs)
 
-array-read-p : tie.Need-array-read-p Inv-loop μ-loop
-array-read-p c = search needs
-
 returns : tie.Need-returns Inv-loop μ-loop
 returns c = let l = c .before .before .loop in let a = c .before .before .before .args in let m = l .inv .3 in
     sym (l .inv .2 ∙ all-names-stop (a .t5) (l .k) (waiterAt (a .t1)) (omega arith) (c .if1 .taken))
@@ -47,9 +44,6 @@ mul-q c = let l = c .before .before .loop in let a = c .before .before .before .
 element-copy-out-q : tie.Need-element-copy-out-q Inv-loop μ-loop
 element-copy-out-q c = let l = c .before .before .loop in let a = c .before .before .before .args in let n = waiter-named (a .t1) (a .t5) (l .k) (omega (arith, l .inv .3)) (c .if1 .left) (l .inv .1) in omega (arith, n .0 .0, n .0 .1)
 
-awaited-requires : tie.Need-awaited-requires Inv-loop μ-loop
-awaited-requires c κs = search needs
-
 waiter-sound-requires : tie.Need-waiter-sound-requires Inv-loop μ-loop
 waiter-sound-requires c κs = let e = c .before .before in let l = e .before .before .loop in let a = e .before .before .before .args in
     waiter-named (a .t1) (a .t5) (l .k) (omega (arith, l .inv .3)) (e .if1 .left) (l .inv .1) .0
@@ -61,12 +55,6 @@ returns-2 c = let w = c .before in let e = w .before .before .before in let l = 
     ∙ ap (waiterSound (a .t1) (getD (a .t5) (l .k) 0)) (w .before .awaited .ensures) in
     sym (rw (sym t ∙ not-true (w .waiter-sound .result) (c .if2 .taken)) at (l .inv .2
     ∙ all-names-on (a .t5) (l .k) (waiterAt (a .t1)) (omega (arith, l .inv .3)) (e .if1 .left)))
-
-add-k : tie.Need-add-k Inv-loop μ-loop
-add-k c = search needs
-
-loop-less : tie.Need-loop-less Inv-loop μ-loop
-loop-less c = search needs
 
 loop-again : tie.Need-loop-again Inv-loop μ-loop
 loop-again c = let w = c .before in let e = w .before .before .before in let l = e .before .before .loop in let s = e .before .before .before in let a = s .args in
@@ -91,16 +79,16 @@ waiters-sound-spec =
     Inv-loop
     μ-loop
     loop-holds
-    array-read-p
+    (λ c. search needs)
     returns
     sub-i
     cast-i
     mul-q
     element-copy-out-q
-    awaited-requires
+    (λ c κs. search needs)
     waiter-sound-requires
     returns-2
-    add-k
-    loop-less
+    (λ c. search needs)
+    (λ c. search needs)
     loop-again
     returns-3)

@@ -1,5 +1,5 @@
 -- `add_holders` meets its contract. Assumes nothing.
-use mathlib.Core.Path.{_≡_, refl, ap, _∙_}
+use mathlib.Core.Path.{_≡_, ap, _∙_}
 use Prim.Native.Nat.{suc, _-_, _≤_}
 use native.Mathlib.Omega.{arith}
 use lib.ListN.{length}
@@ -9,9 +9,6 @@ use Rattle.tables.specs.Tables.{SetsOf, RowsUpTo, packed, stops}
 use Rattle.tables.proofs.Laws.{rows-none, rows-more}
 use Rattle.tables.proofs.add_holders.Statement.{statement}
 use Rattle.tables.proofs.add_holders.Tie as tie
-use Rattle.tables.proofs.add_holders.Reads as reads
-use Rattle.tables.proofs.add_holders.Lts as lts
-use Rattle.tables.proofs.add_holder.Reads as add-holder-reads
 
 abbrev Inv-loop : tie.InvT-loop
 Inv-loop sets rows₀ i₀ rows i = (i ≤ 32) × (length rows ≡ 32) × ((b : Board) → SetsOf b sets → RowsUpTo b i rows)
@@ -19,32 +16,17 @@ Inv-loop sets rows₀ i₀ rows i = (i ≤ 32) × (length rows ≡ 32) × ((b : 
 abbrev μ-loop : tie.MeasureT-loop
 μ-loop sets rows₀ i₀ rows i = 32 - i
 
--- src/lib.rt:80:5
 loop-holds : tie.Need-loop-holds Inv-loop μ-loop
 loop-holds c = (search needs, c .pre .0, λ b s. rows-none b (c .args .rows .now) (c .pre))
 
--- src/lib.rt:81:9
-add-holder-requires : tie.Need-add-holder-requires Inv-loop μ-loop
-add-holder-requires c κs = search needs
-
--- src/lib.rt:82:9
-add-i : tie.Need-add-i Inv-loop μ-loop
-add-i c = search needs
-
--- src/lib.rt:80:5
-loop-less : tie.Need-loop-less Inv-loop μ-loop
-loop-less c = search needs
-
--- src/lib.rt:80:5
 loop-again : tie.Need-loop-again Inv-loop μ-loop
 loop-again c = let l = c .before .before .before .loop in let r = c .add-holder .ensures in
     (search needs, r .0, λ b s. rows-more b (c .before .before .before .before .args .sets .now) s (l .i) (omega arith) (l .rows) (c .add-holder .last .1 .1 .0) (l .inv .2 b s) r)
 
--- src/lib.rt:75:1
 returns : tie.Need-returns Inv-loop μ-loop
 returns c = let l = c .before .loop in λ b s. (l .inv .1, λ i h. l .inv .2 b s i h ∙ (let e : l .i ≡ 32 = omega arith in ap (packed (stops b (suc i))) e))
 
 pub add-holders-spec : {M : Type 1} → statement M
 add-holders-spec =
     tie.close
-    (tie.spec Inv-loop μ-loop loop-holds add-holder-requires add-i loop-less loop-again returns)
+    (tie.spec Inv-loop μ-loop loop-holds (λ c κs. search needs) (λ c. search needs) (λ c. search needs) loop-again returns)

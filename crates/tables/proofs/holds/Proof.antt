@@ -1,9 +1,8 @@
 -- `holds` meets its contract. Assumes nothing.
-use mathlib.Core.Path.{_≡_, refl, ap, _∙_}
+use mathlib.Core.Path.{refl, ap, _∙_}
 use mathlib.Core.Bool.{Bool, not, _||_}
 use lib.Bits.{bitAnd, bitOr}
 use lib.Dec.{eqb}
-use borrow.Author.Needs.{needs}
 use Rattle.files.proofs.Bits.{or-none}
 use Rattle.tables.proofs.holds.Statement.{statement}
 use Rattle.tables.proofs.holds.Tie as tie

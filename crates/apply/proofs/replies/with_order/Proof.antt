@@ -8,12 +8,6 @@ use borrow.Author.Needs.{needs}
 use Rattle.apply.proofs.replies.with_order.Statement.{statement}
 use Rattle.apply.proofs.replies.with_order.Tie as tie
 
-enum-known-kind : tie.Need-enum-known-kind
-enum-known-kind c = search needs
-
-enum-told : tie.Need-enum-told
-enum-told c = search needs
-
 returns : tie.Need-returns
 returns c = let s = c .before .before .before .before in let a = s .args in
     replied-stuck (a .w) (a .answer) (order-none (carried (a .w .board)) (a .order) (s .pre) (c .enum-told .given .1))
@@ -30,4 +24,4 @@ returns-2 c = let k = c .before .before .kind in let s = c .before .before .befo
     (order-count (carried (a .w .board)) (a .order) (k .given .0 .0) (s .pre) (k .given .1))
 
 pub with-order-spec : {M : Type 1} → statement M
-with-order-spec = tie.close (tie.spec enum-known-kind enum-told returns cast-t11 returns-2)
+with-order-spec = tie.close (tie.spec (λ c. search needs) (λ c. search needs) returns cast-t11 returns-2)

@@ -7,17 +7,11 @@ use borrow.Author.Needs.{needs}
 use Rattle.search.proofs.gives.can_give.Statement.{statement}
 use Rattle.search.proofs.gives.can_give.Tie as tie
 
-in-use-requires : tie.Need-in-use-requires
-in-use-requires c κs = search needs
-
 returns : tie.Need-returns
 unfolding canGive
 returns c = λ b s r e n o a h. let g = c .before .before .args in
     let u : inUse b (g .p) (g .f) ≡ true = sym (c .before .in-use .ensures b s e n h) ∙ c .if1 .taken in
     sym (ap (λ (x : Bool). not x && safe b (g .p) (g .f)) u)
-
-is-safe-requires : tie.Need-is-safe-requires
-is-safe-requires c κs = search needs
 
 returns-2 : tie.Need-returns-2
 unfolding canGive
@@ -26,4 +20,4 @@ returns-2 c = λ b s r e n o a h. let i = c .before .before in let g = i .before
     c .is-safe .ensures b s r (ap (λ (z : Uses). z .admitted) e) a o ∙ sym (ap (λ (x : Bool). not x && safe b (g .p) (g .f)) u)
 
 pub can-give-spec : {M : Type 1} → statement M
-can-give-spec = tie.close (tie.spec in-use-requires returns is-safe-requires returns-2)
+can-give-spec = tie.close (tie.spec (λ c κs. search needs) returns (λ c κs. search needs) returns-2)

@@ -11,28 +11,10 @@ use borrow.Author.Needs.{needs}
 use Rattle.search.proofs.gives.in_use.Statement.{statement}
 use Rattle.search.proofs.gives.in_use.Tie as tie
 
-has-requires : tie.Need-has-requires
-has-requires c κs = search needs
-
 returns : tie.Need-returns
 returns c = λ b s e n o. let g = c .before .before .before .args in
     let w : member (g .u .written) (g .f) ≡ true = sym (c .before .has .ensures) ∙ c .if1 .taken in
     sym (or-left (member (g .u .written) (g .f)) _ w) ∙ used-by b (g .sets .now) (g .u) (g .p) (g .f) (search needs) (search needs) s e n o
-
-sub-i : tie.Need-sub-i
-sub-i c = search needs
-
-cast-i : tie.Need-cast-i
-cast-i c = search needs
-
-mul-t11 : tie.Need-mul-t11
-mul-t11 c = search needs
-
-element-copy-out-t14 : tie.Need-element-copy-out-t14
-element-copy-out-t14 c = search needs
-
-has-requires-2 : tie.Need-has-requires-2
-has-requires-2 c κs = search needs
 
 returns-2 : tie.Need-returns-2
 returns-2 c = λ b s e n o. let i = c .before .before .before in let g = i .before .before .before .args in
@@ -41,9 +23,6 @@ returns-2 c = λ b s e n o. let i = c .before .before .before in let g = i .befo
     ∙ not-true (c .before .has2 .result) (c .if2 .taken) in
     sym (ap₂ (λ (x y : Bool). x || (y && member (g .u .read) (g .f))) w v)
     ∙ used-by b (g .sets .now) (g .u) (g .p) (g .f) (search needs) (search needs) s e n o
-
-has-requires-3 : tie.Need-has-requires-3
-has-requires-3 c κs = search needs
 
 returns-3 : tie.Need-returns-3
 returns-3 c = λ b s e n o. let j = c .before .before in let i = j .before .before .before in let g = i .before .before .before .args in
@@ -57,13 +36,13 @@ pub in-use-spec : {M : Type 1} → statement M
 in-use-spec =
     tie.close
     (tie.spec
-    has-requires
+    (λ c κs. search needs)
     returns
-    sub-i
-    cast-i
-    mul-t11
-    element-copy-out-t14
-    has-requires-2
+    (λ c. search needs)
+    (λ c. search needs)
+    (λ c. search needs)
+    (λ c. search needs)
+    (λ c κs. search needs)
     returns-2
-    has-requires-3
+    (λ c κs. search needs)
     returns-3)

@@ -4,14 +4,8 @@ use borrow.Author.Needs.{needs}
 use Rattle.tables.proofs.reach.is_claimed.Statement.{statement}
 use Rattle.tables.proofs.reach.is_claimed.Tie as tie
 
-has-requires : tie.Need-has-requires
-has-requires c κs = search needs
-
 returns : tie.Need-returns
 returns c = rw (sym (c .before .has .ensures) ∙ c .if1 .taken)
-
-has-requires-2 : tie.Need-has-requires-2
-has-requires-2 c κs = search needs
 
 returns-2 : tie.Need-returns-2
 returns-2 c = let b = c .before .before in rw (sym (b .before .has .ensures) ∙ b .if1 .left, c .before .if2 .taken) (c .has2 .ensures)
@@ -20,4 +14,4 @@ returns-3 : tie.Need-returns-3
 returns-3 c = let b = c .before in rw (sym (b .before .has .ensures) ∙ b .if1 .left, c .if2 .left)
 
 pub is-claimed-spec : {M : Type 1} → statement M
-is-claimed-spec = tie.close (tie.spec has-requires returns has-requires-2 returns-2 returns-3)
+is-claimed-spec = tie.close (tie.spec (λ c κs. search needs) returns (λ c κs. search needs) returns-2 returns-3)

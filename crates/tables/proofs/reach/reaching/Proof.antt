@@ -15,18 +15,9 @@ Inv-loop rows among seen₀ next₀ seen next = SoFar rows among seen₀ seen ×
 abbrev μ-loop : tie.MeasureT-loop
 μ-loop rows among seen₀ next₀ seen next = 4294967296 - seen .bits
 
-and-requires : tie.Need-and-requires Inv-loop μ-loop
-and-requires c κs = search needs
-
-grown-requires : tie.Need-grown-requires Inv-loop μ-loop
-grown-requires c κs = search needs
-
 loop-holds : tie.Need-loop-holds Inv-loop μ-loop
 loop-holds c = let a = c .before .before .args in
     (sofar-start (a .rows .now) (a .among) (a .set) (c .before .and .result) (c .before .and .ensures), c .grown .ensures, search needs)
-
-grown-requires-2 : tie.Need-grown-requires-2 Inv-loop μ-loop
-grown-requires-2 c κs = search needs
 
 loop-less : tie.Need-loop-less Inv-loop μ-loop
 loop-less c = let l = c .before .before .before .before .loop in let a = c .before .before .before .before .before .before .before .args in
@@ -52,10 +43,10 @@ reaching-spec =
     (tie.spec
     Inv-loop
     μ-loop
-    and-requires
-    grown-requires
+    (λ c κs. search needs)
+    (λ c κs. search needs)
     loop-holds
-    grown-requires-2
+    (λ c κs. search needs)
     loop-less
     loop-again
     returns)
