@@ -113,11 +113,18 @@ module _ (sets : List ℕ) (i : ℕ) (before : List ℕ) where
   pub joined-none : length before ≡ 32 → bitOr (getD sets (64 + i) 0) (getD sets (96 + i) 0) ≡ 0 → HolderAdded sets i before before
   joined-none n e = (n, λ j m. sym (ap (joined (rowIn before j) (suc i)) (ap (λ (x : Bool). not (eqb i j) && x) (holds-none j) ∙ and-false (not (eqb i j)))))
     where
+      w-none : getD sets (64 + i) 0 ≡ 0
+      w-none = let w = getD sets (64 + i) 0 in let r = getD sets (96 + i) 0 in
+          omega (arith, or-add-and w r, and-le-l r w, and-comm w r)
+
+      r-none : getD sets (96 + i) 0 ≡ 0
+      r-none = let w = getD sets (64 + i) 0 in let r = getD sets (96 + i) 0 in omega (arith, or-add-and w r, and-le-l w r)
+
       holds-none : (j : ℕ) → holdsAt j ≡ false
       holds-none j = rw (
-        zero-share (getD sets (64 + i) 0) (getD sets j 0) (omega (arith, or-add-and (getD sets (64 + i) 0) (getD sets (96 + i) 0), and-le-l (getD sets (96 + i) 0) (getD sets (64 + i) 0), and-comm (getD sets (64 + i) 0) (getD sets (96 + i) 0))),
-        zero-share (getD sets (64 + i) 0) (getD sets (32 + j) 0) (omega (arith, or-add-and (getD sets (64 + i) 0) (getD sets (96 + i) 0), and-le-l (getD sets (96 + i) 0) (getD sets (64 + i) 0), and-comm (getD sets (64 + i) 0) (getD sets (96 + i) 0))),
-        zero-share (getD sets (96 + i) 0) (getD sets j 0) (omega (arith, or-add-and (getD sets (64 + i) 0) (getD sets (96 + i) 0), and-le-l (getD sets (64 + i) 0) (getD sets (96 + i) 0))),
+        zero-share (getD sets (64 + i) 0) (getD sets j 0) w-none,
+        zero-share (getD sets (64 + i) 0) (getD sets (32 + j) 0) w-none,
+        zero-share (getD sets (96 + i) 0) (getD sets j 0) r-none,
       )
 
   pub joined-done : (after : List ℕ) → i < 32 → JoinedTo 32 after → HolderAdded sets i before (set after i (getD before i 0))

@@ -31,7 +31,8 @@ returns c = let l = c .before .before .loop in let a = c .before .before .before
     sym (l .inv .2 ∙ all-names-stop (a .t5) (l .k) (waiterAt (a .t1)) (omega arith) (c .if1 .taken))
 
 sub-i : tie.Need-sub-i Inv-loop μ-loop
-sub-i c = let l = c .before .before .loop in let a = c .before .before .before .args in let n = waiter-named (a .t1) (a .t5) (l .k) (omega (arith, l .inv .3)) (c .if1 .left) (l .inv .1) in n .0 .0
+sub-i c = let l = c .before .before .loop in let a = c .before .before .before .args in
+    let n = waiter-named (a .t1) (a .t5) (l .k) (omega (arith, l .inv .3)) (c .if1 .left) (l .inv .1) in n .0 .0
 
 cast-i : tie.Need-cast-i Inv-loop μ-loop
 cast-i c = let l = c .before .before .loop in let a = c .before .before .before .args in
@@ -42,7 +43,8 @@ mul-q c = let l = c .before .before .loop in let a = c .before .before .before .
     let n = waiter-named (a .t1) (a .t5) (l .k) (omega (arith, l .inv .3)) (c .if1 .left) (l .inv .1) in let h = n .0 .1 in omega arith
 
 element-copy-out-q : tie.Need-element-copy-out-q Inv-loop μ-loop
-element-copy-out-q c = let l = c .before .before .loop in let a = c .before .before .before .args in let n = waiter-named (a .t1) (a .t5) (l .k) (omega (arith, l .inv .3)) (c .if1 .left) (l .inv .1) in omega (arith, n .0 .0, n .0 .1)
+element-copy-out-q c = let l = c .before .before .loop in let a = c .before .before .before .args in
+    let n = waiter-named (a .t1) (a .t5) (l .k) (omega (arith, l .inv .3)) (c .if1 .left) (l .inv .1) in omega (arith, n .0 .0, n .0 .1)
 
 waiter-sound-requires : tie.Need-waiter-sound-requires Inv-loop μ-loop
 waiter-sound-requires c κs = let e = c .before .before in let l = e .before .before .loop in let a = e .before .before .before .args in
