@@ -28,7 +28,7 @@ use Rattle.rules.specs.Boards.{noProgram, isProgram, at, setProgram, closing, d
 use Rattle.rules.specs.Orders.{carried, withGiven, inUse, safe}
 use Rattle.rules.specs.Soundness.{sound}
 use Rattle.rules.specs.Settling.{line, settle}
-use Rattle.rules.specs.Replies.{blank, reply, refuse}
+use Rattle.rules.specs.Replies.{blank, refusalOf, refused, reply, refuse}
 use Rattle.rules.specs.Checks.{unlessRunning, enterCheck, openCheck, closeCheck, leaveCheck}
 use Rattle.rules.specs.Calls.{openFile, done, countLeave, Call, callOf, callWith, checked, accepted, apply}
 use Rattle.theory.specs.Loose.{Loose, Good}
@@ -175,6 +175,16 @@ order-short o r n e k h =
 
 -- ---- replies
 
+-- an answer with a number is a refusal
+pub refused-by : (a : Answer) → refusalOf a ≢ 0 → refused a ≡ true
+refused-by Answer.Admit h = absurd (h refl)
+refused-by Answer.Held h = absurd (h refl)
+refused-by Answer.Given h = absurd (h refl)
+refused-by Answer.Wait h = absurd (h refl)
+refused-by Answer.Unsafe h = absurd (h refl)
+refused-by Answer.Done h = absurd (h refl)
+refused-by (Answer.Refuse r) h = refl
+
 pub replied-stuck : (w : Written) (a : Answer) → carried (w .board) ≡ none
     → _≡_ {A = Reply} (record { board = w .board; answer = a; lines = w .lines; count = w .count; order = replicate 32 0; placed = 0 }) (replied w a)
 unfolding padded
@@ -251,13 +261,3 @@ pub is-safe : (b g : Board) (p f : ℕ) (r : Order) (n : ℕ) → g ≡ withGive
     → r .kind ≡ Search.Found n → safe b p f ≡ true
 unfolding safe
 is-safe b g p f r n e o k = ap (λ (x : Board). found (carried x)) (sym e) ∙ order-found (carried g) r n o k
-
-pub given-is : (b g : Board) (p f : ℕ) (r : Order) (n : ℕ) (w : Written) → inUse b p f ≡ false → g ≡ withGiven b p f
-    → r ≡ asOrder (carried g) → r .kind ≡ Search.Found n
-    → w ≡ wrote g (line Word.Given p f ∷ [])
-    → _≡_ {A = Reply} (record { board = g; answer = Answer.Given; lines = w .lines; count = 1; order = r .at; placed = n }) (openFile b p f)
-unfolding openFile
-given-is b g p f r n w u e o k q =
-    rw (u, is-safe b g p f r n e o k, q)
-    (replied-found (wrote g (line Word.Given p f ∷ [])) Answer.Given (r .at) n (order-at (carried g) r n o k) (order-count (carried g) r n o k)
-    ∙ wrote-reply g Answer.Given (line Word.Given p f) ∙ ap (λ (x : Board). reply x Answer.Given (line Word.Given p f ∷ [])) e)

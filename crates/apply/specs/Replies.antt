@@ -1,4 +1,4 @@
--- A board with the lines written so far, and the reply made of it; parts of the checks.
+-- A board with the lines written so far, and the reply made of what a call comes to; parts of the checks.
 -- Assumes nothing.
 use Prim.Native.Nat.{ℕ, _≤_, suc}
 use mathlib.Core.Bool.{Bool, not, cond}
@@ -19,6 +19,7 @@ use Rattle.rules.specs.Orders.{carried}
 use Rattle.rules.specs.Settling.{settle}
 use Rattle.rules.specs.Replies.{blank}
 use Rattle.settling.specs.declared.Written.{Written}
+use Rattle.apply.specs.declared.Changed.{Changed}
 
 -- these lines are written
 abbrev pub wrote : Board → List Line → Written
@@ -35,6 +36,10 @@ replied w a =
       order = padded 0 (Option·getD (carried (w .board)) []);
       placed = length (Option·getD (carried (w .board)) []);
     }
+
+-- the reply to a call: what it comes to, and the order of its board
+abbrev pub replyOf : Changed → Reply
+replyOf c = replied (c .written) (c .answer)
 
 -- DONE and the lines of settling fit
 abbrev pub DoneFits : Board → Type 0

@@ -1,4 +1,5 @@
 // Replies: the lines written so far, the answer, and the order of the board.
+use crate::Changed;
 use rules::Answer;
 use rules::Board;
 use rules::Line;
@@ -9,14 +10,15 @@ use search::Order;
 use search::Search;
 use settling::Written;
 ghost use mathlib.Core.Path.{_≡_};
+ghost use mathlib.Core.Bool.{true};
 ghost use mathlib.Core.List.{[], _∷_};
 ghost use Rattle.rules.specs.Orders.{carried};
 ghost use Rattle.rules.specs.Settling.{line};
-ghost use Rattle.rules.specs.Replies.{refuse, refuseUnsound};
+ghost use Rattle.rules.specs.Replies.{refused, reply, refuse, refuseUnsound};
 ghost use Rattle.rules.specs.Calls.{done};
 ghost use Rattle.theory.specs.Loose.{Loose};
 ghost use Rattle.search.specs.Rows.{asOrder};
-ghost use Rattle.apply.specs.Replies.{wrote, replied, DoneFits};
+ghost use Rattle.apply.specs.Replies.{wrote, replyOf, DoneFits};
 
 // What stands in the places after the last line.
 const BLANK: Line = Line {
@@ -38,7 +40,7 @@ fn no_line(b: Board) -> Written
 }
 
 // The board with one line written.
-pub fn one_line(b: Board, word: Word, p: u8, f: u8) -> Written
+fn one_line(b: Board, word: Word, p: u8, f: u8) -> Written
     ensures { λ r. ⌜ r ≡ wrote b (line word p f ∷ []) ⌝ }
 {
     let mut lines = [BLANK; 32];
@@ -55,12 +57,24 @@ pub fn one_line(b: Board, word: Word, p: u8, f: u8) -> Written
     }
 }
 
-// The reply with what was written, and with the order of its board.
-pub fn with_order(w: Written, answer: Answer, order: Order) -> Reply
-    requires { ⌜ order ≡ asOrder (carried (w .board)) ⌝ }
-    ensures { λ r. ⌜ r ≡ replied w answer ⌝ }
+// One line is written, and the answer says the same.
+pub fn answered(b: Board, word: Word, p: u8, f: u8, answer: Answer) -> Changed
+    ensures { λ r. ⌜ replyOf r ≡ reply b answer (line word p f ∷ []) ⌝ }
 {
+    Changed {
+        written: one_line(b, word, p, f),
+        answer: answer,
+    }
+}
+
+// The reply to a call, with the order of its board.
+pub fn with_order(c: Changed, order: Order) -> Reply
+    requires { ⌜ order ≡ asOrder (carried (c .written .board)) ⌝ }
+    ensures { λ r. ⌜ r ≡ replyOf c ⌝ }
+{
+    let w = c.written;
     let b = w.board;
+    let answer = c.answer;
     let lines = w.lines;
     let count = w.count;
     let kind = order.kind;
@@ -85,21 +99,29 @@ pub fn with_order(w: Written, answer: Answer, order: Order) -> Reply
     }
 }
 
-// The same; the order is sought.
-pub fn reply_with(w: Written, answer: Answer) -> Reply
-    ensures { λ r. ⌜ r ≡ replied w answer ⌝ }
+// The same; `before` is the order of the board before the call, which a refusal leaves as it was.
+pub fn complete(c: Changed, before: Order) -> Reply
+    requires { ⌜ (refused (c .answer) ≡ true → before ≡ asOrder (carried (c .written .board))) ⌝ }
+    ensures { λ r. ⌜ r ≡ replyOf c ⌝ }
 {
+    let answer = c.answer;
+    if answer.refusal() != 0 {
+        return with_order(c, before);
+    }
+    let w = c.written;
     let b = w.board;
     let order = search::carried_order(b);
-    with_order(w, answer, order)
+    with_order(c, order)
 }
 
-// A refusal, with the order of the unchanged board.
-pub fn refused(b: Board, order: Order, refusal: Refusal) -> Reply
-    requires { ⌜ order ≡ asOrder (carried b) ⌝ }
-    ensures { λ r. ⌜ r ≡ refuse b refusal ⌝ }
+// A refusal: the board is as it was.
+pub fn refused(b: Board, refusal: Refusal) -> Changed
+    ensures { λ r. ⌜ replyOf r ≡ refuse b refusal ⌝ }
 {
-    with_order(no_line(b), Answer::Refuse(refusal), order)
+    Changed {
+        written: no_line(b),
+        answer: Answer::Refuse(refusal),
+    }
 }
 
 // Refusal 1, with an empty order.
@@ -117,11 +139,13 @@ pub fn refused_unsound(b: Board) -> Reply
 }
 
 // DONE, then settle.
-pub fn done_reply(b: Board, p: u8, f: u8) -> Reply
+pub fn done(b: Board, p: u8, f: u8) -> Changed
     requires { ⌜ Loose b × DoneFits b ⌝ }
-    ensures { λ r. ⌜ r ≡ done b p f ⌝ }
+    ensures { λ r. ⌜ replyOf r ≡ done b p f ⌝ }
 {
     let w = one_line(b, Word::Done, p, f);
-    let s = settling::settled(w);
-    reply_with(s, Answer::Done)
+    Changed {
+        written: settling::settled(w),
+        answer: Answer::Done,
+    }
 }

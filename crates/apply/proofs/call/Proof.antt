@@ -18,8 +18,7 @@ call-by-requires c κs = let s = c .before .before in let a = s .args in let k =
       (search needs, search needs),
       number-same (isProgram (a .a .program)) (a .a .program) (k .result) (k .ensures .0)
           (c .if1 .left),
-      good-of (a .b) z (s .pre .0),
-      s .pre .1,
+      good-of (a .b) z (s .pre),
     )
 
 pub call-spec : {M : Type 1} → statement M

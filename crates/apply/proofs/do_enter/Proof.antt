@@ -1,30 +1,25 @@
 -- `do_enter` meets its contract. Assumes nothing.
-use mathlib.Core.Path.{ap, _∙_}
-use mathlib.Core.List.{[], _∷_, _++_}
+use mathlib.Core.Path.{refl, ap, _∙_}
+use mathlib.Core.List.{[], _∷_}
 use borrow.Author.Tests.{eq-eqb, ne-eqb}
-use Rattle.rules.specs.declared.Standing.{Standing}
 use Rattle.rules.specs.declared.Board.{Board}
 use Rattle.rules.specs.declared.Answer.{Answer}
 use Rattle.rules.specs.declared.Word.{Word}
-use Rattle.rules.specs.Lists.{names}
-use Rattle.rules.specs.Boards.{setProgram, setEntry}
+use Rattle.rules.specs.Boards.{setProgram}
 use Rattle.rules.specs.Settling.{line}
-use Rattle.rules.specs.Calls.{newcomer, enter}
-use Rattle.settling.specs.declared.Written.{Written}
-use Rattle.apply.specs.Replies.{wrote, replied}
-use Rattle.apply.proofs.Laws.{wrote-reply, entry-free}
+use Rattle.rules.specs.Replies.{reply}
+use Rattle.rules.specs.Calls.{enter}
+use Rattle.apply.proofs.Laws.{entry-free}
 use borrow.Author.Needs.{needs}
 use Rattle.apply.proofs.do_enter.Statement.{statement}
 use Rattle.apply.proofs.do_enter.Tie as tie
 
 returns : tie.Need-returns
 unfolding enter
-returns c = let a = c .before .before .before .before .before .args in
-    rw (eq-eqb (a .b .favoured) 0 (c .before .before .before .before .if1 .taken))
-    (c .reply-with .ensures ∙ ap (λ (w : Written). replied w Answer.Admit) (c .before .one-line .ensures
-    ∙ ap (λ (x : Board). wrote x (line Word.Admit (a .p) 0 ∷ [])) (c .before .before .put .ensures
-    ∙ ap (setProgram (a .b) (a .p)) (c .before .before .before .new-program .ensures)))
-    ∙ wrote-reply (setProgram (a .b) (a .p) (newcomer (a .writable) (a .readable) Standing.Running)) Answer.Admit (line Word.Admit (a .p) 0))
+returns c = let a = c .before .before .before .before .args in
+    rw (eq-eqb (a .b .favoured) 0 (c .before .before .before .if1 .taken))
+    (c .answered .ensures ∙ ap (λ (x : Board). reply x Answer.Admit (line Word.Admit (a .p) 0 ∷ [])) (c .before .put .ensures
+    ∙ ap (setProgram (a .b) (a .p)) (c .before .before .new-program .ensures)))
 
 append-requires : tie.Need-append-requires
 append-requires c κs = let s = c .before .before .before in let a = s .args in entry-free (a .b) (a .p) (a .writable)
@@ -32,16 +27,10 @@ append-requires c κs = let s = c .before .before .before in let a = s .args in 
 
 returns-2 : tie.Need-returns-2
 unfolding enter
-returns-2 c = let a = c .before .before .before .before .before .before .before .args in
-    rw (ne-eqb (a .b .favoured) 0 (c .before .before .before .before .before .before .if1 .left))
-    (c .reply-with2 .ensures ∙ ap (λ (w : Written). replied w Answer.Held) (c .before .one-line2 .ensures)
-    ∙ rw (
-      c .before .before .put2 .ensures,
-      c .before .before .before .append .ensures,
-      c .before .before .before .before .before .new-program2 .ensures,
-    )
-    (wrote-reply (setEntry (setProgram (a .b) (a .p) (newcomer (a .writable) (a .readable) Standing.Held))
-    (names (a .b .entry) ++ (a .p ∷ []))) Answer.Held (line Word.Held (a .p) 0)))
+returns-2 c = let a = c .before .before .before .before .before .before .args in
+    rw (ne-eqb (a .b .favoured) 0 (c .before .before .before .before .before .if1 .left))
+    (c .answered2 .ensures
+    ∙ rw (c .before .put2 .ensures, c .before .before .append .ensures, c .before .before .before .before .new-program2 .ensures) refl)
 
 pub do-enter-spec : {M : Type 1} → statement M
 do-enter-spec =
@@ -50,11 +39,9 @@ do-enter-spec =
     (λ c κs. search needs)
     (λ c κs. search needs)
     (λ c κs. search needs)
-    (λ c κs. search needs)
     returns
     (λ c κs. search needs)
     append-requires
-    (λ c κs. search needs)
     (λ c κs. search needs)
     (λ c κs. search needs)
     returns-2)

@@ -9,19 +9,19 @@ use Rattle.apply.proofs.replies.with_order.Statement.{statement}
 use Rattle.apply.proofs.replies.with_order.Tie as tie
 
 returns : tie.Need-returns
-returns c = let s = c .before .before .before .before in let a = s .args in
-    replied-stuck (a .w) (a .answer) (order-none (carried (a .w .board)) (a .order) (s .pre) (c .enum-told .given .1))
+returns c = let s = c .before .before .before .before .before in let a = s .args in
+    replied-stuck (a .c .written) (a .c .answer) (order-none (carried (a .c .written .board)) (a .order) (s .pre) (c .enum-told .given .1))
 
-cast-t11 : tie.Need-cast-t11
-cast-t11 c = let k = c .before .before .kind in let s = c .before .before .before .before .before .before in let a = s .args in
+cast-t12 : tie.Need-cast-t12
+cast-t12 c = let k = c .before .before .kind in let s = c .before .before .before .before .before .before .before in let a = s .args in
     let m : length (a .order .at) ≡ 32 = search needs in
-    let h = order-short (carried (a .w .board)) (a .order) (k .given .0 .0) (s .pre) (k .given .1) m in omega (arith, h)
+    let h = order-short (carried (a .c .written .board)) (a .order) (k .given .0 .0) (s .pre) (k .given .1) m in omega (arith, h)
 
 returns-2 : tie.Need-returns-2
-returns-2 c = let k = c .before .before .kind in let s = c .before .before .before .before .before .before in let a = s .args in
-    replied-found (a .w) (a .answer) (a .order .at) (k .given .0 .0)
-    (order-at (carried (a .w .board)) (a .order) (k .given .0 .0) (s .pre) (k .given .1))
-    (order-count (carried (a .w .board)) (a .order) (k .given .0 .0) (s .pre) (k .given .1))
+returns-2 c = let k = c .before .before .kind in let s = c .before .before .before .before .before .before .before in let a = s .args in
+    replied-found (a .c .written) (a .c .answer) (a .order .at) (k .given .0 .0)
+    (order-at (carried (a .c .written .board)) (a .order) (k .given .0 .0) (s .pre) (k .given .1))
+    (order-count (carried (a .c .written .board)) (a .order) (k .given .0 .0) (s .pre) (k .given .1))
 
 pub with-order-spec : {M : Type 1} → statement M
-with-order-spec = tie.close (tie.spec (λ c. search needs) (λ c. search needs) returns cast-t11 returns-2)
+with-order-spec = tie.close (tie.spec (λ c. search needs) (λ c. search needs) returns cast-t12 returns-2)
