@@ -16,8 +16,9 @@ pub fn call(b: Board, a: Asked) -> Reply
     if !j.sound {
         return apply::replies::refused_unsound(b);
     }
+    let changed = apply::call(b, a);
     let order = j.order;
-    apply::call(b, order, a)
+    apply::replies::complete(changed, order)
 }
 
 // A program enters with its claims.

@@ -1,100 +1,19 @@
--- Laws of the line call and of a host's call, for their functions. Assumes nothing.
-use Prim.Native.Nat.{ℕ, _+_, _-_, _<_, _≤_}
-use mathlib.Core.Path.{_≡_, refl, ap, sym, _∙_}
-use mathlib.Core.List.{List, [], _∷_, _++_, append-assoc, append-nil}
+-- Laws of a host's call, for its functions. Assumes nothing.
+use Prim.Native.Nat.{ℕ}
+use mathlib.Core.Path.{_≡_, ap, sym, _∙_}
+use mathlib.Core.List.{List}
 use mathlib.Core.Bool.{true, false}
-use lib.Dec.{eqb, ltb}
-use lib.ListN.{length, take, drop, length-take, length-drop, drop-of-length-le}
-use lib.Seq.{drop-drop, take-all}
-use native.Mathlib.Omega.{arith}
-use borrow.Rule.Slice.PartMut.{putMid}
-use borrow.Author.Tests.{eq-eqb, ne-eqb, lt-ltb, le-ltb, ltb-false}
-use Rattle.files.proofs.Tests.{by-test, never}
-use Rattle.columns.specs.Columns.{flat}
-use Rattle.rules.specs.declared.Line.{Line}
+use lib.ListN.{length}
+use borrow.Author.Tests.{ne-eqb}
 use Rattle.rules.specs.declared.Reply.{Reply}
 use Rattle.rules.specs.declared.Board.{Board}
-use Rattle.rules.specs.declared.Refusal.{Refusal}
 use Rattle.rules.specs.Soundness.{sound}
-use Rattle.rules.specs.Replies.{refusalOf, reply, refuse, refuseUnsound}
-use Rattle.theory.specs.Ready.{good}
-use Rattle.theory.specs.Worked.{direct-is-apply, apply-fits}
-use Rattle.request.specs.declared.Reading.{Reading}
-use Rattle.request.specs.Requests.{requestOf, requestCall}
+use Rattle.rules.specs.Replies.{refusalOf}
 use Rattle.image.specs.Image.{imageOf, loadedOf, refusedImage}
 use Rattle.image.specs.declared.Loaded.{Loaded}
 use Rattle.image.proofs.RoundTrip.{accepted}
-use Rattle.request.specs.declared.Request.{Request}
-use Rattle.journal.specs.Journal.{lineBytes, written}
-use Rattle.journal.proofs.Laws.{line-length}
-use Rattle.host.specs.Host.{journalFull, refuseLine, linesFor, replyBy, replyTo, stopped, posted, lineCall, hostAnswer, hostImage}
-use Rattle.host.specs.Host.{hostedBy, hostCall, readImage}
-
--- check 2
-pub full-far : (room place : ℕ) → 1000000000 < place → journalFull room place ≡ true
-full-far room place h = rw (lt-ltb 1000000000 place h)
-
-pub full-near : (room place : ℕ) → place ≤ 1000000000 → journalFull room place ≡ ltb room (place + 512)
-full-near room place h = rw (le-ltb 1000000000 place h)
-
--- the lines of a reply that isn't refused
-pub own-lines : (q : Request) (r : Reply) → refusalOf (r .answer) ≡ 0 → linesFor q r ≡ take (r .count) (r .lines)
-unfolding linesFor
-own-lines q r e = rw (eq-eqb (refusalOf (r .answer)) 0 e)
-
-pub own-count : (q : Request) (r : Reply) → refusalOf (r .answer) ≡ 0 → r .count ≤ length (r .lines) → length (linesFor q r) ≡ r .count
-own-count q r e h = ap length (own-lines q r e) ∙ omega (arith, length-take (r .count) (r .lines))
-
--- the line of a reply that is
-pub refused-lines : (q : Request) (r : Reply) → (refusalOf (r .answer) ≡ 0 → ⊥) → linesFor q r ≡ refuseLine q (refusalOf (r .answer)) ∷ []
-unfolding linesFor
-refused-lines q r n = rw (ne-eqb (refusalOf (r .answer)) 0 n)
-
--- the journal with one line put at `&mut journal[p..]`
-pub put-one : (j last : List ℕ) (l : Line) (p : ℕ) → p ≤ length j → last ≡ lineBytes l ++ drop 16 (take (length j - p) (drop p j))
-    → putMid p (length j - p) j last ≡ written j p (l ∷ [])
-unfolding written flat
-put-one j last l p h e =
-    let eA : take (length j - p) (drop p j) ≡ drop p j = take-all (length j - p) (drop p j) (omega (arith, length-drop p j)) in
-    let eE : drop (length j - p) (drop p j) ≡ [] = drop-of-length-le (drop p j) {i = length j - p} (omega (arith, length-drop p j)) in
-    rw (e, eA, eE, drop-drop 16 p j, append-nil, append-nil, line-length l) (sym (append-assoc (take p j) (lineBytes l) (drop (p + 16) j)))
-
--- ---- the line call
-
-refuse-count : (b : Board) (r : Refusal) → refuse b r .count ≤ 32
-unfolding refuse reply
-refuse-count b r = omega arith
-
--- a reply to a line, of a sound board, has at most 32 lines
-pub reply-fits : (b : Board) (q : Request) → length (b .programs) ≡ 32 → sound b ≡ true → replyTo b q .count ≤ 32
-unfolding replyTo
-reply-fits b q z s = by-reading (q .reading)
-  where
-    by-reading : (r : Reading) → replyBy b r (requestCall q) .count ≤ 32
-    by-reading Reading.Taken = rw (direct-is-apply b (requestCall q) s) (apply-fits b (requestCall q) (good b z s) .lines-fit)
-    by-reading (Reading.Refused r) = refuse-count b r
-
--- the line call's results, check by check
-pub call-unsound : (b : Board) (line journal : List ℕ) (place : ℕ) → sound b ≡ false
-    → lineCall b line journal place ≡ stopped (refuseUnsound b) journal place
-unfolding lineCall
-call-unsound b line journal place s = rw s
-
-pub call-full : (b : Board) (line journal : List ℕ) (place : ℕ) → sound b ≡ true → journalFull (length journal) place ≡ true
-    → lineCall b line journal place ≡ stopped (refuse b Refusal.JournalFull) journal place
-unfolding lineCall
-call-full b line journal place s f = rw (s, f)
-
-pub call-posted : (b : Board) (line journal : List ℕ) (place : ℕ) → sound b ≡ true → journalFull (length journal) place ≡ false
-    → lineCall b line journal place ≡ posted (requestOf line) (replyTo b (requestOf line)) journal place
-unfolding lineCall
-call-posted b line journal place s f = rw (s, f)
-
--- what check 2 leaves
-pub room : (n place : ℕ) → journalFull n place ≡ false → (place ≤ 1000000000) × (place + 512 ≤ n)
-room n place h =
-    by-test (ltb 1000000000 place) (λ e. never {t = true} refl (rw e at h))
-    (λ e. (ltb-false 1000000000 place e, ltb-false n (place + 512) (rw e at h)))
+use Rattle.serve.specs.LineCall.{lineCall}
+use Rattle.host.specs.Host.{hostAnswer, hostImage, hostedBy, hostCall, readImage}
 
 -- ---- the host's call
 
@@ -148,21 +67,6 @@ host-by image line journal place n p r j k ek ok er ep ej en =
 
 pub accepted-long : (image : List ℕ) (k : Loaded) → k ≡ loadedOf image → k .ok ≡ true → length image ≡ 1155
 accepted-long image k ek ok = accepted image (ap (λ (x : Loaded). x .ok) (sym ek) ∙ ok) .long
-
--- ---- the place after a line call
-
-lines-most : (q : Request) (r : Reply) → r .count ≤ 32 → length (linesFor q r) ≤ 32
-unfolding linesFor
-lines-most q r h = by-test (eqb (refusalOf (r .answer)) 0) (λ e. rw e (omega (arith, length-take (r .count) (r .lines)))) (λ e. rw e (omega arith))
-
--- at most 512 bytes are written
-pub place-fits : (b : Board) (line journal : List ℕ) (place : ℕ) → length (b .programs) ≡ 32 → lineCall b line journal place .place ≤ place + 512
-unfolding lineCall posted
-place-fits b line journal place z =
-    by-test (sound b)
-    (λ s. by-test (journalFull (length journal) place) (λ f. rw (s, f) (omega arith))
-    (λ f. rw (s, f) (omega (arith, lines-most (requestOf line) (replyTo b (requestOf line)) (reply-fits b (requestOf line) z s)))))
-    (λ s. rw s (omega arith))
 
 -- ---- reading an image, check by check
 

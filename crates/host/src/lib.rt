@@ -1,14 +1,7 @@
 // The line call and the call of a C host.
 use image::Loaded;
-use request::Reading;
-use request::Request;
-use rules::Asked;
 use rules::Board;
-use rules::Line;
-use rules::Refusal;
 use rules::Reply;
-use rules::Word;
-use search::Order;
 ghost use mathlib.Core.Path.{_≡_};
 ghost use Prim.Native.Nat.{_+_, _*_, _≤_};
 ghost use lib.ListN.{length};
@@ -27,75 +20,7 @@ pub struct Posted {
     pub place: u64,
 }
 
-// Whether the journal has no room for a call's lines from the place on.
-fn is_full(room: usize, place: u64) -> bool
-    ensures { λ r. ⌜ r ≡ journalFull room place ⌝ }
-{
-    if 1000000000 < place {
-        return true;
-    }
-    room < place as usize + 512
-}
-
-// The REFUSE line of a request.
-fn refuse_line(q: Request, n: u8) -> Line
-    ensures { λ r. ⌜ r ≡ refuseLine q n ⌝ }
-{
-    Line {
-        word: Word::Refuse,
-        program: q.program,
-        file: q.file,
-        refusal: n,
-    }
-}
-
-// Writes a reply's lines into the journal from the place on, and gives the new place.
-fn write_reply(journal: &mut [u8], place: usize, q: Request, r: Reply) -> usize
-    requires { ⌜ (place + 512 ≤ length (now journal)) × (r .count ≤ 32) ⌝ }
-    ensures { λ p. ⌜ (p ≡ place + 16 * length (linesFor q r)) × (now (journal .exit) ≡ written (now (journal .entry)) place (linesFor q r)) ⌝ }
-{
-    let answer = r.answer;
-    let n = answer.refusal();
-    let lines = r.lines;
-    if n == 0 {
-        return journal::put_lines(journal, place, lines, r.count as usize);
-    }
-    let l = refuse_line(q, n);
-    journal::put_line(&mut journal[place..], l);
-    place + 16
-}
-
-// The direct call that a taken line asks for, on a board that is known to be sound.
-fn call(b: Board, order: Order, q: Request) -> Reply
-    requires { ⌜ (sound b ≡ true) × (order ≡ asOrder (carried b)) ⌝ }
-    ensures { λ r. ⌜ r ≡ direct b (requestCall q) ⌝ }
-{
-    let verb = q.verb;
-    let writable = q.writable;
-    let readable = q.readable;
-    let asked = Asked {
-        verb: verb,
-        program: q.program as u64,
-        file: q.file as u64,
-        writable: writable,
-        readable: readable,
-    };
-    apply::call(b, order, asked)
-}
-
-// The reply to what a line says, on a board that is known to be sound.
-fn reply_to(b: Board, order: Order, q: Request) -> Reply
-    requires { ⌜ (sound b ≡ true) × (order ≡ asOrder (carried b)) ⌝ }
-    ensures { λ r. ⌜ r ≡ replyTo b q ⌝ }
-{
-    let reading = q.reading;
-    match reading {
-        Reading::Taken => call(b, order, q),
-        Reading::Refused(n) => apply::replies::refused(b, order, n),
-    }
-}
-
-// The line call: checks 1 and 2, then the line is read, then the direct call that it asks for.
+// The line call: check 1, then the line is served.
 pub fn line_call(b: Board, line: &[u8], journal: &mut [u8], place: u64) -> Posted
     ensures { λ r. ⌜ r .reply ≡ lineCall b (now (line .entry)) (now (journal .entry)) place .reply ⌝ }
     ensures { λ r. ⌜ r .place ≡ lineCall b (now (line .entry)) (now (journal .entry)) place .place ⌝ }
@@ -106,17 +31,12 @@ pub fn line_call(b: Board, line: &[u8], journal: &mut [u8], place: u64) -> Poste
         let reply = apply::replies::refused_unsound(b);
         return Posted { reply, place };
     }
+    let s = serve::line(b, line, journal, place);
     let order = j.order;
-    if is_full(journal.len(), place) {
-        let reply = apply::replies::refused(b, order, Refusal::JournalFull);
-        return Posted { reply, place };
-    }
-    let q = request::read(line);
-    let reply = reply_to(b, order, q);
-    let at = write_reply(journal, place as usize, q, reply);
+    let reply = apply::replies::complete(s.changed, order);
     Posted {
         reply,
-        place: at as u64,
+        place: s.place,
     }
 }
 

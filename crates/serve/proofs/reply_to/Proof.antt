@@ -1,8 +1,8 @@
 -- `reply_to` meets its contract. Assumes nothing.
-use Rattle.host.specs.Host.{replyTo}
+use Rattle.serve.specs.LineCall.{replyTo}
 use borrow.Author.Needs.{needs}
-use Rattle.host.proofs.reply_to.Statement.{statement}
-use Rattle.host.proofs.reply_to.Tie as tie
+use Rattle.serve.proofs.reply_to.Statement.{statement}
+use Rattle.serve.proofs.reply_to.Tie as tie
 
 returns : tie.Need-returns
 unfolding replyTo

@@ -1,9 +1,9 @@
 -- `is_full` meets its contract. Assumes nothing.
 use mathlib.Core.Path.{sym}
-use Rattle.host.proofs.Laws.{full-far, full-near}
+use Rattle.serve.proofs.Laws.{full-far, full-near}
 use borrow.Author.Needs.{needs}
-use Rattle.host.proofs.is_full.Statement.{statement}
-use Rattle.host.proofs.is_full.Tie as tie
+use Rattle.serve.proofs.is_full.Statement.{statement}
+use Rattle.serve.proofs.is_full.Tie as tie
 
 returns : tie.Need-returns
 returns c =

@@ -1,0 +1,2 @@
+-- The definitions that the contracts of serve cite.
+pub mod LineCall
