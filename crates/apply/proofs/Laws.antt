@@ -30,10 +30,11 @@ use Rattle.rules.specs.Soundness.{sound}
 use Rattle.rules.specs.Settling.{line, settle}
 use Rattle.rules.specs.Replies.{blank, refusalOf, refused, reply, refuse}
 use Rattle.rules.specs.Checks.{unlessRunning, enterCheck, openCheck, closeCheck, leaveCheck}
-use Rattle.rules.specs.Calls.{openFile, done, countLeave, Call, callOf, callWith, checked, accepted, apply}
+use Rattle.rules.specs.Calls.{openFile, done, countLeave, Call, callOf, callWith, checked, accepted, unless, apply}
 use Rattle.theory.specs.Loose.{Loose, Good}
 use Rattle.theory.specs.Sound.{sound-iff, sound-good, good-sound}
 use Rattle.theory.specs.Calls.{apply-accepted, apply-refused}
+use Rattle.theory.specs.Worked.{accepted-answer}
 use Rattle.theory.specs.Ready.{Ready, entry-room, waiting-room, close-ready, drop-ready, leave-ready, leaves-room}
 use Rattle.search.specs.declared.Search.{Search}
 use Rattle.search.specs.declared.Order.{Order}
@@ -55,6 +56,16 @@ module _ (b : Board) (c : Call) where
 
   pub apply-failed : (r : Refusal) → checked b c ≡ Check.Failed r → refuse b r ≡ apply b c
   apply-failed r e = sym (apply-refused b c r e)
+
+unless-same : (b : Board) (k : Check) (r : Reply) → refused (r .answer) ≡ false → refused (unless b k r .answer) ≡ true → unless b k r .board ≡ b
+unfolding refuse reply
+unless-same b Check.Passed r h n = never n h
+unless-same b (Check.Failed m) r h n = refl
+
+-- a refused call leaves the board as it was
+pub apply-same : (b : Board) (c : Call) → refused (apply b c .answer) ≡ true → apply b c .board ≡ b
+unfolding apply
+apply-same b c n = unless-same b (checked b c) (accepted b c) (accepted-answer b c) n
 
 -- the call with the verb and the program that are asked for
 pub by-verb : (b : Board) (a : Asked) (v : Verb) (p : ℕ) → a .verb ≡ v → p ≡ a .program

@@ -13,14 +13,14 @@ use borrow.Author.Tests.{eq-eqb}
 use Rattle.files.proofs.Tests.{by-test, never}
 use Rattle.rules.specs.declared.Board.{Board}
 use Rattle.rules.specs.declared.Refusal.{Refusal}
-use Rattle.rules.specs.declared.Check.{Check}
 use Rattle.rules.specs.declared.Answer.{Answer}
 use Rattle.rules.specs.declared.Line.{Line}
 use Rattle.rules.specs.declared.Reply.{Reply}
 use Rattle.rules.specs.Soundness.{sound}
 use Rattle.rules.specs.Replies.{number, refusalOf, refused, reply, refuse, refuseUnsound}
-use Rattle.rules.specs.Calls.{Call, Enter, Open, Close, Drop, Leave, unless, checked, accepted, apply, direct}
-use Rattle.theory.specs.Worked.{direct-is-apply, accepted-answer}
+use Rattle.rules.specs.Calls.{Call, Enter, Open, Close, Drop, Leave, direct}
+use Rattle.theory.specs.Worked.{direct-is-apply}
+use Rattle.apply.proofs.Laws.{apply-same}
 use Rattle.request.specs.declared.Reading.{Reading}
 use Rattle.request.specs.Requests.{requestOf, requestCall, lineOf}
 use Rattle.request.specs.Law.{saying}
@@ -30,11 +30,12 @@ use Rattle.journal.proofs.Laws.{lines-length}
 use Rattle.image.specs.declared.Loaded.{Loaded}
 use Rattle.image.specs.Image.{imageOf, loadedOf}
 use Rattle.image.proofs.RoundTrip.{loaded-back, loaded-again}
-use Rattle.host.specs.Host.{Outcome, journalFull, refuseLine, linesFor, replyBy, replyTo, stopped, posted, lineCall, readImage}
-use Rattle.host.specs.Host.{hostedBy, hostCall}
+use Rattle.serve.specs.LineCall.{Outcome, journalFull, refuseLine, linesFor, replyBy, replyTo, stopped, posted, lineCall}
+use Rattle.serve.proofs.Laws.{call-unsound, call-full, room}
+use Rattle.host.specs.Host.{readImage, hostedBy, hostCall}
 use Rattle.host.specs.Promises.{LineDoesItsCall, LineRefused, RefusedKeepsBoard, WritesNothing, OtherBytesKept, ReadsBack}
 use Rattle.host.specs.Promises.{AcceptedIsWritten, RefusedKeepsImage}
-use Rattle.host.proofs.Laws.{call-unsound, call-full, room, image-layout, image-unsound, image-sound, image-kept}
+use Rattle.host.proofs.Laws.{image-layout, image-unsound, image-sound, image-kept}
 
 -- ══ Lines ══
 
@@ -78,15 +79,10 @@ line-refused b line journal place r s free e = rw (s, free, e, number-some r)
 
 -- ══ Refused calls ══
 
-unless-board : (b : Board) (k : Check) (r : Reply) → refused (r .answer) ≡ false → refused (unless b k r .answer) ≡ true → unless b k r .board ≡ b
-unfolding refuse reply
-unless-board b Check.Passed r h n = never n h
-unless-board b (Check.Failed m) r h n = refl
-
 direct-same : (b : Board) (c : Call) → refused (direct b c .answer) ≡ true → direct b c .board ≡ b
-unfolding direct apply refuseUnsound
+unfolding direct refuseUnsound
 direct-same b c n =
-    by-test (sound b) (λ s. rw s (unless-board b (checked b c) (accepted b c) (accepted-answer b c) (rw s at n)))
+    by-test (sound b) (λ s. rw s (apply-same b c (rw s at n)))
     (λ s. rw s)
 
 reply-same : (b : Board) (r : Reading) (c : Call) → refused (replyBy b r c .answer) ≡ true → replyBy b r c .board ≡ b

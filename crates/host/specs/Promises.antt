@@ -17,7 +17,8 @@ use Rattle.request.specs.Law.{InRange, IsLabel}
 use Rattle.journal.specs.Journal.{written}
 use Rattle.image.specs.Image.{imageOf}
 use Rattle.image.specs.Law.{BoardOfCode, Bytes}
-use Rattle.host.specs.Host.{journalFull, refuseLine, lineCall, readImage, hostCall}
+use Rattle.serve.specs.LineCall.{journalFull, refuseLine, lineCall}
+use Rattle.host.specs.Host.{readImage, hostCall}
 
 -- ══ Lines ══
 

@@ -3,16 +3,8 @@ use image::Loaded;
 use rules::Board;
 use rules::Reply;
 ghost use mathlib.Core.Path.{_≡_};
-ghost use Prim.Native.Nat.{_+_, _*_, _≤_};
-ghost use lib.ListN.{length};
-ghost use mathlib.Core.Bool.{true};
-ghost use Rattle.rules.specs.Orders.{carried};
-ghost use Rattle.rules.specs.Soundness.{sound};
-ghost use Rattle.rules.specs.Calls.{direct};
-ghost use Rattle.search.specs.Rows.{asOrder};
-ghost use Rattle.request.specs.Requests.{requestCall};
-ghost use Rattle.journal.specs.Journal.{written};
-ghost use Rattle.host.specs.Host.{journalFull, refuseLine, linesFor, replyTo, readImage, lineCall, hostCall, emptyAnswer, emptyImage};
+ghost use Rattle.serve.specs.LineCall.{lineCall};
+ghost use Rattle.host.specs.Host.{readImage, hostCall, emptyAnswer, emptyImage};
 
 // What a line call gives back: the reply, with the board after it, and the new place in the journal.
 pub struct Posted {

@@ -1,7 +1,13 @@
 -- `call` meets its contract. Assumes nothing.
-use mathlib.Core.Path.{sym, _∙_}
+use mathlib.Core.Path.{sym, ap, _∙_}
 use borrow.Author.Tests.{not-true, not-false}
-use Rattle.rules.specs.Calls.{direct}
+use Rattle.rules.specs.declared.Board.{Board}
+use Rattle.rules.specs.declared.Reply.{Reply}
+use Rattle.rules.specs.Orders.{carried}
+use Rattle.rules.specs.Replies.{refused}
+use Rattle.rules.specs.Calls.{direct, callOf}
+use Rattle.search.specs.Rows.{asOrder}
+use Rattle.apply.proofs.Laws.{apply-same}
 use borrow.Author.Needs.{needs}
 use Rattle.calls.proofs.call.Statement.{statement}
 use Rattle.calls.proofs.call.Tie as tie
@@ -12,14 +18,18 @@ returns c = let i = c .before in let j = i .before .before .judge in
     rw (sym (j .ensures .0) ∙ not-true (j .result .sound) (i .if1 .taken)) (c .refused-unsound .ensures)
 
 call-requires : tie.Need-call-requires
-call-requires c κs = let i = c .before in let j = i .before .before .judge in
-    (sym (j .ensures .0) ∙ not-false (j .result .sound) (i .if1 .left), j .ensures .1)
+call-requires c κs = let j = c .before .before .judge in sym (j .ensures .0) ∙ not-false (j .result .sound) (c .if1 .left)
+
+complete-requires : tie.Need-complete-requires
+complete-requires c κs h = let k = c .before .call .ensures in let i = c .before .before in let j = i .before .before in let a = j .before .args in
+    let n = sym (ap (λ (x : Reply). refused (x .answer)) k) ∙ h in
+    j .judge .ensures .1 ∙ sym (ap (λ (x : Board). asOrder (carried x)) (ap (λ (x : Reply). x .board) k ∙ apply-same (a .b) (callOf (a .a)) n))
 
 returns-2 : tie.Need-returns-2
 unfolding direct
-returns-2 c = let i = c .before .before in let j = i .before .before .judge in
-    rw (sym (j .ensures .0) ∙ not-false (j .result .sound) (i .if1 .left)) (c .call .ensures)
+returns-2 c = let k = c .before .before in let i = k .before in let j = i .before .before .judge in
+    rw (sym (j .ensures .0) ∙ not-false (j .result .sound) (i .if1 .left)) (c .complete .ensures ∙ k .call .ensures)
 
 pub call-spec : {M : Type 1} → statement M
 call-spec =
-    tie.close (tie.spec (λ c κs. search needs) (λ c κs. search needs) returns call-requires returns-2)
+    tie.close (tie.spec (λ c κs. search needs) (λ c κs. search needs) returns call-requires complete-requires returns-2)

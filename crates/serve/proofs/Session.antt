@@ -17,7 +17,7 @@ use Rattle.rules.specs.Calls.{enter, wait, openFile, done, closeFile, dropFile,
 use Rattle.request.specs.Requests.{begins, numberAt, programAt, labelPart, filesIn, risesFrom, addingAll}
 use Rattle.request.specs.Requests.{enterFiles, enterCounts, enterOf, fileOf, leaveOf, requestOf}
 use Rattle.journal.specs.Journal.{lineBytes, written}
-use Rattle.host.specs.Host.{replyTo, linesFor, posted, lineCall}
+use Rattle.serve.specs.LineCall.{replyTo, linesFor, posted, lineCall}
 
 -- ---- the session
 
