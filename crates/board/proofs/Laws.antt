@@ -17,8 +17,8 @@ use Rattle.rules.specs.Lists.{names}
 use Rattle.columns.specs.Columns.{columnsOf, flat}
 use Rattle.columns.proofs.Rows.{flat-length}
 use Rattle.lines.proofs.Laws.{names-on}
-use Rattle.host.specs.Host.{Outcome, journalFull, posted, lineCall}
-use Rattle.host.proofs.Laws.{call-posted, call-unsound}
+use Rattle.serve.specs.LineCall.{Outcome, journalFull, posted, lineCall}
+use Rattle.serve.proofs.Laws.{call-posted, call-unsound}
 use Rattle.board.specs.Input.{firstLine, boardAfter, Fed, held, feed, fed, lastBoard, orderWord, orderLine}
 
 -- ---- where a line ends

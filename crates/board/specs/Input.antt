@@ -8,7 +8,7 @@ use lib.ListN.{length, take, replicate}
 use Rattle.rules.specs.declared.Board.{Board}
 use Rattle.rules.specs.Lists.{names}
 use Rattle.columns.specs.Columns.{columnsOf, flat}
-use Rattle.host.specs.Host.{lineCall}
+use Rattle.serve.specs.LineCall.{lineCall}
 
 -- the bytes before the first byte 10
 unfoldable pub firstLine : List ℕ → List ℕ

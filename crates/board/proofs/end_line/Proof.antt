@@ -14,28 +14,28 @@ returns : tie.Need-returns
 returns c =
     let s = c .before .before .before .before .before .before .before .before .before .before .before in
     let a = s .args in
-    let k = c .before .before .before .before .serve .ensures in
+    let k = c .before .before .before .before .serve-line .ensures in
     let m = c .make-room .ensures in
     let e : take 408 (a .part .now) ≡ take 408 (take (a .s .kept) (a .kept .now) ++ a .part .now) = rw (c .before .before .before .before .before .before .before .if1 .taken) in (
-      m .0 ∙ k .0 ∙ with-room (a .s .board) _ (a .journal .now) (a .s .place) (s .pre .1 .1) (s .pre .1 .0)
+      k .0 ∙ with-room (a .s .board) _ (a .journal .now) (a .s .out .place) (s .pre .1 .1) (s .pre .1 .0)
           ∙ ap (boardAfter (a .s .board)) (c .before .before .before .before .before .before .cut .ensures ∙ e),
-      (m .1 ∙ k .1 .1 .1 .0, m .2),
+      (k .1 .1 .1 .0, k .1 .1 .1 .1, m),
     )
 
-slice-aggregate-serve : tie.Need-slice-aggregate-serve
-slice-aggregate-serve c =
+slice-aggregate-serve-line : tie.Need-slice-aggregate-serve-line
+slice-aggregate-serve-line c =
     let k = c .before .before .before .keep in
-    sym (length-take-le (k .result) (k .last .0) (omega (arith, k .ensures .1, k .kept .0, c .before .before .before .before .before .before .before .before .before .pre .0 .1)))
+    sym (length-take-le (k .result) (k .last .0) (omega (arith, k .ensures .1, k .kept .0, c .before .before .before .before .before .before .before .before .before .pre .0 .2)))
 
 returns-2 : tie.Need-returns-2
 returns-2 c =
     let s = c .before .before .before .before .before .before .before .before .before .before .before .before .before .before .before in
     let a = s .args in
-    let k = c .before .before .before .before .serve2 .ensures in
+    let k = c .before .before .before .before .serve-line2 .ensures in
     let m = c .make-room2 .ensures in (
-      m .0 ∙ k .0 ∙ with-room (a .s .board) _ (a .journal .now) (a .s .place) (s .pre .1 .1) (s .pre .1 .0)
+      k .0 ∙ with-room (a .s .board) _ (a .journal .now) (a .s .out .place) (s .pre .1 .1) (s .pre .1 .0)
           ∙ ap (boardAfter (a .s .board)) (c .before .before .before .before .before .before .before .before .before .keep .ensures .0),
-      (m .1 ∙ k .1 .1 .1 .0, m .2),
+      (k .1 .1 .1 .0, k .1 .1 .1 .1, m),
     )
 
 pub end-line-spec : {M : Type 1} → statement M
@@ -49,7 +49,7 @@ end-line-spec =
     returns
     (λ c κs. search needs)
     (λ c. search needs)
-    slice-aggregate-serve
+    slice-aggregate-serve-line
     (λ c κs. search needs)
     (λ c κs. search needs)
     (λ c. search needs)

@@ -15,8 +15,8 @@ returns-2 : tie.Need-returns-2
 returns-2 c =
     let s = c .before .before .before .before .before .before .before .before .before .before .before .before .before .before in
     let a = s .args in
-    c .flush .ensures .0 ∙ c .before .before .before .before .before .before .end-line .ensures .0
-    ∙ last-some (a .s .board) (a .kept .now) (a .s .kept) (c .before .before .before .before .before .before .before .before .before .before .if1 .left) (s .pre .0 .0) (omega (arith, s .pre .0 .0, s .pre .0 .1))
+    c .before .before .before .before .before .before .end-line .ensures .0
+    ∙ last-some (a .s .board) (a .kept .now) (a .s .kept) (c .before .before .before .before .before .before .before .before .before .before .if1 .left) (s .pre .0 .1) (omega (arith, s .pre .0 .1, s .pre .0 .2))
 
 pub last-line-spec : {M : Type 1} → statement M
 last-line-spec =
