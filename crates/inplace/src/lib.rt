@@ -2,7 +2,7 @@
 use host::Posted;
 use rules::Board;
 ghost use mathlib.Core.Path.{_≡_};
-ghost use Rattle.host.specs.Host.{lineCall};
+ghost use Rattle.serve.specs.LineCall.{lineCall};
 
 // The line call: the board that is lent is changed, and the answer comes back with its lines, its order and the new place.
 pub fn line_call_in(board: &mut Board, line: &[u8], journal: &mut [u8], place: u64) -> Posted

@@ -51,7 +51,7 @@ use denote.Exit.{yes}
 use Rattle.rules.specs.declared.Board.{Board}
 use Rattle.rules.specs.declared.Reply.{Reply}
 use Rattle.host.specs.declared.Posted.{Posted}
-use Rattle.host.specs.Host.{Outcome, lineCall}
+use Rattle.serve.specs.LineCall.{Outcome, lineCall}
 use Rattle.rules.proofs.Board as B
 use Rattle.rules.proofs.Board.Laws as B′
 use Rattle.rules.proofs.Reply as R
