@@ -1,41 +1,64 @@
 -- Laws of a host's call, for its functions. Assumes nothing.
 use Prim.Native.Nat.{ℕ}
-use mathlib.Core.Path.{_≡_, ap, sym, _∙_}
+use mathlib.Core.Path.{_≡_, refl, ap, sym, _∙_}
 use mathlib.Core.List.{List}
 use mathlib.Core.Bool.{true, false}
 use lib.ListN.{length}
 use borrow.Author.Tests.{ne-eqb}
+use Rattle.files.proofs.Tests.{by-test, never}
 use Rattle.rules.specs.declared.Reply.{Reply}
 use Rattle.rules.specs.declared.Board.{Board}
 use Rattle.rules.specs.Soundness.{sound}
-use Rattle.rules.specs.Replies.{refusalOf}
+use Rattle.rules.specs.Replies.{refusalOf, refuseUnsound}
 use Rattle.image.specs.Image.{imageOf, loadedOf, refusedImage}
 use Rattle.image.specs.declared.Loaded.{Loaded}
 use Rattle.image.proofs.RoundTrip.{accepted}
 use Rattle.serve.specs.LineCall.{lineCall}
 use Rattle.host.specs.Host.{hostAnswer, hostImage, hostedBy, hostCall, readImage}
 
+-- ---- reading an image, check by check
+
+pub image-layout : (image : List ℕ) (k : Loaded) → k ≡ loadedOf image → k .ok ≡ false → readImage image ≡ refusedImage
+unfolding readImage
+image-layout image k e h = rw (← e, h)
+
+pub image-unsound : (image : List ℕ) (k : Loaded) → k ≡ loadedOf image → k .ok ≡ true → sound (k .board) ≡ false → readImage image ≡ refusedImage
+unfolding readImage
+image-unsound image k e h s = rw (← e, h, s)
+
+pub image-sound : (image : List ℕ) (k : Loaded) → k ≡ loadedOf image → k .ok ≡ true → sound (k .board) ≡ true → readImage image ≡ k
+unfolding readImage
+image-sound image k e h s = rw (← e, h, s)
+
+-- an image that is read holds a sound board, and is of its layout
+pub image-read : (image : List ℕ) (k : Loaded) → k ≡ readImage image → k .ok ≡ true → (k ≡ loadedOf image) × (sound (k .board) ≡ true)
+image-read image k e h =
+    by-test (loadedOf image .ok)
+    (λ o. by-test (sound (loadedOf image .board))
+    (λ s. let d = e ∙ image-sound image (loadedOf image) refl o s in (d, ap (λ (x : Loaded). sound (x .board)) d ∙ s))
+    (λ s. never (sym (ap (λ (x : Loaded). x .ok) e) ∙ h) (ap (λ (x : Loaded). x .ok) (image-unsound image (loadedOf image) refl o s))))
+    (λ o. never (sym (ap (λ (x : Loaded). x .ok) e) ∙ h) (ap (λ (x : Loaded). x .ok) (image-layout image (loadedOf image) refl o)))
+
 -- ---- the host's call
 
-pub host-refused : (image line journal : List ℕ) (place : ℕ) → loadedOf image .ok ≡ false
-    → hostCall image line journal place ≡ record { answer = 18446744073709551615; image = image; journal = journal }
-unfolding hostCall
-host-refused image line journal place e = rw e
+module _ (image line journal : List ℕ) (place : ℕ) where
+  -- an image that isn't read gets the answer of refusal 1
+  pub host-refused : readImage image .ok ≡ false → hostCall image line journal place ≡ record { answer = hostAnswer 1 place; image = image; journal = journal }
+  unfolding hostCall lineCall refuseUnsound
+  host-refused h =
+      by-test (loadedOf image .ok)
+      (λ o. by-test (sound (loadedOf image .board))
+      (λ s. never (ap (λ (x : Loaded). x .ok) (image-sound image (loadedOf image) refl o s) ∙ o) h)
+      (λ s. rw (o, s)))
+      (λ o. rw o)
 
-pub host-called : (image line journal : List ℕ) (place : ℕ) → loadedOf image .ok ≡ true
-    → hostCall image line journal place ≡ hostedBy image (lineCall (loadedOf image .board) line journal place)
-unfolding hostCall
-host-called image line journal place e = rw e
+  pub host-called : loadedOf image .ok ≡ true → hostCall image line journal place ≡ hostedBy image (lineCall (loadedOf image .board) line journal place)
+  unfolding hostCall
+  host-called e = rw e
 
 -- the host's answer and image, by the number of the refusal
 pub answer-done : (n place : ℕ) → n ≡ 0 → hostAnswer n place ≡ place
 answer-done n place e = rw e
-
-pub image-done : (n : ℕ) (image : List ℕ) (b : Board) → n ≡ 0 → hostImage n image b ≡ imageOf b
-image-done n image b e = rw e
-
-pub image-kept : (n : ℕ) (image : List ℕ) (b : Board) → (n ≡ 0 → ⊥) → hostImage n image b ≡ image
-image-kept n image b h = rw (ne-eqb n 0 h)
 
 pub answer-one : (n place : ℕ) → n ≡ 1 → hostAnswer n place ≡ 18446744073709551615
 answer-one n place e = rw e
@@ -45,6 +68,12 @@ answer-two n place e = rw e
 
 pub answer-more : (n place : ℕ) → (n ≡ 1 → ⊥) → (n ≡ 2 → ⊥) → hostAnswer n place ≡ place
 answer-more n place h k = rw (ne-eqb n 1 h, ne-eqb n 2 k)
+
+pub image-done : (n : ℕ) (image : List ℕ) (b : Board) → n ≡ 0 → hostImage n image b ≡ imageOf b
+image-done n image b e = rw e
+
+pub image-kept : (n : ℕ) (image : List ℕ) (b : Board) → (n ≡ 0 → ⊥) → hostImage n image b ≡ image
+image-kept n image b h = rw (ne-eqb n 0 h)
 
 -- the host's call, from what the line call gave
 pub record Hosts (image line journal : List ℕ) (place n p : ℕ) (r : Reply) (j : List ℕ) : Type 0 where
@@ -67,17 +96,3 @@ host-by image line journal place n p r j k ek ok er ep ej en =
 
 pub accepted-long : (image : List ℕ) (k : Loaded) → k ≡ loadedOf image → k .ok ≡ true → length image ≡ 1155
 accepted-long image k ek ok = accepted image (ap (λ (x : Loaded). x .ok) (sym ek) ∙ ok) .long
-
--- ---- reading an image, check by check
-
-pub image-layout : (image : List ℕ) (k : Loaded) → k ≡ loadedOf image → k .ok ≡ false → readImage image ≡ refusedImage
-unfolding readImage
-image-layout image k e h = rw (← e, h)
-
-pub image-unsound : (image : List ℕ) (k : Loaded) → k ≡ loadedOf image → k .ok ≡ true → sound (k .board) ≡ false → readImage image ≡ refusedImage
-unfolding readImage
-image-unsound image k e h s = rw (← e, h, s)
-
-pub image-sound : (image : List ℕ) (k : Loaded) → k ≡ loadedOf image → k .ok ≡ true → sound (k .board) ≡ true → readImage image ≡ k
-unfolding readImage
-image-sound image k e h s = rw (← e, h, s)

@@ -4,7 +4,7 @@ use rules::Board;
 use rules::Reply;
 ghost use mathlib.Core.Path.{_≡_};
 ghost use Rattle.serve.specs.LineCall.{lineCall};
-ghost use Rattle.host.specs.Host.{readImage, hostCall, emptyAnswer, emptyImage};
+ghost use Rattle.host.specs.Host.{readImage, hostAnswer, hostCall, emptyAnswer, emptyImage};
 
 // What a line call gives back: the reply, with the board after it, and the new place in the journal.
 pub struct Posted {
@@ -55,6 +55,19 @@ pub fn read_image(image: &[u8]) -> Loaded
     loaded
 }
 
+// What a C host gets: the largest 64-bit number for refusal 1, one less for 2, otherwise the new place.
+fn answer_for(n: u8, place: u64) -> u64
+    ensures { λ r. ⌜ r ≡ hostAnswer n place ⌝ }
+{
+    if n == 1 {
+        return 18446744073709551615;
+    }
+    if n == 2 {
+        return 18446744073709551614;
+    }
+    place
+}
+
 // The call of a C host: the image holds the board.
 #[no_mangle]
 pub extern "C" fn lock_board_line(
@@ -67,28 +80,23 @@ pub extern "C" fn lock_board_line(
     ensures { λ r. ⌜ now (image .exit) ≡ hostCall (now (image .entry)) (now (line .entry)) (now (journal .entry)) place .image ⌝ }
     ensures { λ r. ⌜ now (journal .exit) ≡ hostCall (now (image .entry)) (now (line .entry)) (now (journal .entry)) place .journal ⌝ }
 {
-    let loaded = image::load(image);
+    let loaded = read_image(image);
     let ok = loaded.ok;
     if !ok {
-        return 18446744073709551615;
+        return answer_for(1, place);
     }
     let b = loaded.board;
-    let posted = line_call(b, line, journal, place);
-    let reply = posted.reply;
-    let answer = reply.answer;
+    let served = serve::line(b, line, journal, place);
+    let changed = served.changed;
+    let answer = changed.answer;
     let n = answer.refusal();
     if n == 0 {
-        let after = reply.board;
+        let written = changed.written;
+        let after = written.board;
         image::put_image(image, after);
-        return posted.place;
+        return served.place;
     }
-    if n == 1 {
-        return 18446744073709551615;
-    }
-    if n == 2 {
-        return 18446744073709551614;
-    }
-    posted.place
+    answer_for(n, served.place)
 }
 
 // Fills a C host's image with the empty board, so that the host need not know the layout; the answer is 0.

@@ -1,30 +1,47 @@
 -- `lock_board_line` meets its contract. Assumes nothing.
-use mathlib.Core.Path.{ap, sym, _∙_}
+use mathlib.Core.Path.{_≡_, ap, sym, _∙_}
+use mathlib.Core.Bool.{true}
 use borrow.Author.Tests.{eq-eqb, not-true, not-false}
+use Rattle.rules.specs.Soundness.{sound}
 use Rattle.image.specs.declared.Loaded.{Loaded}
+use Rattle.image.specs.Image.{loadedOf}
+use Rattle.apply.specs.Replies.{replyOf}
 use Rattle.host.proofs.Laws
 use lib.ListN.{length}
 use borrow.Author.Needs.{needs}
 use Rattle.host.proofs.lock_board_line.Statement.{statement}
 use Rattle.host.proofs.lock_board_line.Tie as tie
 
+abbrev start : tie.Else1 → tie.Start
+start i = i .before .before .before .before .before .before
+
+-- the image is read
+read : (i : tie.Else1) → (i .before .read-image .result ≡ loadedOf (start i .args .image .now)) × (sound (i .before .read-image .result .board) ≡ true)
+read i = let k = i .before .read-image in
+    Laws.image-read (start i .args .image .now) (k .result) (k .ensures) (not-false (k .result .ok) (i .if1 .left))
+
 returns : tie.Need-returns
-returns c =
-    let a = c .before .before .before .before .before .before .args in
+returns c = let k = c .before .before in let a = k .before .before .before .before .before .args in
     let e = Laws.host-refused (a .image .now) (a .line .now) (a .journal .now) (a .place) (ap (λ (x : Loaded). x .ok)
-    (sym (c .before .load .ensures)) ∙ not-true (c .before .load .result .ok) (c .if1 .taken)) in
-    (rw e, (rw e, rw e))
+    (sym (k .read-image .ensures)) ∙ not-true (k .read-image .result .ok) (c .before .if1 .taken)) in
+    (rw e (c .answer-for .ensures), (rw e, rw e))
+
+line-requires : tie.Need-line-requires
+line-requires c κs = read (c .before .before) .1
 
 returns-2 : tie.Need-returns-2
 returns-2 c =
-    let a = c .before .before .before .before .before .before .before .before .before .before .before .before .before .before .before .before .before .before .before .args in
-    let l = c .before .before .before .before .before .before .before .before .before .before .line-call in
-    let n = c .before .before .before .before .before .before .refusal in
-    let h = Laws.host-by (a .image .now) (a .line .now) (a .journal .now) (a .place) (n .result) (l .result .place)
-    (l .result .reply) _ (c .before .before .before .before .before .before .before .before .before .before .before .before .before .before .load .result) (c .before .before .before .before .before .before .before .before .before .before .before .before .before .before .load .ensures) (not-false (c .before .before .before .before .before .before .before .before .before .before .before .before .before .before .load .result .ok) (c .before .before .before .before .before .before .before .before .before .before .before .before .before .if1 .left)) (l .ensures .0) (l .ensures .1 .0) (l .ensures .1 .1) (n .ensures) in
-    let z = c .before .before .before .before .before .if2 .taken in
-    let long = Laws.accepted-long (a .image .now)
-    (c .before .before .before .before .before .before .before .before .before .before .before .before .before .before .load .result) (c .before .before .before .before .before .before .before .before .before .before .before .before .before .before .load .ensures) (not-false (c .before .before .before .before .before .before .before .before .before .before .before .before .before .before .load .result .ok) (c .before .before .before .before .before .before .before .before .before .before .before .before .before .if1 .left)) in (
+    let t = c .before .before .before .before .before .before in
+    let n = t .before .refusal in
+    let l = t .before .before .before .before .before in
+    let i = l .before .before .before in
+    let a = start i .args in
+    let k = i .before .read-image .result in
+    let ok = not-false (k .ok) (i .if1 .left) in
+    let h = Laws.host-by (a .image .now) (a .line .now) (a .journal .now) (a .place) (n .result) (l .line .result .place)
+    (replyOf (l .line .result .changed)) _ k (read i .0) ok (l .line .ensures .0) (l .line .ensures .1 .0) (l .line .ensures .1 .1) (n .ensures) in
+    let z = t .if2 .taken in
+    let long = Laws.accepted-long (a .image .now) k (read i .0) ok in (
       sym (h .answer ∙ Laws.answer-done _ _ z),
       (
         (rw (eq-eqb (length (a .image .now)) 1155 long) at (c .before .before .put-image .ensures .1))
@@ -35,39 +52,17 @@ returns-2 c =
 
 returns-3 : tie.Need-returns-3
 returns-3 c =
-    let a = c .before .before .before .before .before .before .before .before .before .before .before .before .before .before .before .args in
-    let l = c .before .before .before .before .before .before .line-call in
-    let n = c .before .before .refusal in
-    let h = Laws.host-by (a .image .now) (a .line .now) (a .journal .now) (a .place) (n .result) (l .result .place)
-    (l .result .reply) _ (c .before .before .before .before .before .before .before .before .before .before .load .result)
-    (c .before .before .before .before .before .before .before .before .before .before .load .ensures)
-    (not-false (c .before .before .before .before .before .before .before .before .before .before .load .result .ok)
-    (c .before .before .before .before .before .before .before .before .before .if1 .left)) (l .ensures .0)
-    (l .ensures .1 .0) (l .ensures .1 .1) (n .ensures) in (
-      sym (h .answer ∙ Laws.answer-one _ _ (c .if3 .taken)),
-      (sym (h .image-after ∙ Laws.image-kept _ _ _ (c .before .if2 .left)), sym (h .journal-after)),
-    )
-
-returns-4 : tie.Need-returns-4
-returns-4 c =
-    let a = c .before .before .before .before .before .before .before .before .before .before .before .before .before .before .before .before .args in
-    let l = c .before .before .before .before .before .before .before .line-call in
-    let n = c .before .before .before .refusal in
-    let h = Laws.host-by (a .image .now) (a .line .now) (a .journal .now) (a .place) (n .result) (l .result .place)
-    (l .result .reply) _ (c .before .before .before .before .before .before .before .before .before .before .before .load .result) (c .before .before .before .before .before .before .before .before .before .before .before .load .ensures) (not-false (c .before .before .before .before .before .before .before .before .before .before .before .load .result .ok) (c .before .before .before .before .before .before .before .before .before .before .if1 .left)) (l .ensures .0) (l .ensures .1 .0) (l .ensures .1 .1) (n .ensures) in (
-      sym (h .answer ∙ Laws.answer-two _ _ (c .if4 .taken)),
-      (sym (h .image-after ∙ Laws.image-kept _ _ _ (c .before .before .if2 .left)), sym (h .journal-after)),
-    )
-
-returns-5 : tie.Need-returns-5
-returns-5 c =
-    let a = c .before .before .before .before .before .before .before .before .before .before .before .before .before .before .before .before .args in
-    let l = c .before .before .before .before .before .before .before .line-call in
-    let n = c .before .before .before .refusal in
-    let h = Laws.host-by (a .image .now) (a .line .now) (a .journal .now) (a .place) (n .result) (l .result .place)
-    (l .result .reply) _ (c .before .before .before .before .before .before .before .before .before .before .before .load .result) (c .before .before .before .before .before .before .before .before .before .before .before .load .ensures) (not-false (c .before .before .before .before .before .before .before .before .before .before .before .load .result .ok) (c .before .before .before .before .before .before .before .before .before .before .if1 .left)) (l .ensures .0) (l .ensures .1 .0) (l .ensures .1 .1) (n .ensures) in (
-      sym (h .answer ∙ Laws.answer-more _ _ (c .before .if3 .left) (c .if4 .left)),
-      (sym (h .image-after ∙ Laws.image-kept _ _ _ (c .before .before .if2 .left)), sym (h .journal-after)),
+    let t = c .before in
+    let n = t .before .refusal in
+    let l = t .before .before .before .before .before in
+    let i = l .before .before .before in
+    let a = start i .args in
+    let k = i .before .read-image .result in
+    let h = Laws.host-by (a .image .now) (a .line .now) (a .journal .now) (a .place) (n .result) (l .line .result .place)
+    (replyOf (l .line .result .changed)) _ k (read i .0) (not-false (k .ok) (i .if1 .left)) (l .line .ensures .0) (l .line .ensures .1 .0)
+    (l .line .ensures .1 .1) (n .ensures) in (
+      c .answer-for2 .ensures ∙ sym (h .answer),
+      (sym (h .image-after ∙ Laws.image-kept _ _ _ (t .if2 .left)), sym (h .journal-after)),
     )
 
 pub lock-board-line-spec : {M : Type 1} → statement M
@@ -75,20 +70,16 @@ lock-board-line-spec =
     tie.close
     (tie.spec
     (λ c κs. search needs)
+    (λ c κs. search needs)
     (λ c. search needs)
     returns
-    (λ c κs. search needs)
+    line-requires
     (λ c κs. search needs)
     (λ c κs. search needs)
     (λ c. search needs)
     (λ c. search needs)
     returns-2
+    (λ c κs. search needs)
     (λ c. search needs)
     (λ c. search needs)
-    returns-3
-    (λ c. search needs)
-    (λ c. search needs)
-    returns-4
-    (λ c. search needs)
-    (λ c. search needs)
-    returns-5)
+    returns-3)
