@@ -43,7 +43,7 @@ use Rattle.search.proofs.Laws.{drop-replicate}
 use Rattle.lines.proofs.Laws.{program-range}
 use Rattle.settling.specs.declared.Written.{Written}
 use Rattle.settling.specs.Writing.{after, Fits}
-use Rattle.apply.specs.Replies.{wrote, replied, DoneFits, numberIf, claimCheck, useCheck}
+use Rattle.apply.specs.Replies.{wrote, replied, DoneFits, numberIf, entryCheck, claimCheck, useCheck}
 
 -- ---- a call on a good board
 
@@ -101,6 +101,10 @@ no-file : (t : Bool) (f : ℕ) → isFile f ≡ false → (t && isFile f) ≡ fa
 no-file true f e = e
 no-file false f e = refl
 
+-- in range
+pub in-range : (k n : ℕ) → n ≢ 0 → n ≤ k → (leb 1 n && leb n k) ≡ true
+in-range k n h l = let m : 1 ≤ n = omega (arith, h) in rw (le-leb 1 n m, le-leb n k l)
+
 module _ (b : Board) (p f : ℕ) where
   pub enter-far : (v q : FileSet) → isProgram p ≡ false → enterCheck b p v q ≡ Check.Failed Refusal.OutOfRange
   unfolding enterCheck
@@ -119,6 +123,14 @@ module _ (b : Board) (p f : ℕ) where
   open-far-file e = rw (no-file (isProgram p) f e)
 
   -- in range: the standing, then the other checks
+  pub enter-near : (v q : FileSet) → isProgram p ≡ true → entryCheck (at b p) v q ≡ enterCheck b p v q
+  unfolding enterCheck
+  enter-near v q e = rw e
+
+  pub leave-near : isProgram p ≡ true → unlessRunning (at b p .standing) Check.Passed ≡ leaveCheck b p
+  unfolding leaveCheck
+  leave-near e = rw e
+
   pub open-near : isProgram p ≡ true → isFile f ≡ true → unlessRunning (at b p .standing) (claimCheck (at b p) f) ≡ openCheck b p f
   unfolding openCheck
   open-near e d = rw (e, d)

@@ -5,6 +5,8 @@ use mathlib.Core.Bool.{Bool, not, cond}
 use mathlib.Core.List.{List, []}
 use mathlib.Core.Option.{Option·getD}
 use lib.ListN.{length}
+use Rattle.files.specs.declared.FileSet.{FileSet}
+use Rattle.files.specs.Sets.{meets}
 use Rattle.rules.specs.declared.Program.{Program}
 use Rattle.rules.specs.declared.Board.{Board}
 use Rattle.rules.specs.declared.Refusal.{Refusal}
@@ -13,7 +15,7 @@ use Rattle.rules.specs.declared.Answer.{Answer}
 use Rattle.rules.specs.declared.Line.{Line}
 use Rattle.rules.specs.declared.Reply.{Reply}
 use Rattle.rules.specs.Lists.{padded}
-use Rattle.rules.specs.Boards.{claims, hasOpen}
+use Rattle.rules.specs.Boards.{claims, hasOpen, isAbsent}
 use Rattle.rules.specs.Checks.{refuseIf}
 use Rattle.rules.specs.Orders.{carried}
 use Rattle.rules.specs.Settling.{settle}
@@ -48,6 +50,10 @@ DoneFits b = suc (length (settle b .lines)) ≤ 32
 -- the number if the test passes, and 0 otherwise
 abbrev pub numberIf : Bool → ℕ → ℕ
 numberIf t n = cond t n 0
+
+-- checks 9 and 10, of enter
+abbrev pub entryCheck : Program → FileSet → FileSet → Check
+entryCheck q v r = refuseIf (not (isAbsent (q .standing))) Refusal.NotAbsent (refuseIf (meets v r) Refusal.ClaimsMeet Check.Passed)
 
 -- checks 14 and 15, of open and drop
 abbrev pub claimCheck : Program → ℕ → Check

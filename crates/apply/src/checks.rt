@@ -1,6 +1,5 @@
 // Checks 8 to 16 of a direct call.
 use files::FileSet;
-use rules::Board;
 use rules::Check;
 use rules::Program;
 use rules::Refusal;
@@ -9,8 +8,9 @@ ghost use mathlib.Core.Path.{_≡_};
 ghost use Prim.Native.Nat.{_≤_};
 ghost use Rattle.files.specs.Sets.{isFile};
 ghost use Rattle.rules.specs.Boards.{isProgram};
-ghost use Rattle.rules.specs.Checks.{unlessRunning, enterCheck, openCheck, closeCheck, leaveCheck};
-ghost use Rattle.apply.specs.Replies.{numberIf, claimCheck, useCheck};
+ghost use Rattle.rules.specs.declared.Check.{Check};
+ghost use Rattle.rules.specs.Checks.{unlessRunning};
+ghost use Rattle.apply.specs.Replies.{numberIf, entryCheck, claimCheck, useCheck};
 
 // The number if it is a program's, and 0 otherwise.
 pub fn program_of(n: u64) -> u8
@@ -74,12 +74,9 @@ fn use_check(q: Program, f: u8) -> Check
 }
 
 // 9, 10, of a program in range.
-pub fn check_enter(b: Board, p: u8, writable: FileSet, readable: FileSet) -> Check
-    requires { ⌜ (1 ≤ p) × (p ≤ 32) ⌝ }
-    ensures { λ r. ⌜ r ≡ enterCheck b p writable readable ⌝ }
+pub fn check_enter(q: Program, writable: FileSet, readable: FileSet) -> Check
+    ensures { λ r. ⌜ r ≡ entryCheck q writable readable ⌝ }
 {
-    let i = (p - 1) as usize;
-    let q = b.programs[i];
     let s = q.standing;
     if !s.is_absent() {
         return Check::Failed(Refusal::NotAbsent);
@@ -91,34 +88,25 @@ pub fn check_enter(b: Board, p: u8, writable: FileSet, readable: FileSet) -> Che
 }
 
 // 11 to 15, of a program and a file in range; for open and for drop.
-pub fn check_open(b: Board, p: u8, f: u8) -> Check
-    requires { ⌜ ((1 ≤ p) × (p ≤ 32)) × ((1 ≤ f) × (f ≤ 64)) ⌝ }
-    ensures { λ r. ⌜ r ≡ openCheck b p f ⌝ }
+pub fn check_open(q: Program, f: u8) -> Check
+    ensures { λ r. ⌜ r ≡ unlessRunning (q .standing) (claimCheck q f) ⌝ }
 {
-    let i = (p - 1) as usize;
-    let q = b.programs[i];
     let s = q.standing;
     running_check(s, claim_check(q, f))
 }
 
 // 11 to 13 and 16, of a program and a file in range.
-pub fn check_close(b: Board, p: u8, f: u8) -> Check
-    requires { ⌜ ((1 ≤ p) × (p ≤ 32)) × ((1 ≤ f) × (f ≤ 64)) ⌝ }
-    ensures { λ r. ⌜ r ≡ closeCheck b p f ⌝ }
+pub fn check_close(q: Program, f: u8) -> Check
+    ensures { λ r. ⌜ r ≡ unlessRunning (q .standing) (useCheck q f) ⌝ }
 {
-    let i = (p - 1) as usize;
-    let q = b.programs[i];
     let s = q.standing;
     running_check(s, use_check(q, f))
 }
 
 // 11 to 13, of a program in range.
-pub fn check_leave(b: Board, p: u8) -> Check
-    requires { ⌜ (1 ≤ p) × (p ≤ 32) ⌝ }
-    ensures { λ r. ⌜ r ≡ leaveCheck b p ⌝ }
+pub fn check_leave(q: Program) -> Check
+    ensures { λ r. ⌜ r ≡ unlessRunning (q .standing) Check.Passed ⌝ }
 {
-    let i = (p - 1) as usize;
-    let q = b.programs[i];
     let s = q.standing;
     running_check(s, Check::Passed)
 }

@@ -17,6 +17,7 @@ ghost use Prim.Native.Nat.{_≤_, _<_};
 ghost use lib.ListN.{length};
 ghost use Rattle.rules.specs.declared.Check.{Check};
 ghost use Rattle.rules.specs.Lists.{names, padded};
+ghost use Rattle.rules.specs.Boards.{at};
 ghost use Rattle.rules.specs.Soundness.{sound};
 ghost use Rattle.rules.specs.Checks.{enterCheck, openCheck, closeCheck, leaveCheck};
 ghost use Rattle.rules.specs.Calls.{newcomer, enter, wait, openFile, closeFile, dropFile, countLeave, leave, apply, callOf, Enter, Open};
@@ -72,7 +73,9 @@ fn call_enter(b: Board, p: u8, writable: FileSet, readable: FileSet) -> Changed
     requires { ⌜ ((1 ≤ p) × (p ≤ 32)) × Good b ⌝ }
     ensures { λ r. ⌜ replyOf r ≡ apply b (Enter p writable readable) ⌝ }
 {
-    let check = checks::check_enter(b, p, writable, readable);
+    let i = (p - 1) as usize;
+    let q = b.programs[i];
+    let check = checks::check_enter(q, writable, readable);
     match check {
         Check::Passed => do_enter(b, p, writable, readable),
         Check::Failed(refusal) => replies::refused(b, refusal),
@@ -123,7 +126,9 @@ fn call_open(b: Board, p: u8, file: u64) -> Changed
     if f == 0 {
         return replies::refused(b, Refusal::OutOfRange);
     }
-    let check = checks::check_open(b, p, f);
+    let i = (p - 1) as usize;
+    let q = b.programs[i];
+    let check = checks::check_open(q, f);
     match check {
         Check::Passed => do_open(b, p, f),
         Check::Failed(refusal) => replies::refused(b, refusal),
@@ -133,12 +138,10 @@ fn call_open(b: Board, p: u8, file: u64) -> Changed
 // ---- close
 
 // Close: f is open no longer.
-fn do_close(b: Board, p: u8, f: u8) -> Changed
-    requires { ⌜ ((1 ≤ p) × (p ≤ 32)) × Good b × (closeCheck b p f ≡ Check.Passed) ⌝ }
+fn do_close(b: Board, q: Program, p: u8, f: u8) -> Changed
+    requires { ⌜ ((1 ≤ p) × (p ≤ 32)) × Good b × (closeCheck b p f ≡ Check.Passed) × (q ≡ at b p) ⌝ }
     ensures { λ r. ⌜ replyOf r ≡ closeFile b p f ⌝ }
 {
-    let i = (p - 1) as usize;
-    let q = b.programs[i];
     let c = search::put(b, p, q.closing(f));
     replies::done(c, p, f)
 }
@@ -151,9 +154,11 @@ fn call_close(b: Board, p: u8, file: u64) -> Changed
     if f == 0 {
         return replies::refused(b, Refusal::OutOfRange);
     }
-    let check = checks::check_close(b, p, f);
+    let i = (p - 1) as usize;
+    let q = b.programs[i];
+    let check = checks::check_close(q, f);
     match check {
-        Check::Passed => do_close(b, p, f),
+        Check::Passed => do_close(b, q, p, f),
         Check::Failed(refusal) => replies::refused(b, refusal),
     }
 }
@@ -161,12 +166,10 @@ fn call_close(b: Board, p: u8, file: u64) -> Changed
 // ---- drop
 
 // Drop: f leaves p's claim.
-fn do_drop(b: Board, p: u8, f: u8) -> Changed
-    requires { ⌜ ((1 ≤ p) × (p ≤ 32)) × Good b × (openCheck b p f ≡ Check.Passed) ⌝ }
+fn do_drop(b: Board, q: Program, p: u8, f: u8) -> Changed
+    requires { ⌜ ((1 ≤ p) × (p ≤ 32)) × Good b × (openCheck b p f ≡ Check.Passed) × (q ≡ at b p) ⌝ }
     ensures { λ r. ⌜ replyOf r ≡ dropFile b p f ⌝ }
 {
-    let i = (p - 1) as usize;
-    let q = b.programs[i];
     let c = search::put(b, p, q.dropping(f));
     replies::done(c, p, f)
 }
@@ -179,9 +182,11 @@ fn call_drop(b: Board, p: u8, file: u64) -> Changed
     if f == 0 {
         return replies::refused(b, Refusal::OutOfRange);
     }
-    let check = checks::check_open(b, p, f);
+    let i = (p - 1) as usize;
+    let q = b.programs[i];
+    let check = checks::check_open(q, f);
     match check {
-        Check::Passed => do_drop(b, p, f),
+        Check::Passed => do_drop(b, q, p, f),
         Check::Failed(refusal) => replies::refused(b, refusal),
     }
 }
@@ -217,7 +222,9 @@ fn call_leave(b: Board, p: u8) -> Changed
     requires { ⌜ ((1 ≤ p) × (p ≤ 32)) × Good b ⌝ }
     ensures { λ r. ⌜ replyOf r ≡ apply b (Leave p) ⌝ }
 {
-    let check = checks::check_leave(b, p);
+    let i = (p - 1) as usize;
+    let q = b.programs[i];
+    let check = checks::check_leave(q);
     match check {
         Check::Passed => do_leave(b, p),
         Check::Failed(refusal) => replies::refused(b, refusal),
