@@ -54,6 +54,11 @@ abbrev pub placed : List ℕ → ℕ → Option (List ℕ) → Order
 placed at k (some l) = record { kind = Search.Found (k + length l); at = take k at ++ (l ++ drop (k + length l) at) }
 placed at k none = record { kind = Search.Stuck; at = replicate 32 0 }
 
+-- the m programs that were placed, or none
+abbrev pub outcome : Bool → ℕ → List ℕ → Order
+outcome true m at = record { kind = Search.Found m; at = at }
+outcome false m at = record { kind = Search.Stuck; at = replicate 32 0 }
+
 -- an order, or none, as the code gives it back
 abbrev pub asOrder : Option (List ℕ) → Order
 asOrder (some l) = record { kind = Search.Found (length l); at = padded 0 l }

@@ -10,7 +10,9 @@ ghost use lib.Dec.{eqb};
 ghost use lib.ListN.{length};
 ghost use Rattle.rules.specs.Boards.{admitted, awaited, setProgram};
 ghost use Rattle.rules.specs.Orders.{conflict, carried, withGiven, inUse};
-ghost use Rattle.search.specs.Rows.{admittedSet, free, lowest, orderFrom, placed, asOrder, isFound, OrderFor, SafeFor};
+ghost use Rattle.tables.specs.ProgramSets.{programsMeet};
+ghost use Rattle.tables.specs.Tables.{rowOf};
+ghost use Rattle.search.specs.Rows.{admittedSet, lowest, orderFrom, placed, outcome, asOrder, isFound, OrderFor, SafeFor};
 
 pub mod gives;
 
@@ -96,14 +98,11 @@ pub fn admitted_count(b: Board) -> u8
 
 // ---- the carried order
 
-// Whether p is left and none that is left holds it back.
+// Whether none that is left holds p back.
 fn is_free(rows: &[u32; 32], left: ProgramSet, p: u8) -> bool
     requires { ⌜ (1 ≤ p) × (p ≤ 32) ⌝ }
-    ensures { λ r. ⌜ r ≡ free (now (rows .entry)) left p ⌝ }
+    ensures { λ r. ⌜ r ≡ not (programsMeet left (rowOf (now (rows .entry)) p)) ⌝ }
 {
-    if !left.has(p) {
-        return false;
-    }
     let i = (p - 1) as usize;
     let row = ProgramSet { bits: rows[i] };
     !left.meets(row)
@@ -113,47 +112,50 @@ fn is_free(rows: &[u32; 32], left: ProgramSet, p: u8) -> bool
 fn lowest_free(rows: &[u32; 32], left: ProgramSet) -> u8
     ensures { λ r. ⌜ (r ≡ lowest (now (rows .entry)) left) × (r ≤ 32) ⌝ }
 {
-    let mut p: u8 = 1;
-    while p <= 32 {
+    let mut rest = left;
+    while rest.bits != 0 {
+        let p = rest.lowest();
         if is_free(rows, left, p) {
             return p;
         }
-        p += 1;
+        rest = rest.without(p);
     }
     0
 }
 
-// The order of the n programs left, from place k of `at` on: one is taken, then the same for the rest.
-fn search_rest(rows: &[u32; 32], left: ProgramSet, n: usize, at: [u8; 32], k: usize) -> Order
-    requires { ⌜ k + n ≤ 32 ⌝ }
-    ensures { λ r. ⌜ r ≡ placed at k (orderFrom n (now (rows .entry)) left) ⌝ }
+// The order of the n programs left, from place k of `at` on: one is taken, then the same for the rest. Whether all were taken.
+fn search_rest(rows: &[u32; 32], left: ProgramSet, n: usize, at: &mut [u8; 32], k: usize) -> bool
+    requires { ⌜ (k + n ≤ 32) × (length (now at) ≡ 32) ⌝ }
+    ensures { λ r. ⌜ outcome r (k + n) (now (at .exit)) ≡ placed (now (at .entry)) k (orderFrom n (now (rows .entry)) left) ⌝ }
 {
     if n == 0 {
-        return Order {
-            kind: Search::Found(k),
-            at: at,
-        };
+        return true;
     }
     let p = lowest_free(rows, left);
     if p == 0 {
-        return Order {
-            kind: Search::Stuck,
-            at: [0u8; 32],
-        };
+        return false;
     }
     let rest = left.without(p);
-    let mut next = at;
-    next[k] = p;
-    search_rest(rows, rest, n - 1, next, k + 1)
+    at[k] = p;
+    search_rest(rows, rest, n - 1, at, k + 1)
 }
 
 // The carried order of the programs left, by the rows of their board.
 pub fn order_in(rows: &[u32; 32], left: ProgramSet) -> Order
     ensures { λ r. ⌜ OrderFor (now (rows .entry)) left r ⌝ }
 {
-    let n = left.count();
-    let none = [0u8; 32];
-    search_rest(rows, left, n as usize, none, 0)
+    let n = left.count() as usize;
+    let mut at = [0u8; 32];
+    if !search_rest(rows, left, n, &mut at, 0) {
+        return Order {
+            kind: Search::Stuck,
+            at: [0u8; 32],
+        };
+    }
+    Order {
+        kind: Search::Found(n),
+        at: at,
+    }
 }
 
 // The carried order of the board's admitted programs.
