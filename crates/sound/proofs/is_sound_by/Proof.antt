@@ -11,6 +11,7 @@ use Rattle.rules.specs.Orders.{carried}
 use Rattle.rules.specs.Soundness.{noConflict, lineSound, sound}
 use Rattle.tables.specs.declared.ProgramSet.{ProgramSet}
 use Rattle.tables.specs.ProgramSets.{hasProgram}
+use Rattle.search.specs.declared.Uses.{Uses}
 use Rattle.sound.specs.Parts.{isSoundAt, standsAt, waiterAt}
 use Rattle.sound.proofs.Laws.{line-waiters}
 use Rattle.sound.proofs.Taken.{line-packed}
@@ -148,13 +149,14 @@ returns-7 c = let e = c .before .before .before in
     rw (past6 e, eq-eqb (b6 e .favoured) 0 (c .before .if7 .taken)) (c .none-favoured .ensures)
 
 some-favoured-requires : tie.Need-some-favoured-requires
-some-favoured-requires c κs = let l = c .before .before .before .before .before .before .before .before in
-    l .before .before .standing-set .ensures
+some-favoured-requires c κs = let l = c .before .before .before .before .before .before .before .before .before .before .before in
+    let s = l .before .before .before .before .before .before .before in
+    (l .standing-set .ensures, ap (λ (u : Uses). u .admitted) (s .pre .2))
 
 returns-8 : tie.Need-returns-8
 unfolding sound
-returns-8 c = let e = c .before .before .before in
-    rw (past6 e, ne-eqb (b6 e .favoured) 0 (c .before .if7 .left)) (c .some-favoured .ensures)
+returns-8 c = let e = c .before .before .before .before in
+    rw (past6 e, ne-eqb (b6 e .favoured) 0 (c .before .before .if7 .left)) (c .some-favoured .ensures)
 
 pub is-sound-by-spec : {M : Type 1} → statement M
 is-sound-by-spec =
