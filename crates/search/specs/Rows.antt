@@ -9,7 +9,7 @@ use lib.Dec.{eqb}
 use lib.ListN.{length, take, drop, replicate}
 use Rattle.rules.specs.declared.Program.{Program}
 use Rattle.rules.specs.declared.Board.{Board}
-use Rattle.rules.specs.Lists.{first, found, withFound, padded}
+use Rattle.rules.specs.Lists.{any, first, found, withFound, padded}
 use Rattle.rules.specs.Boards.{everyone, at, isAdmitted}
 use Rattle.rules.specs.Orders.{conflict, carried, safe}
 use Rattle.tables.specs.declared.ProgramSet.{ProgramSet}
@@ -33,6 +33,10 @@ admittedSet b = packed (admits b) 32
 -- i is another program than p, which would be me, and conflicts with it
 abbrev pub clashes : Board → ℕ → Program → ℕ → Bool
 clashes b p me i = not (eqb i p) && conflict (at b i) me
+
+-- r conflicts with whom some program of the board conflicts with
+abbrev pub ConflictsFor : Board → Program → Type 0
+ConflictsFor b r = (q : Program) → conflict r q ≡ any (λ i. conflict (at b i) q) everyone
 
 -- p is left, and none that is left is in its row
 abbrev pub free : List ℕ → ProgramSet → ℕ → Bool

@@ -2,17 +2,17 @@
 use files::FileSet;
 use rules::Board;
 use rules::Program;
+use rules::Standing;
 use tables::ProgramSet;
 ghost use mathlib.Core.Path.{_≡_};
-ghost use mathlib.Core.Bool.{_&&_, not};
+ghost use mathlib.Core.Bool.{not};
 ghost use Prim.Native.Nat.{_+_, _≤_};
-ghost use lib.Dec.{eqb};
 ghost use lib.ListN.{length};
 ghost use Rattle.rules.specs.Boards.{admitted, awaited, setProgram};
-ghost use Rattle.rules.specs.Orders.{conflict, carried, withGiven, inUse};
+ghost use Rattle.rules.specs.Orders.{carried, withGiven, inUse};
 ghost use Rattle.tables.specs.ProgramSets.{programsMeet};
 ghost use Rattle.tables.specs.Tables.{rowOf};
-ghost use Rattle.search.specs.Rows.{admittedSet, lowest, orderFrom, placed, outcome, asOrder, isFound, OrderFor, SafeFor};
+ghost use Rattle.search.specs.Rows.{admittedSet, lowest, orderFrom, placed, outcome, asOrder, isFound, OrderFor, SafeFor, ConflictsFor};
 
 pub mod gives;
 
@@ -182,14 +182,27 @@ pub fn is_found(order: Order) -> bool
 
 // ---- giving a file
 
-// Whether q, which is program i, is another than program p, and conflicts with it.
-fn conflicts_other(i: u8, q: Program, p: u8, me: Program) -> bool
-    ensures { λ r. ⌜ r ≡ not (eqb i p) && conflict q me ⌝ }
+// All that is open, as the open files of one program: it conflicts with whom somebody conflicts with.
+fn all_open(b: Board) -> Program
+    ensures { λ r. ⌜ ConflictsFor b r ⌝ }
 {
-    if i == p {
-        return false;
+    let mut written: u64 = 0;
+    let mut read: u64 = 0;
+    let mut i: u8 = 1;
+    while i <= 32 {
+        let j = (i - 1) as usize;
+        let q = b.programs[j];
+        written = written | q.writing.bits;
+        read = read | q.reading.bits;
+        i += 1;
     }
-    q.conflicts(me)
+    Program {
+        writable: FileSet { bits: 0 },
+        readable: FileSet { bits: 0 },
+        writing: FileSet { bits: written },
+        reading: FileSet { bits: read },
+        standing: Standing::Absent,
+    }
 }
 
 // Whether another program has f in conflicting use: with f given, it and p would conflict.
@@ -200,16 +213,9 @@ pub fn in_use(b: Board, p: u8, f: u8) -> bool
     let k = (p - 1) as usize;
     let q = b.programs[k];
     let me = q.opening(f);
-    let mut i: u8 = 1;
-    while i <= 32 {
-        let j = (i - 1) as usize;
-        let other = b.programs[j];
-        if conflicts_other(i, other, p, me) {
-            return true;
-        }
-        i += 1;
-    }
-    false
+    let others = put(b, p, Program::absent());
+    let open = all_open(others);
+    open.conflicts(me)
 }
 
 // On a board that has an order: whether an order comes back with f given to p. One does unless somebody whom p would then
