@@ -276,8 +276,16 @@ fn some_favoured(b: Board, waiters: ProgramSet, admitted: ProgramSet) -> bool
 }
 
 // Sets; no conflict; a completion order exists; the two lines; the waiters; the favoured program.
-fn is_sound_by(b: Board, sets: &[u64; 128], rows: &[u32; 32], uses: Uses, ordered: bool) -> bool
-    requires { ⌜ SetsOf b (now sets) × RowsOf b (now rows) × (uses ≡ usesOf b (now sets)) × (ordered ≡ found (carried b)) ⌝ }
+fn is_sound_by(
+    b: Board,
+    sets: &[u64; 128],
+    rows: &[u32; 32],
+    uses: Uses,
+    ordered: bool,
+    waiters: ProgramSet,
+    held: ProgramSet,
+) -> bool
+    requires { ⌜ SetsOf b (now sets) × RowsOf b (now rows) × (uses ≡ usesOf b (now sets)) × (ordered ≡ found (carried b)) × (waiters ≡ standSet b false) × (held ≡ standSet b true) ⌝ }
     ensures { λ r. ⌜ r ≡ sound b ⌝ }
 {
     if !programs_sound(b) {
@@ -290,12 +298,10 @@ fn is_sound_by(b: Board, sets: &[u64; 128], rows: &[u32; 32], uses: Uses, ordere
         return false;
     }
     let waiting = b.waiting;
-    let waiters = standing_set(b, false);
     if !line_sound(waiting, waiters) {
         return false;
     }
     let entry = b.entry;
-    let held = standing_set(b, true);
     if !line_sound(entry, held) {
         return false;
     }
@@ -326,7 +332,9 @@ pub fn judge(b: Board) -> Judged
     };
     let order = search::order_in(&rows, admitted);
     let ordered = search::is_found(order);
-    let sound = is_sound_by(b, &sets, &rows, uses, ordered);
+    let waiters = standing_set(b, false);
+    let held = standing_set(b, true);
+    let sound = is_sound_by(b, &sets, &rows, uses, ordered, waiters, held);
     Judged { sound, order }
 }
 
