@@ -28,7 +28,7 @@ use Rattle.search.specs.declared.Order.{Order}
 use Rattle.tables.specs.ProgramSets.{hasProgram, withoutProgram, programsMeet}
 use Rattle.tables.specs.Tables.{packed, stops, holders, RowsOf}
 use Rattle.tables.proofs.Laws.{packed-bit, packed-has}
-use Rattle.search.specs.Rows.{isFound, RowsAt, admits, admittedSet, free, lowest, orderFrom, placed, asOrder}
+use Rattle.search.specs.Rows.{isFound, RowsAt, admits, admittedSet, free, lowest, orderFrom, placed, outcome, asOrder}
 
 -- ---- tests over a range of numbers
 
@@ -185,9 +185,6 @@ unfolding padded
 placed-start none = refl
 placed-start (some l) = rw (zero-add (length l), drop-replicate {A = ℕ} 0 (length l) 32)
 
-placed-none : (at : List ℕ) (k : ℕ) → _≡_ {A = Order} (record { kind = Search.Found k; at = at }) (placed at k (some []))
-placed-none at k = rw (add-zero k, take-append-drop k at)
-
 placed-more : (at : List ℕ) (k p : ℕ) (x : Option (List ℕ)) → k < length at → placed (set at k p) (k + 1) x ≡ placed at k
     (withFound x none (λ l. some (p ∷ l)))
 placed-more at k p none h = refl
@@ -204,9 +201,9 @@ placed-more at k p (some l) h =
 -- ---- one call of the search
 
 module _ (rows : List ℕ) (l : ProgramSet) (at : List ℕ) where
-  pub order-done : (n k : ℕ) → n ≡ 0 → _≡_ {A = Order} (record { kind = Search.Found k; at = at }) (placed at k (orderFrom n rows l))
+  pub order-done : (n k : ℕ) → n ≡ 0 → outcome true (k + n) at ≡ placed at k (orderFrom n rows l)
   unfolding orderFrom
-  order-done n k e = rw e (placed-none at k)
+  order-done n k e = rw (e, add-zero k, take-append-drop k at)
 
   pub order-stuck : (n k p : ℕ) → n ≢ 0 → p ≡ lowest rows l → p ≡ 0
       → _≡_ {A = Order} (record { kind = Search.Stuck; at = replicate 32 0 }) (placed at k (orderFrom n rows l))
@@ -226,6 +223,17 @@ module _ (rows : List ℕ) (l : ProgramSet) (at : List ℕ) where
 pub rows-at : (b : Board) (rows : List ℕ) → RowsOf b rows → RowsAt b rows
 unfolding holders
 rows-at b rows f p h k = let z : suc (p - 1) ≡ p = omega arith in f .1 (p - 1) (omega arith) ∙ ap (λ (x : ℕ). packed (stops b x) 32) z
+
+-- the search from no place on, of all that are admitted
+pub order-given : (b : Board) (rows at : List ℕ) (left : ProgramSet) (n : ℕ) (r : Bool) → RowsOf b rows → left ≡ admittedSet b
+    → n ≡ length (keep (hasProgram left) everyone) → outcome r (0 + n) at ≡ placed (replicate 32 0) 0 (orderFrom n rows left)
+    → outcome r n at ≡ asOrder (carried b)
+order-given b rows at left n r f e c o =
+    let d : n ≡ length (admitted b) = c ∙ ap (λ (x : ProgramSet). length (keep (hasProgram x) everyone)) e ∙ ap length (sym (admitted-is b)) in
+    ap (λ (m : ℕ). outcome r m at) (sym (zero-add n)) ∙ o
+    ∙ ap (λ (m : ℕ). placed (replicate 32 0) 0 (orderFrom m rows left)) d
+    ∙ ap (λ (x : ProgramSet). placed (replicate 32 0) 0 (orderFrom (length (admitted b)) rows x)) e
+    ∙ ap (placed (replicate 32 0) 0) (carried-is b rows (rows-at b rows f)) ∙ placed-start (carried b)
 
 -- ---- whether an order was found
 

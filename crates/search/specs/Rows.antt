@@ -9,7 +9,7 @@ use lib.Dec.{eqb}
 use lib.ListN.{length, take, drop, replicate}
 use Rattle.rules.specs.declared.Program.{Program}
 use Rattle.rules.specs.declared.Board.{Board}
-use Rattle.rules.specs.Lists.{first, found, withFound, padded}
+use Rattle.rules.specs.Lists.{any, first, found, withFound, padded}
 use Rattle.rules.specs.Boards.{everyone, at, isAdmitted}
 use Rattle.rules.specs.Orders.{conflict, carried, safe}
 use Rattle.tables.specs.declared.ProgramSet.{ProgramSet}
@@ -34,6 +34,10 @@ admittedSet b = packed (admits b) 32
 abbrev pub clashes : Board → ℕ → Program → ℕ → Bool
 clashes b p me i = not (eqb i p) && conflict (at b i) me
 
+-- r conflicts with whom some program of the board conflicts with
+abbrev pub ConflictsFor : Board → Program → Type 0
+ConflictsFor b r = (q : Program) → conflict r q ≡ any (λ i. conflict (at b i) q) everyone
+
 -- p is left, and none that is left is in its row
 abbrev pub free : List ℕ → ProgramSet → ℕ → Bool
 free rows left p = hasProgram left p && not (programsMeet left (rowOf rows p))
@@ -53,6 +57,11 @@ orderFrom (suc n) rows left =
 abbrev pub placed : List ℕ → ℕ → Option (List ℕ) → Order
 placed at k (some l) = record { kind = Search.Found (k + length l); at = take k at ++ (l ++ drop (k + length l) at) }
 placed at k none = record { kind = Search.Stuck; at = replicate 32 0 }
+
+-- the m programs that were placed, or none
+abbrev pub outcome : Bool → ℕ → List ℕ → Order
+outcome true m at = record { kind = Search.Found m; at = at }
+outcome false m at = record { kind = Search.Stuck; at = replicate 32 0 }
 
 -- an order, or none, as the code gives it back
 abbrev pub asOrder : Option (List ℕ) → Order

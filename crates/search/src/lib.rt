@@ -2,15 +2,17 @@
 use files::FileSet;
 use rules::Board;
 use rules::Program;
+use rules::Standing;
 use tables::ProgramSet;
 ghost use mathlib.Core.Path.{_≡_};
-ghost use mathlib.Core.Bool.{_&&_, not};
+ghost use mathlib.Core.Bool.{not};
 ghost use Prim.Native.Nat.{_+_, _≤_};
-ghost use lib.Dec.{eqb};
 ghost use lib.ListN.{length};
 ghost use Rattle.rules.specs.Boards.{admitted, awaited, setProgram};
-ghost use Rattle.rules.specs.Orders.{conflict, carried, withGiven, inUse};
-ghost use Rattle.search.specs.Rows.{admittedSet, free, lowest, orderFrom, placed, asOrder, isFound, OrderFor, SafeFor};
+ghost use Rattle.rules.specs.Orders.{carried, withGiven, inUse};
+ghost use Rattle.tables.specs.ProgramSets.{programsMeet};
+ghost use Rattle.tables.specs.Tables.{rowOf};
+ghost use Rattle.search.specs.Rows.{admittedSet, lowest, orderFrom, placed, outcome, asOrder, isFound, OrderFor, SafeFor, ConflictsFor};
 
 pub mod gives;
 
@@ -96,14 +98,11 @@ pub fn admitted_count(b: Board) -> u8
 
 // ---- the carried order
 
-// Whether p is left and none that is left holds it back.
+// Whether none that is left holds p back.
 fn is_free(rows: &[u32; 32], left: ProgramSet, p: u8) -> bool
     requires { ⌜ (1 ≤ p) × (p ≤ 32) ⌝ }
-    ensures { λ r. ⌜ r ≡ free (now (rows .entry)) left p ⌝ }
+    ensures { λ r. ⌜ r ≡ not (programsMeet left (rowOf (now (rows .entry)) p)) ⌝ }
 {
-    if !left.has(p) {
-        return false;
-    }
     let i = (p - 1) as usize;
     let row = ProgramSet { bits: rows[i] };
     !left.meets(row)
@@ -113,47 +112,50 @@ fn is_free(rows: &[u32; 32], left: ProgramSet, p: u8) -> bool
 fn lowest_free(rows: &[u32; 32], left: ProgramSet) -> u8
     ensures { λ r. ⌜ (r ≡ lowest (now (rows .entry)) left) × (r ≤ 32) ⌝ }
 {
-    let mut p: u8 = 1;
-    while p <= 32 {
+    let mut rest = left;
+    while rest.bits != 0 {
+        let p = rest.lowest();
         if is_free(rows, left, p) {
             return p;
         }
-        p += 1;
+        rest = rest.without(p);
     }
     0
 }
 
-// The order of the n programs left, from place k of `at` on: one is taken, then the same for the rest.
-fn search_rest(rows: &[u32; 32], left: ProgramSet, n: usize, at: [u8; 32], k: usize) -> Order
-    requires { ⌜ k + n ≤ 32 ⌝ }
-    ensures { λ r. ⌜ r ≡ placed at k (orderFrom n (now (rows .entry)) left) ⌝ }
+// The order of the n programs left, from place k of `at` on: one is taken, then the same for the rest. Whether all were taken.
+fn search_rest(rows: &[u32; 32], left: ProgramSet, n: usize, at: &mut [u8; 32], k: usize) -> bool
+    requires { ⌜ (k + n ≤ 32) × (length (now at) ≡ 32) ⌝ }
+    ensures { λ r. ⌜ outcome r (k + n) (now (at .exit)) ≡ placed (now (at .entry)) k (orderFrom n (now (rows .entry)) left) ⌝ }
 {
     if n == 0 {
-        return Order {
-            kind: Search::Found(k),
-            at: at,
-        };
+        return true;
     }
     let p = lowest_free(rows, left);
     if p == 0 {
-        return Order {
-            kind: Search::Stuck,
-            at: [0u8; 32],
-        };
+        return false;
     }
     let rest = left.without(p);
-    let mut next = at;
-    next[k] = p;
-    search_rest(rows, rest, n - 1, next, k + 1)
+    at[k] = p;
+    search_rest(rows, rest, n - 1, at, k + 1)
 }
 
 // The carried order of the programs left, by the rows of their board.
 pub fn order_in(rows: &[u32; 32], left: ProgramSet) -> Order
     ensures { λ r. ⌜ OrderFor (now (rows .entry)) left r ⌝ }
 {
-    let n = left.count();
-    let none = [0u8; 32];
-    search_rest(rows, left, n as usize, none, 0)
+    let n = left.count() as usize;
+    let mut at = [0u8; 32];
+    if !search_rest(rows, left, n, &mut at, 0) {
+        return Order {
+            kind: Search::Stuck,
+            at: [0u8; 32],
+        };
+    }
+    Order {
+        kind: Search::Found(n),
+        at: at,
+    }
 }
 
 // The carried order of the board's admitted programs.
@@ -180,14 +182,27 @@ pub fn is_found(order: Order) -> bool
 
 // ---- giving a file
 
-// Whether q, which is program i, is another than program p, and conflicts with it.
-fn conflicts_other(i: u8, q: Program, p: u8, me: Program) -> bool
-    ensures { λ r. ⌜ r ≡ not (eqb i p) && conflict q me ⌝ }
+// All that is open, as the open files of one program: it conflicts with whom somebody conflicts with.
+fn all_open(b: Board) -> Program
+    ensures { λ r. ⌜ ConflictsFor b r ⌝ }
 {
-    if i == p {
-        return false;
+    let mut written: u64 = 0;
+    let mut read: u64 = 0;
+    let mut i: u8 = 1;
+    while i <= 32 {
+        let j = (i - 1) as usize;
+        let q = b.programs[j];
+        written = written | q.writing.bits;
+        read = read | q.reading.bits;
+        i += 1;
     }
-    q.conflicts(me)
+    Program {
+        writable: FileSet { bits: 0 },
+        readable: FileSet { bits: 0 },
+        writing: FileSet { bits: written },
+        reading: FileSet { bits: read },
+        standing: Standing::Absent,
+    }
 }
 
 // Whether another program has f in conflicting use: with f given, it and p would conflict.
@@ -198,16 +213,9 @@ pub fn in_use(b: Board, p: u8, f: u8) -> bool
     let k = (p - 1) as usize;
     let q = b.programs[k];
     let me = q.opening(f);
-    let mut i: u8 = 1;
-    while i <= 32 {
-        let j = (i - 1) as usize;
-        let other = b.programs[j];
-        if conflicts_other(i, other, p, me) {
-            return true;
-        }
-        i += 1;
-    }
-    false
+    let others = put(b, p, Program::absent());
+    let open = all_open(others);
+    open.conflicts(me)
 }
 
 // On a board that has an order: whether an order comes back with f given to p. One does unless somebody whom p would then

@@ -8,6 +8,7 @@ use tables::ProgramSet;
 ghost use mathlib.Core.Path.{_≡_};
 ghost use mathlib.Core.Bool.{true, false, _&&_};
 ghost use Prim.Native.Nat.{_≤_};
+ghost use lib.Dec.{eqb};
 ghost use Rattle.files.specs.Sets.{isEmpty};
 ghost use Rattle.rules.specs.Lists.{all, found, names};
 ghost use Rattle.rules.specs.Boards.{everyone};
@@ -16,7 +17,7 @@ ghost use Rattle.rules.specs.Soundness.{setsSound, standingSound, programSound,
 ghost use Rattle.rules.specs.Soundness.{someFavoured, sound};
 ghost use Rattle.tables.specs.ProgramSets.{hasProgram};
 ghost use Rattle.tables.specs.Tables.{SetsOf, RowsOf};
-ghost use Rattle.search.specs.Rows.{asOrder};
+ghost use Rattle.search.specs.Rows.{asOrder, admittedSet};
 ghost use Rattle.search.specs.Gives.{usesOf};
 ghost use Rattle.sound.specs.Parts.{stands, rightName, standSet, takes, isSoundAt, ConflictFree, waiterAt, Known, WaiterFor};
 
@@ -67,9 +68,9 @@ fn opens_nothing(q: Program) -> bool
     r.is_empty()
 }
 
-// Absent programs have empty sets, held ones nothing open.
+// What is said of a program with this standing: absent ones have empty sets, held ones nothing open.
 fn standing_sound(s: Standing, q: Program) -> bool
-    ensures { λ r. ⌜ r ≡ standingSound s q ⌝ }
+    ensures { λ r. ⌜ r ≡ setsSound q && standingSound s q ⌝ }
 {
     match s {
         Standing::Absent => {
@@ -78,9 +79,14 @@ fn standing_sound(s: Standing, q: Program) -> bool
             }
             opens_nothing(q)
         }
-        Standing::Running => true,
-        Standing::Waiting(_) => true,
-        Standing::Held => opens_nothing(q),
+        Standing::Running => sets_sound(q),
+        Standing::Waiting(_) => sets_sound(q),
+        Standing::Held => {
+            if !opens_nothing(q) {
+                return false;
+            }
+            sets_sound(q)
+        }
     }
 }
 
@@ -88,9 +94,6 @@ fn standing_sound(s: Standing, q: Program) -> bool
 fn program_sound(q: Program) -> bool
     ensures { λ r. ⌜ r ≡ programSound q ⌝ }
 {
-    if !sets_sound(q) {
-        return false;
-    }
     let s = q.standing;
     standing_sound(s, q)
 }
@@ -177,10 +180,26 @@ fn takes_all(line: [u8; 32], set: ProgramSet) -> bool
     left.bits == 0
 }
 
+// Whether the line names nobody and is 0 throughout.
+fn is_blank(line: [u8; 32]) -> bool
+    ensures { λ r. ⌜ r ≡ all (λ x. eqb x 0) line ⌝ }
+{
+    let mut bits: u8 = 0;
+    let mut k: usize = 0;
+    while k < 32 {
+        bits = bits | line[k];
+        k += 1;
+    }
+    bits == 0
+}
+
 // The line names each program of the set once, and nobody else, and is then 0.
 fn line_sound(line: [u8; 32], set: ProgramSet) -> bool
     ensures { λ r. ⌜ r ≡ lineSound line (hasProgram set) ⌝ }
 {
+    if is_blank(line) {
+        return set.bits == 0;
+    }
     if !takes_all(line, set) {
         return false;
     }
@@ -240,14 +259,14 @@ fn none_favoured(b: Board, held: ProgramSet) -> bool
 }
 
 // The favoured program is waiting; leaves plus admitted equal the number at favouring, which is at most 32.
-fn some_favoured(b: Board, waiters: ProgramSet) -> bool
-    requires { ⌜ waiters ≡ standSet b false ⌝ }
+fn some_favoured(b: Board, waiters: ProgramSet, admitted: ProgramSet) -> bool
+    requires { ⌜ (waiters ≡ standSet b false) × (admitted ≡ admittedSet b) ⌝ }
     ensures { λ r. ⌜ r ≡ someFavoured b ⌝ }
 {
     if !waiters.has(b.favoured) {
         return false;
     }
-    let n = search::admitted_count(b) as u16;
+    let n = admitted.count() as u16;
     let left = b.leaves as u16;
     let initial = b.initial;
     if left + n != initial as u16 {
@@ -257,8 +276,16 @@ fn some_favoured(b: Board, waiters: ProgramSet) -> bool
 }
 
 // Sets; no conflict; a completion order exists; the two lines; the waiters; the favoured program.
-fn is_sound_by(b: Board, sets: &[u64; 128], rows: &[u32; 32], uses: Uses, ordered: bool) -> bool
-    requires { ⌜ SetsOf b (now sets) × RowsOf b (now rows) × (uses ≡ usesOf b (now sets)) × (ordered ≡ found (carried b)) ⌝ }
+fn is_sound_by(
+    b: Board,
+    sets: &[u64; 128],
+    rows: &[u32; 32],
+    uses: Uses,
+    ordered: bool,
+    waiters: ProgramSet,
+    held: ProgramSet,
+) -> bool
+    requires { ⌜ SetsOf b (now sets) × RowsOf b (now rows) × (uses ≡ usesOf b (now sets)) × (ordered ≡ found (carried b)) × (waiters ≡ standSet b false) × (held ≡ standSet b true) ⌝ }
     ensures { λ r. ⌜ r ≡ sound b ⌝ }
 {
     if !programs_sound(b) {
@@ -271,12 +298,10 @@ fn is_sound_by(b: Board, sets: &[u64; 128], rows: &[u32; 32], uses: Uses, ordere
         return false;
     }
     let waiting = b.waiting;
-    let waiters = standing_set(b, false);
     if !line_sound(waiting, waiters) {
         return false;
     }
     let entry = b.entry;
-    let held = standing_set(b, true);
     if !line_sound(entry, held) {
         return false;
     }
@@ -286,7 +311,8 @@ fn is_sound_by(b: Board, sets: &[u64; 128], rows: &[u32; 32], uses: Uses, ordere
     if b.favoured == 0 {
         return none_favoured(b, held);
     }
-    some_favoured(b, waiters)
+    let admitted = uses.admitted;
+    some_favoured(b, waiters, admitted)
 }
 
 // Whether the board is sound, and its carried order.
@@ -296,11 +322,19 @@ pub fn judge(b: Board) -> Judged
     let mut sets = [0u64; 128];
     let mut rows = [0u32; 32];
     tables::fill(b, &mut sets, &mut rows);
-    let uses = search::gives::uses_of(b, &sets);
-    let admitted = uses.admitted;
+    let admitted = search::admitted_set(b);
+    let written = tables::opened(&sets, 64);
+    let read = tables::opened(&sets, 96);
+    let uses = Uses {
+        admitted,
+        written,
+        read,
+    };
     let order = search::order_in(&rows, admitted);
     let ordered = search::is_found(order);
-    let sound = is_sound_by(b, &sets, &rows, uses, ordered);
+    let waiters = standing_set(b, false);
+    let held = standing_set(b, true);
+    let sound = is_sound_by(b, &sets, &rows, uses, ordered, waiters, held);
     Judged { sound, order }
 }
 

@@ -8,12 +8,12 @@ use Prim.Native.Nat.{ℕ, zero, suc, _+_, _-_, _≤_, _<_}
 use native.Mathlib.Numerals.{add-one}
 use native.Mathlib.Omega.{arith}
 use lib.Bits.{bitAnd, bitOr, or-add-and, and-le-l, and-comm}
-use lib.Dec.{eqb}
+use lib.Dec.{eqb, ltb}
 use lib.ListN.{length, getD, set, length-set}
 use lib.Seq.{getD-set-same, getD-set-other}
-use borrow.Author.Tests.{eq-eqb, ne-eqb, eqb-true, eqb-false}
+use borrow.Author.Tests.{eq-eqb, ne-eqb, eqb-true, eqb-false, ltb-true, ltb-false}
 use Rattle.files.proofs.Tests.{by-test, never, no-true, or-cases, or-left, or-right, and-left, and-right, and-both, and-false}
-use Rattle.files.specs.Bits.{hasBit, isNumber, hasNumber}
+use Rattle.files.specs.Bits.{hasBit, isNumber, hasNumber, share}
 use Rattle.files.proofs.Bits.{or-has, and-has, zero-share, zero-has, with-only, is-number, least, most, has-number, has-bit, with-number-same, with-number-other}
 use Rattle.rules.specs.declared.Program.{Program}
 use Rattle.rules.specs.declared.Board.{Board}
@@ -21,7 +21,7 @@ use Rattle.rules.specs.Lists.{rising, any, all, keep, first}
 use Rattle.rules.specs.Boards.{noProgram, at}
 use Rattle.tables.specs.declared.ProgramSet.{ProgramSet}
 use Rattle.tables.specs.ProgramSets.{noPrograms, hasProgram, unionOf, commonOf}
-use Rattle.tables.specs.Tables.{inPlace, SetsTo, SetsOf, RowsUpTo, joined, packed, stops, holdsBits, HolderAdded, rowOf, holdersOf, Chain, Reached, Cleared}
+use Rattle.tables.specs.Tables.{inPlace, SetsTo, SetsOf, RowsUpTo, joined, packed, stops, holdsBits, HolderAdded, rowOf, holdersOf, Chain, Reached, Cleared, EmptyFrom}
 
 -- ---- the sets, one program after another
 
@@ -127,6 +127,16 @@ module _ (sets : List ℕ) (i : ℕ) (before : List ℕ) where
         zero-share (getD sets (96 + i) 0) (getD sets j 0) r-none,
       )
 
+  -- those from place n on, who claim nothing, are held back by nobody
+  pub joined-rest : (n : ℕ) (after : List ℕ) → n ≤ 32 → ((j : ℕ) → n ≤ j → j < 32 → holdsAt j ≡ false) → JoinedTo n after → JoinedTo 32 after
+  joined-rest n after u z (k, f, g) = (
+    k,
+    λ j m. by-test (ltb j n) (λ t. f j (ltb-true j n t))
+        (λ t. let h : n ≤ j = ltb-false j n t in
+        ap {B = ProgramSet} (λ x. record { bits = x }) (g j h) ∙ sym (ap (joined (rowIn before j) (suc i)) (z j h m))),
+    λ j m. g j (omega arith),
+  )
+
   pub joined-done : (after : List ℕ) → i < 32 → JoinedTo 32 after → HolderAdded sets i before (set after i (getD before i 0))
   joined-done after h (k, f, g) = (
     length-set after i (getD before i 0) ∙ k,
@@ -161,6 +171,45 @@ module _ (b : Board) (sets : List ℕ) (s : SetsOf b sets) (i : ℕ) (h : i < 32
 pub rows-none : (b : Board) (rows : List ℕ) → Cleared rows → RowsUpTo b 0 rows
 unfolding packed
 rows-none b rows c j k = ap {B = ProgramSet} (λ x. record { bits = x }) (c .1 j k)
+
+-- ---- the programs from a place on that have no set
+
+-- four numbers or-ed are 0 only if each is
+pub none-of : (a b d e : ℕ) → bitOr (bitOr (bitOr a b) d) e ≡ 0 → (a ≡ 0) × (b ≡ 0) × (d ≡ 0) × (e ≡ 0)
+none-of a b d e z =
+    let x = or-zero (bitOr (bitOr a b) d) e z in let y = or-zero (bitOr a b) d (x .0) in let w = or-zero a b (y .0) in
+    (w .0, w .1, y .1, x .1)
+  where
+    or-zero : (m n : ℕ) → bitOr m n ≡ 0 → (m ≡ 0) × (n ≡ 0)
+    or-zero m n z = (omega (arith, or-add-and m n, and-le-l n m, and-comm m n), omega (arith, or-add-and m n, and-le-l m n))
+
+pub empty-none : (sets : List ℕ) (n : ℕ) → 32 ≤ n → EmptyFrom sets n
+empty-none sets n h i k m = absurd (omega arith)
+
+pub empty-more : (sets : List ℕ) (n i : ℕ) → i ≡ n - 1 → EmptyFrom sets n
+    → bitOr (bitOr (bitOr (getD sets i 0) (getD sets (32 + i) 0)) (getD sets (64 + i) 0)) (getD sets (96 + i) 0) ≡ 0 → EmptyFrom sets i
+empty-more sets n i e f z j k m = by-test (eqb i j)
+    (λ t. let d : i ≡ j = eqb-true i j t in rw d at (none-of (getD sets i 0) (getD sets (32 + i) 0) (getD sets (64 + i) 0) (getD sets (96 + i) 0) z))
+    (λ t. let d : i ≢ j = eqb-false i j t in f j (omega arith) m)
+
+-- who claims nothing is held back by nobody
+pub empty-holds : (sets : List ℕ) (n i j : ℕ) → EmptyFrom sets n → n ≤ j → j < 32 → holdsAt sets i [] j ≡ false
+empty-holds sets n i j f k m = let (v, q, w, r) = f j k m in let a = getD sets (64 + i) 0 in let d = getD sets (96 + i) 0 in
+    rw (share-none a (getD sets j 0) v, share-none a (getD sets (32 + j) 0) q, share-none d (getD sets j 0) v)
+  where
+    share-none : (a b : ℕ) → b ≡ 0 → share a b ≡ false
+    share-none a b e = ap (λ (x : ℕ). not (eqb x 0)) (and-comm a b) ∙ zero-share b a e
+
+-- the rows of all programs are those of the programs that have sets
+pub rows-rest : (b : Board) (sets rows : List ℕ) → SetsOf b sets → length rows ≡ 32 → (d n : ℕ) → n + d ≡ 32 → EmptyFrom sets n
+    → RowsUpTo b n rows → RowsUpTo b 32 rows
+rows-rest b sets rows s l zero n e f r = let z : n ≡ 32 = omega arith in rw z at r
+rows-rest b sets rows s l (suc d) n e f r =
+    let (v, q, w, k) = f n (omega arith) (omega arith) in
+    let a = getD sets (64 + n) 0 in let c = getD sets (96 + n) 0 in
+    let z : bitOr a c ≡ 0 = omega (arith, or-add-and a c, w, k) in
+    rows-rest b sets rows s l d (n + 1) (omega arith) (λ i h m. f i (omega arith) m)
+    (rows-more b sets s n (omega arith) rows rows r (joined-none sets n rows l z))
 
 -- the first n places are cleared
 abbrev pub ClearedTo : ℕ → List ℕ → Type 0

@@ -1,7 +1,8 @@
 -- Sets of programs, as sets of the numbers 1 to 32.
 -- Assumes nothing.
-use Prim.Native.Nat.{ℕ}
-use mathlib.Core.Bool.{Bool}
+use Prim.Native.Nat.{ℕ, _≤_, _<_}
+use mathlib.Core.Path.{_≡_}
+use mathlib.Core.Bool.{Bool, true, false}
 use lib.Bits.{bitAnd, bitOr}
 use Rattle.files.specs.Bits.{hasNumber, withNumber, withoutNumber, share}
 use Rattle.tables.specs.declared.ProgramSet.{ProgramSet}
@@ -32,3 +33,7 @@ unionOf s t = record { bits = bitOr (s .bits) (t .bits) }
 -- the programs that they have in common
 abbrev pub commonOf : ProgramSet → ProgramSet → ProgramSet
 commonOf s t = record { bits = bitAnd (s .bits) (t .bits) }
+
+-- p is the lowest program of s
+abbrev pub IsLowest : ProgramSet → ℕ → Type 0
+IsLowest s p = (1 ≤ p) × (p ≤ 32) × (hasProgram s p ≡ true) × ((q : ℕ) → q < p → hasProgram s q ≡ false)

@@ -1,6 +1,6 @@
 -- The arrays of a board: the sets of its programs, and for each program the set of those that hold it back.
 -- Assumes nothing.
-use Prim.Native.Nat.{ℕ, zero, suc, _+_, _-_, _<_}
+use Prim.Native.Nat.{ℕ, zero, suc, _+_, _-_, _≤_, _<_}
 use mathlib.Core.Path.{_≡_}
 use mathlib.Core.Bool.{Bool, true, not, cond, _&&_, _||_}
 use mathlib.Core.List.{List}
@@ -109,3 +109,8 @@ claimsAt sets f both p = member (record { bits = getD sets (p - 1) 0 }) f || (bo
 -- 32 places that hold nobody
 abbrev pub Cleared : List ℕ → Type 0
 Cleared rows = (length rows ≡ 32) × ((i : ℕ) → i < 32 → getD rows i 0 ≡ 0)
+
+-- no program from place n on has any set
+abbrev pub EmptyFrom : List ℕ → ℕ → Type 0
+EmptyFrom sets n = (i : ℕ) → n ≤ i → i < 32 → (getD sets i 0 ≡ 0) × (getD sets (32 + i) 0 ≡ 0) × (getD sets (64 + i) 0 ≡ 0)
+    × (getD sets (96 + i) 0 ≡ 0)

@@ -8,7 +8,7 @@ ghost use mathlib.Core.Bool.{_||_};
 ghost use Prim.Native.Nat.{_+_, _<_, _≤_};
 ghost use lib.ListN.{length};
 ghost use Rattle.files.specs.Bits.{share};
-ghost use Rattle.tables.specs.Tables.{openedFrom, joined, SetsOf, RowsOf, RowsFor, HolderAdded, Cleared};
+ghost use Rattle.tables.specs.Tables.{openedFrom, joined, SetsOf, RowsOf, RowsFor, HolderAdded, Cleared, EmptyFrom};
 
 pub mod reach;
 mod sets;
@@ -65,9 +65,24 @@ fn holds(w: u64, r: u64, v: u64, q: u64) -> bool
     (w & v) | (w & q) | (r & v) != 0
 }
 
-// The program at place i joins the rows of those it holds back.
-fn add_holder(sets: &[u64; 128], i: usize, rows: &mut [u32; 32])
-    requires { ⌜ (i < 32) × (length (now rows) ≡ 32) ⌝ }
+// The least place from which on no program has any set.
+fn highest(sets: &[u64; 128]) -> usize
+    ensures { λ r. ⌜ (r ≤ 32) × EmptyFrom (now (sets .entry)) r ⌝ }
+{
+    let mut top: usize = 32;
+    while 0 < top {
+        let i = top - 1;
+        if sets[i] | sets[32 + i] | sets[64 + i] | sets[96 + i] != 0 {
+            return top;
+        }
+        top = i;
+    }
+    0
+}
+
+// The program at place i joins the rows of those it holds back; nobody from place top on has any set.
+fn add_holder(sets: &[u64; 128], i: usize, top: usize, rows: &mut [u32; 32])
+    requires { ⌜ (i < top) × (top ≤ 32) × EmptyFrom (now sets) top × (length (now rows) ≡ 32) ⌝ }
     ensures { λ _. ⌜ HolderAdded (now (sets .entry)) i (now (rows .entry)) (now (rows .exit)) ⌝ }
 {
     let w = sets[64 + i];
@@ -77,7 +92,7 @@ fn add_holder(sets: &[u64; 128], i: usize, rows: &mut [u32; 32])
     }
     let own = rows[i];
     let mut j: usize = 0;
-    while j < 32 {
+    while j < top {
         let yes = holds(w, r, sets[j], sets[32 + j]);
         let row = ProgramSet { bits: rows[j] };
         let more = join(row, i as u8 + 1, yes);
@@ -87,14 +102,14 @@ fn add_holder(sets: &[u64; 128], i: usize, rows: &mut [u32; 32])
     rows[i] = own;
 }
 
-// The rows of those that the first 32 programs hold back.
-fn add_holders(sets: &[u64; 128], rows: &mut [u32; 32])
-    requires { ⌜ Cleared (now rows) ⌝ }
+// The rows of those that the programs hold back; nobody from place top on has any set.
+fn add_holders(sets: &[u64; 128], top: usize, rows: &mut [u32; 32])
+    requires { ⌜ (top ≤ 32) × EmptyFrom (now sets) top × Cleared (now rows) ⌝ }
     ensures { λ _. ⌜ RowsFor (now (sets .entry)) (now (rows .exit)) ⌝ }
 {
     let mut i: usize = 0;
-    while i < 32 {
-        add_holder(sets, i, rows);
+    while i < top {
+        add_holder(sets, i, top, rows);
         i += 1;
     }
 }
@@ -118,5 +133,6 @@ pub fn fill(b: Board, sets: &mut [u64; 128], rows: &mut [u32; 32])
 {
     take_sets(b, sets);
     clear(rows);
-    add_holders(sets, rows);
+    let top = highest(sets);
+    add_holders(sets, top, rows);
 }

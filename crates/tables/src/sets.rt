@@ -1,11 +1,12 @@
 // Sets of programs, by value.
 use crate::ProgramSet;
 ghost use mathlib.Core.Path.{_≡_};
+ghost use mathlib.Core.Logic.{_≢_};
 ghost use Prim.Native.Nat.{_≤_};
 ghost use lib.ListN.{length};
 ghost use Rattle.rules.specs.Lists.{keep};
 ghost use Rattle.rules.specs.Boards.{everyone};
-ghost use Rattle.tables.specs.ProgramSets.{hasProgram, withProgram, withoutProgram, programsMeet, unionOf, commonOf};
+ghost use Rattle.tables.specs.ProgramSets.{hasProgram, withProgram, withoutProgram, programsMeet, unionOf, commonOf, IsLowest};
 
 impl ProgramSet {
     // No program.
@@ -55,6 +56,14 @@ impl ProgramSet {
         }
     }
 
+    // The lowest program of the set, which has some.
+    pub fn lowest(self) -> u8
+        requires { ⌜ self .bits ≢ 0 ⌝ }
+        ensures { λ r. ⌜ IsLowest self r ⌝ }
+    {
+        u32::trailing_zeros(self.bits) as u8 + 1
+    }
+
     // Whether the sets have a program in common.
     pub fn meets(self, other: ProgramSet) -> bool
         ensures { λ r. ⌜ r ≡ programsMeet self other ⌝ }
@@ -84,14 +93,6 @@ impl ProgramSet {
     pub fn count(self) -> u8
         ensures { λ r. ⌜ (r ≡ length (keep (hasProgram self) everyone)) × (r ≤ 32) ⌝ }
     {
-        let mut n: u8 = 0;
-        let mut p: u8 = 1;
-        while p <= 32 {
-            if self.has(p) {
-                n += 1;
-            }
-            p += 1;
-        }
-        n
+        u32::count_ones(self.bits) as u8
     }
 }

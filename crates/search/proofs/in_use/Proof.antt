@@ -1,72 +1,37 @@
 -- `in_use` meets its contract. Assumes nothing.
-use mathlib.Core.Path.{_≡_, sym, ap, _∙_}
-use Prim.Native.Nat.{_-_, _≤_}
-use native.Mathlib.Numerals.{add-one}
-use native.Mathlib.Omega.{arith}
+use mathlib.Core.Path.{ap, _∙_}
+use Prim.Native.Nat.{_≤_}
 use borrow.Author.Needs.{needs}
 use Rattle.rules.specs.declared.Program.{Program}
-use Rattle.rules.specs.Lists.{any, rising}
-use Rattle.rules.specs.Boards.{everyone, at}
-use Rattle.rules.specs.Orders.{inUse}
+use Rattle.rules.specs.declared.Board.{Board}
+use Rattle.rules.specs.Lists.{any}
+use Rattle.rules.specs.Boards.{everyone, at, setProgram}
+use Rattle.rules.specs.Orders.{conflict, inUse}
 use Rattle.search.specs.Rows.{clashes}
-use Rattle.tables.proofs.Laws.{any-step, any-end}
+use Rattle.search.proofs.Open.{others-use}
 use Rattle.search.proofs.in_use.Statement.{statement}
 use Rattle.search.proofs.in_use.Tie as tie
 
-abbrev Inv-loop : tie.InvT-loop
-Inv-loop p f b k me i₀ i = (1 ≤ i) × (i ≤ 33) × (inUse b p f ≡ any (clashes b p me) (rising (33 - i) i))
-
-abbrev μ-loop : tie.MeasureT-loop
-μ-loop p f b k me i₀ i = 33 - i
-
-loop-holds : tie.Need-loop-holds Inv-loop μ-loop
-unfolding inUse everyone
-loop-holds c = (
-  search needs,
-  search needs,
-  ap (λ (me : Program). any (clashes (c .before .before .args .t1)
-      (c .before .before .args .p) me) (rising 32 1)) (sym (c .opening .ensures)),
-)
-
-returns : tie.Need-returns Inv-loop μ-loop
-returns c = let l = c .before .before .before .before .loop in let a =
-    c .before .before .before .before .before .before .before .args in let me =
-    c .before .before .before .before .before .opening .result in
-    sym (rw (sym (c .before .conflicts-other .ensures) ∙ c .if1 .taken) at (l .inv .2 ∙ any-step (clashes (a .t1) (a .p) me) (l .i) (omega arith)))
-
-loop-again : tie.Need-loop-again Inv-loop μ-loop
-loop-again c = let l = c .before .before .before .before .loop in let a =
-    c .before .before .before .before .before .before .before .args in let me =
-    c .before .before .before .before .before .opening .result in (
-      search needs,
-      search needs,
-      rw (add-one (l .i)) (rw (sym (c .before .conflicts-other .ensures) ∙ c .if1 .left) at
-          (l .inv .2 ∙ any-step (clashes (a .t1) (a .p) me) (l .i) (omega arith))),
-    )
-
-returns-2 : tie.Need-returns-2 Inv-loop μ-loop
-returns-2 c = let l = c .before .loop in let a = c .before .before .before .before .args in let me = c .before .before .opening .result in
-    sym (l .inv .2 ∙ any-end (clashes (a .t1) (a .p) me) (l .i) (omega arith))
+returns : tie.Need-returns
+unfolding inUse
+returns c = let u = c .before .before in let n = u .before in let o = n .before in let a = o .before .before .args in
+    let me = o .opening .result in let l : 1 ≤ a .p = search needs in
+    c .conflicts .ensures ∙ c .before .all-open .ensures me
+    ∙ ap (λ (x : Board). any (λ i. conflict (at x i) me) everyone) (u .put .ensures)
+    ∙ ap (λ (x : Program). any (λ i. conflict (at (setProgram (a .t1) (a .p) x) i) me) everyone) (n .absent .ensures)
+    ∙ others-use (a .t1) (a .p) me l ∙ ap (λ (x : Program). any (clashes (a .t1) (a .p) x) everyone) (o .opening .ensures)
 
 pub in-use-spec : {M : Type 1} → statement M
 in-use-spec =
     tie.close
     (tie.spec
-    Inv-loop
-    μ-loop
     (λ c. search needs)
     (λ c. search needs)
     (λ c. search needs)
     (λ c. search needs)
     (λ c κs. search needs)
-    loop-holds
-    (λ c. search needs)
-    (λ c. search needs)
-    (λ c. search needs)
-    (λ c. search needs)
     (λ c κs. search needs)
-    returns
-    (λ c. search needs)
-    (λ c. search needs)
-    loop-again
-    returns-2)
+    (λ c κs. search needs)
+    (λ c κs. search needs)
+    (λ c κs. search needs)
+    returns)

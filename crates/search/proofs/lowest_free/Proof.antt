@@ -1,45 +1,44 @@
 -- `lowest_free` meets its contract. Assumes nothing.
-use mathlib.Core.Path.{_≡_, refl, sym, ap, _∙_}
-use mathlib.Core.Option.{Option, Option·getD}
-use Prim.Native.Nat.{ℕ, _-_, _≤_}
-use native.Mathlib.Numerals.{add-one}
+use mathlib.Core.Path.{sym, _∙_}
 use native.Mathlib.Omega.{arith}
 use borrow.Author.Needs.{needs}
-use Rattle.rules.specs.Lists.{first, rising}
-use Rattle.rules.specs.Boards.{everyone, at}
-use Rattle.search.specs.Rows.{free, lowest}
-use Rattle.tables.proofs.Laws.{first-step, first-end}
+use Rattle.search.proofs.Lowest.{Untried, untried-start, untried-more, lowest-at, lowest-no, without-lt}
 use Rattle.search.proofs.lowest_free.Statement.{statement}
 use Rattle.search.proofs.lowest_free.Tie as tie
 
 abbrev Inv-loop : tie.InvT-loop
-Inv-loop rows left p₀ p = (1 ≤ p) × (p ≤ 33) × (lowest rows left ≡ Option·getD (first (free rows left) (rising (33 - p) p)) 0)
+Inv-loop rows left rest₀ rest = Untried rows left rest
 
 abbrev μ-loop : tie.MeasureT-loop
-μ-loop rows left p₀ p = 33 - p
+μ-loop rows left rest₀ rest = rest .bits
 
 loop-holds : tie.Need-loop-holds Inv-loop μ-loop
-unfolding lowest everyone
-loop-holds c = (search needs, search needs, refl)
+loop-holds c = untried-start (c .args .rows .now) (c .args .left)
+
+lowest-requires : tie.Need-lowest-requires Inv-loop μ-loop
+lowest-requires c κs = c .if1 .taken
+
+is-free-requires : tie.Need-is-free-requires Inv-loop μ-loop
+is-free-requires c κs = (c .lowest .ensures .0, c .lowest .ensures .1)
 
 returns : tie.Need-returns Inv-loop μ-loop
-returns c = let l = c .before .before .before .loop in let a = c .before .before .before .before .args in (
-  sym (rw (sym (c .before .is-free .ensures) ∙ c .if1 .taken) at (l .inv .2 ∙ ap (λ (x : Option ℕ). Option·getD x 0)
-      (first-step (free (a .rows .now) (a .left)) (l .p) (omega arith)))),
-  search needs,
+returns c = let l = c .before .before .lowest in let s = c .before .before .before .before .before in let a = s .before .args in (
+  lowest-at (a .rows .now) (a .left) (s .loop .rest) (l .result) (s .loop .inv) (l .ensures) (sym (c .before .is-free .ensures) ∙ c .if2 .taken),
+  l .ensures .1,
 )
+
+loop-less : tie.Need-loop-less Inv-loop μ-loop
+loop-less c = let l = c .before .before .before .lowest in let s = c .before .before .before .before in
+    rw (c .without .ensures) (without-lt (s .before .before .loop .rest) (l .result) (s .if1 .taken) (l .ensures .2))
 
 loop-again : tie.Need-loop-again Inv-loop μ-loop
-loop-again c = let l = c .before .before .before .loop in let a = c .before .before .before .before .args in (
-  search needs,
-  search needs,
-  rw (add-one (l .p)) (rw (sym (c .before .is-free .ensures) ∙ c .if1 .left) at
-      (l .inv .2 ∙ ap (λ (x : Option ℕ). Option·getD x 0) (first-step (free (a .rows .now) (a .left)) (l .p) (omega arith)))),
-)
+loop-again c = let l = c .before .before .before .lowest in let s = c .before .before .before .before .before .before in let a = s .before .args in
+    rw (c .without .ensures) (untried-more (a .rows .now) (a .left) (s .loop .rest) (l .result) (s .loop .inv)
+    (sym (c .before .before .is-free .ensures) ∙ c .before .if2 .left))
 
 returns-2 : tie.Need-returns-2 Inv-loop μ-loop
-returns-2 c = let l = c .before .loop in let a = c .before .before .args in
-    (sym (l .inv .2 ∙ ap (λ (x : Option ℕ). Option·getD x 0) (first-end (free (a .rows .now) (a .left)) (l .p) (omega arith))), search needs)
+returns-2 c = let s = c .before .before in let a = s .before .args in
+    (lowest-no (a .rows .now) (a .left) (s .loop .rest) (s .loop .inv) (c .if1 .left), search needs)
 
 pub lowest-free-spec : {M : Type 1} → statement M
 lowest-free-spec =
@@ -48,9 +47,10 @@ lowest-free-spec =
     Inv-loop
     μ-loop
     loop-holds
-    (λ c κs. search needs)
+    lowest-requires
+    is-free-requires
     returns
-    (λ c. search needs)
-    (λ c. search needs)
+    (λ c κs. search needs)
+    loop-less
     loop-again
     returns-2)

@@ -1,23 +1,22 @@
 -- `order_in` meets its contract. Assumes nothing.
-use mathlib.Core.Path.{_≡_, sym, ap, _∙_}
-use lib.ListN.{length, replicate}
-use Rattle.rules.specs.Lists.{keep}
-use Rattle.rules.specs.Boards.{everyone, admitted}
-use Rattle.rules.specs.Orders.{carried}
-use Rattle.tables.specs.declared.ProgramSet.{ProgramSet}
-use Rattle.tables.specs.ProgramSets.{hasProgram}
-use Rattle.search.specs.Rows.{placed}
-use Rattle.search.proofs.Laws.{carried-is, admitted-is, placed-start, rows-at}
+use mathlib.Core.Path.{sym, ap, _∙_}
+use mathlib.Core.Bool.{Bool}
+use borrow.Author.Tests.{not-true, not-false}
 use borrow.Author.Needs.{needs}
+use Rattle.search.specs.Rows.{outcome}
+use Rattle.search.proofs.Laws.{order-given}
 use Rattle.search.proofs.order_in.Statement.{statement}
 use Rattle.search.proofs.order_in.Tie as tie
 
 returns : tie.Need-returns
-returns c = λ b r e. let a = c .before .before .args in
-    let n : c .before .count .result ≡ length (admitted b) = c .before .count .ensures .0
-    ∙ ap (λ (x : ProgramSet). length (keep (hasProgram x) everyone)) e ∙ ap length (sym (admitted-is b)) in
-    c .search-rest .ensures ∙ rw (n, e) (ap (placed (replicate 32 0) 0) (carried-is b (a .rows .now) (rows-at b (a .rows .now) r))
-    ∙ placed-start (carried b))
+returns c = λ b f e. let a = c .before .before .before .before .args in let n = c .before .before .before .count in let s = c .before .search-rest in
+    ap (λ (x : Bool). outcome x (n .result) (s .last .1 .1 .1 .0)) (sym (not-true (s .result) (c .if1 .taken)))
+    ∙ order-given b (a .rows .now) (s .last .1 .1 .1 .0) (a .left) (n .result) (s .result) f e (n .ensures .0) (s .ensures)
+
+returns-2 : tie.Need-returns-2
+returns-2 c = λ b f e. let a = c .before .before .before .before .args in let n = c .before .before .before .count in let s = c .before .search-rest in
+    ap (λ (x : Bool). outcome x (n .result) (s .last .1 .1 .1 .0)) (sym (not-false (s .result) (c .if1 .left)))
+    ∙ order-given b (a .rows .now) (s .last .1 .1 .1 .0) (a .left) (n .result) (s .result) f e (n .ensures .0) (s .ensures)
 
 pub order-in-spec : {M : Type 1} → statement M
-order-in-spec = tie.close (tie.spec (λ c κs. search needs) (λ c. search needs) (λ c κs. search needs) returns)
+order-in-spec = tie.close (tie.spec (λ c κs. search needs) (λ c. search needs) (λ c κs. search needs) returns returns-2)

@@ -11,6 +11,7 @@ use Rattle.rules.specs.Orders.{carried}
 use Rattle.rules.specs.Soundness.{noConflict, lineSound, sound}
 use Rattle.tables.specs.declared.ProgramSet.{ProgramSet}
 use Rattle.tables.specs.ProgramSets.{hasProgram}
+use Rattle.search.specs.declared.Uses.{Uses}
 use Rattle.sound.specs.Parts.{isSoundAt, standsAt, waiterAt}
 use Rattle.sound.proofs.Laws.{line-waiters}
 use Rattle.sound.proofs.Taken.{line-packed}
@@ -44,10 +45,10 @@ abbrev b3 : tie.Else3 → Board
 b3 c = b2 (c .before)
 
 abbrev b4 : tie.Else4 → Board
-b4 c = b3 (c .before .before .before .before)
+b4 c = b3 (c .before .before .before)
 
 abbrev b5 : tie.Else5 → Board
-b5 c = b4 (c .before .before .before .before)
+b5 c = b4 (c .before .before .before)
 
 abbrev b6 : tie.Else6 → Board
 b6 c = b5 (c .before .before)
@@ -66,24 +67,25 @@ past3 : (c : tie.Else3) → first3 (b3 c) ≡ true
 past3 c = let s = c .before .before .before .before .before in
     and-both (first2 (b3 c)) (found (carried (b3 c))) (past2 (c .before)) (sym (s .pre .3) ∙ not-false (s .args .ordered) (c .if3 .left))
 
-waiting-line : (c : tie.After-line-sound) → let b = b3 (c .before .before .before) in
+waiting-line : (c : tie.After-line-sound) → let b = b3 (c .before .before) in
     c .line-sound .result ≡ lineSound (b .waiting) (standsAt b false)
-waiting-line c = let b = b3 (c .before .before .before) in c .line-sound .ensures
-    ∙ ap (λ (s : ProgramSet). lineSound (b .waiting) (hasProgram s)) (c .before .standing-set .ensures)
+waiting-line c = let b = b3 (c .before .before) in let s = c .before .before .before .before .before .before .before in c .line-sound .ensures
+    ∙ ap (λ (s : ProgramSet). lineSound (b .waiting) (hasProgram s)) (s .pre .4)
     ∙ line-packed (b .waiting) (standsAt b false)
 
 past4 : (c : tie.Else4) → first4 (b4 c) ≡ true
-past4 c = and-both (first3 (b4 c)) (lineSound (b4 c .waiting) (standsAt (b4 c) false)) (past3 (c .before .before .before .before))
+past4 c = and-both (first3 (b4 c)) (lineSound (b4 c .waiting) (standsAt (b4 c) false)) (past3 (c .before .before .before))
     (sym (waiting-line (c .before)) ∙ not-false (c .before .line-sound .result) (c .if4 .left))
 
-entry-line : (c : tie.After-line-sound2) → let b = b4 (c .before .before .before) in
+entry-line : (c : tie.After-line-sound2) → let b = b4 (c .before .before) in
     c .line-sound2 .result ≡ lineSound (b .entry) (standsAt b true)
-entry-line c = let b = b4 (c .before .before .before) in c .line-sound2 .ensures
-    ∙ ap (λ (s : ProgramSet). lineSound (b .entry) (hasProgram s)) (c .before .standing-set2 .ensures)
+entry-line c = let b = b4 (c .before .before) in
+    let s = c .before .before .before .before .before .before .before .before .before .before in c .line-sound2 .ensures
+    ∙ ap (λ (s : ProgramSet). lineSound (b .entry) (hasProgram s)) (s .pre .5)
     ∙ line-packed (b .entry) (standsAt b true)
 
 past5 : (c : tie.Else5) → first5 (b5 c) ≡ true
-past5 c = and-both (first4 (b5 c)) (lineSound (b5 c .entry) (standsAt (b5 c) true)) (past4 (c .before .before .before .before))
+past5 c = and-both (first4 (b5 c)) (lineSound (b5 c .entry) (standsAt (b5 c) true)) (past4 (c .before .before .before))
     (sym (entry-line (c .before)) ∙ not-false (c .before .line-sound2 .result) (c .if5 .left))
 
 past6 : (c : tie.Else6) → first6 (b6 c) ≡ true
@@ -111,20 +113,20 @@ returns-3 c = let s = c .before .before .before .before .before in
 returns-4 : tie.Need-returns-4
 unfolding sound
 returns-4 c = rw (
-  past3 (c .before .before .before .before),
+  past3 (c .before .before .before),
   sym (waiting-line (c .before)) ∙ not-true (c .before .line-sound .result) (c .if4 .taken),
 )
 
 returns-5 : tie.Need-returns-5
 unfolding sound
 returns-5 c = rw (
-  past4 (c .before .before .before .before),
+  past4 (c .before .before .before),
   sym (entry-line (c .before)) ∙ not-true (c .before .line-sound2 .result) (c .if5 .taken),
 )
 
 waiters-sound-requires : tie.Need-waiters-sound-requires
-waiters-sound-requires c κs = let l = c .before .before .before .before in
-    let e = l .before .before .before .before in let s = e .before .before .before .before .before in (
+waiters-sound-requires c κs = let l = c .before .before .before in
+    let e = l .before .before .before in let s = e .before .before .before .before .before in (
       record {
         in-sets = s .pre .0;
         in-rows = s .pre .1;
@@ -148,13 +150,15 @@ returns-7 c = let e = c .before .before .before in
     rw (past6 e, eq-eqb (b6 e .favoured) 0 (c .before .if7 .taken)) (c .none-favoured .ensures)
 
 some-favoured-requires : tie.Need-some-favoured-requires
-some-favoured-requires c κs = let l = c .before .before .before .before .before .before .before .before in
-    l .before .before .standing-set .ensures
+some-favoured-requires c κs =
+    let e = c .before .before .before .before .before .before .before .before .before .before .before in
+    let s = e .before .before .before .before .before in
+    (s .pre .4, ap (λ (u : Uses). u .admitted) (s .pre .2))
 
 returns-8 : tie.Need-returns-8
 unfolding sound
-returns-8 c = let e = c .before .before .before in
-    rw (past6 e, ne-eqb (b6 e .favoured) 0 (c .before .if7 .left)) (c .some-favoured .ensures)
+returns-8 c = let e = c .before .before .before .before in
+    rw (past6 e, ne-eqb (b6 e .favoured) 0 (c .before .before .if7 .left)) (c .some-favoured .ensures)
 
 pub is-sound-by-spec : {M : Type 1} → statement M
 is-sound-by-spec =
@@ -166,9 +170,7 @@ is-sound-by-spec =
     returns-2
     returns-3
     (λ c κs. search needs)
-    (λ c κs. search needs)
     returns-4
-    (λ c κs. search needs)
     (λ c κs. search needs)
     returns-5
     waiters-sound-requires

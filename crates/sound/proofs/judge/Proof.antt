@@ -1,6 +1,5 @@
 -- `judge` meets its contract. Assumes nothing.
 use mathlib.Core.Path.{_≡_, ap, _∙_}
-use Rattle.search.specs.declared.Uses.{Uses}
 use Rattle.search.specs.declared.Order.{Order}
 use Rattle.search.specs.Rows.{isFound, asOrder}
 use Rattle.rules.specs.Orders.{carried}
@@ -9,26 +8,33 @@ use borrow.Author.Needs.{needs}
 use Rattle.sound.proofs.judge.Statement.{statement}
 use Rattle.sound.proofs.judge.Tie as tie
 
-order : (c : tie.After-order-in) → c .order-in .result ≡ asOrder (carried (c .before .before .before .before .before .before .before .before .args .b))
-order c = let u = c .before .before .before in let f = u .before .before in
-    c .order-in .ensures (f .before .before .before .args .b) (f .fill .ensures .1) (ap (λ (z : Uses). z .admitted) (u .uses-of .ensures))
+order : (c : tie.After-order-in) → c .order-in .result
+    ≡ asOrder (carried (c .before .before .before .before .before .before .before .before .before .before .args .b))
+order c = let a = c .before .before .before .before .before .before in let f = a .before in
+    c .order-in .ensures (f .before .before .before .args .b) (f .fill .ensures .1) (a .admitted-set .ensures)
 
 is-sound-by-requires : tie.Need-is-sound-by-requires
-is-sound-by-requires c κs = let i = c .before .before in let o = i .before in let u = o .before .before .before in let f = u .before .before in
-    let b = f .before .before .before .args .b in (
+is-sound-by-requires c κs = let h = c .before .before in let v = h .before in let i = v .before in let o = i .before in let r = o .before .before in let w = r .before .before in
+    let a = w .before .before in let f = a .before in let b = f .before .before .before .args .b in (
       f .fill .ensures .0,
       f .fill .ensures .1,
-      u .uses-of .ensures,
+      rw (a .admitted-set .ensures, w .opened .ensures, r .opened2 .ensures),
       i .is-found .ensures ∙ ap (λ (z : Order). isFound (z .kind)) (order o) ∙ has-found (carried b),
+      v .standing-set .ensures,
+      h .standing-set2 .ensures,
     )
 
 returns : tie.Need-returns
-returns c = (c .is-sound-by .ensures, order (c .before .before .before .before))
+returns c = (c .is-sound-by .ensures, order (c .before .before .before .before .before .before))
 
 pub judge-spec : {M : Type 1} → statement M
 judge-spec =
     tie.close
     (tie.spec
+    (λ c κs. search needs)
+    (λ c κs. search needs)
+    (λ c κs. search needs)
+    (λ c κs. search needs)
     (λ c κs. search needs)
     (λ c κs. search needs)
     (λ c κs. search needs)

@@ -2,6 +2,7 @@
 use mathlib.Core.Path.{_≡_, sym, _∙_}
 use mathlib.Core.Bool.{not, _&&_, _||_}
 use Prim.Native.Nat.{_<_, _^_}
+use lib.ListN.{length}
 use borrow.Author.Tests.{not-true, not-false}
 use borrow.Author.Needs.{needs}
 use Rattle.rules.specs.Lists.{all, names, listed, distinct}
@@ -9,24 +10,29 @@ use Rattle.rules.specs.Boards.{isProgram, everyone}
 use Rattle.rules.specs.Soundness.{lineSound}
 use Rattle.tables.specs.ProgramSets.{hasProgram}
 use Rattle.sound.proofs.Taken.{takes-is}
+use Rattle.sound.proofs.Blank.{blank-line}
 use Rattle.sound.proofs.line_sound.Statement.{statement}
 use Rattle.sound.proofs.line_sound.Tie as tie
 
 -- the names are the programs of the set, each once
-right : (c : tie.After-takes-all) → (all (λ p. isProgram p && hasProgram (c .before .args .set) p) (names (c .before .args .line))
-    && all (λ p. not (hasProgram (c .before .args .set) p) || listed p (names (c .before .args .line))) everyone
-    && distinct (names (c .before .args .line))) ≡ c .takes-all .result
-right c = let a = c .before .args in let h : a .set .bits < 2 ^ 32 = search needs in
+right : (c : tie.After-takes-all) → (all (λ p. isProgram p && hasProgram (c .before .before .before .args .set) p) (names (c .before .before .before .args .line))
+    && all (λ p. not (hasProgram (c .before .before .before .args .set) p) || listed p (names (c .before .before .before .args .line))) everyone
+    && distinct (names (c .before .before .before .args .line))) ≡ c .takes-all .result
+right c = let a = c .before .before .before .args in let h : a .set .bits < 2 ^ 32 = search needs in
     sym (c .takes-all .ensures ∙ takes-is (names (a .line)) (a .set) h)
 
 returns : tie.Need-returns
-unfolding lineSound
-returns c = rw (right (c .before) ∙ not-true (c .before .takes-all .result) (c .if1 .taken))
+returns c = let a = c .before .before .before .args in let h : a .set .bits < 2 ^ 32 = search needs in let n : length (a .line) ≡ 32 = search needs in
+    blank-line (a .line) (a .set) h n (sym (c .before .before .is-blank .ensures) ∙ c .before .if1 .taken)
 
 returns-2 : tie.Need-returns-2
 unfolding lineSound
-returns-2 c = rw (right (c .before .before) ∙ not-false (c .before .before .takes-all .result) (c .before .if1 .left))
+returns-2 c = rw (right (c .before) ∙ not-true (c .before .takes-all .result) (c .if2 .taken))
+
+returns-3 : tie.Need-returns-3
+unfolding lineSound
+returns-3 c = rw (right (c .before .before) ∙ not-false (c .before .before .takes-all .result) (c .before .if2 .left))
     (c .is-zero-after .ensures)
 
 pub line-sound-spec : {M : Type 1} → statement M
-line-sound-spec = tie.close (tie.spec (λ c κs. search needs) returns (λ c κs. search needs) returns-2)
+line-sound-spec = tie.close (tie.spec (λ c κs. search needs) returns (λ c κs. search needs) returns-2 (λ c κs. search needs) returns-3)

@@ -4,7 +4,10 @@ use mathlib.Core.Bool.{false, _&&_}
 use Prim.Native.Nat.{_+_}
 use borrow.Author.Tests.{not-true, not-false, eq-eqb, ne-eqb}
 use borrow.Author.Needs.{needs}
-use Rattle.rules.specs.Boards.{isProgram}
+use lib.ListN.{length}
+use Rattle.rules.specs.Lists.{keep}
+use Rattle.rules.specs.Boards.{isProgram, everyone, admitted}
+use Rattle.search.proofs.Laws.{admitted-is}
 use Rattle.rules.specs.Soundness.{someFavoured}
 use Rattle.tables.specs.declared.ProgramSet.{ProgramSet}
 use Rattle.tables.specs.ProgramSets.{hasProgram}
@@ -17,8 +20,13 @@ use Rattle.sound.proofs.some_favoured.Tie as tie
 right : (c : tie.After-has) → c .has .result ≡ (isProgram (c .before .args .b .favoured)
     && standsAt (c .before .args .b) false (c .before .args .b .favoured))
 right c = let a = c .before .args in c .has .ensures
-    ∙ ap (λ (s : ProgramSet). hasProgram s (a .b .favoured)) (c .before .pre)
+    ∙ ap (λ (s : ProgramSet). hasProgram s (a .b .favoured)) (c .before .pre .0)
     ∙ packed-is (standsAt (a .b) false) (a .b .favoured)
+
+-- the programs of the set are the admitted ones
+counted : (c : tie.After-count) → length (admitted (c .before .before .before .args .b)) ≡ c .count .result
+counted c = let h = c .before .before .before in
+    sym (c .count .ensures .0 ∙ ap (λ (s : ProgramSet). length (keep (hasProgram s) everyone)) (h .pre .1) ∙ ap length (sym (admitted-is (h .args .b))))
 
 returns : tie.Need-returns
 unfolding someFavoured
@@ -29,8 +37,8 @@ unfolding someFavoured
 returns-2 c = let h = c .before .before .before .before in let b = h .before .args .b in
     rw (
       sym (right h) ∙ not-false (h .has .result) (c .before .before .before .if1 .left),
-      ← c .before .before .admitted-count .ensures .0,
-      ne-eqb (b .leaves + c .before .before .admitted-count .result) (b .initial) (c .if2 .taken),
+      counted (c .before .before),
+      ne-eqb (b .leaves + c .before .before .count .result) (b .initial) (c .if2 .taken),
     )
 
 returns-3 : tie.Need-returns-3
@@ -38,8 +46,8 @@ unfolding someFavoured
 returns-3 c = let h = c .before .before .before .before in let b = h .before .args .b in
     rw (
       sym (right h) ∙ not-false (h .has .result) (c .before .before .before .if1 .left),
-      ← c .before .before .admitted-count .ensures .0,
-      eq-eqb (b .leaves + c .before .before .admitted-count .result) (b .initial) (c .if2 .left),
+      counted (c .before .before),
+      eq-eqb (b .leaves + c .before .before .count .result) (b .initial) (c .if2 .left),
     )
 
 pub some-favoured-spec : {M : Type 1} → statement M

@@ -1,18 +1,18 @@
 -- `add_holder` meets its contract. Assumes nothing.
-use mathlib.Core.Path.{refl, ap, _∙_}
-use Prim.Native.Nat.{_+_, _-_, _≤_}
+use mathlib.Core.Path.{_≡_, refl, ap, _∙_}
+use Prim.Native.Nat.{_+_, _-_, _≤_, _<_}
 use native.Mathlib.Omega.{arith}
 use borrow.Author.Needs.{needs}
 use Rattle.tables.specs.Tables.{joined}
-use Rattle.tables.proofs.Laws.{JoinedTo, joined-more, joined-none, joined-done, rowIn}
+use Rattle.tables.proofs.Laws.{JoinedTo, joined-more, joined-none, joined-rest, joined-done, rowIn, empty-holds}
 use Rattle.tables.proofs.add_holder.Statement.{statement}
 use Rattle.tables.proofs.add_holder.Tie as tie
 
 abbrev Inv-loop : tie.InvT-loop
-Inv-loop sets i rows₀ w r own j₀ rows j = (j ≤ 32) × JoinedTo sets i rows₀ j rows
+Inv-loop sets i top rows₀ w r own j₀ rows j = (j ≤ top) × JoinedTo sets i rows₀ j rows
 
 abbrev μ-loop : tie.MeasureT-loop
-μ-loop sets i rows₀ w r own j₀ rows j = 32 - j
+μ-loop sets i top rows₀ w r own j₀ rows j = top - j
 
 returns : tie.Need-returns Inv-loop μ-loop
 returns c = let a = c .before .before .before .args in joined-none (a .sets .now) (a .i) (a .rows .now) (search needs) (c .if1 .taken)
@@ -30,8 +30,10 @@ loop-again c = let s = c .before .before .before .before .before .before in let 
 
 returns-2 : tie.Need-returns-2 Inv-loop μ-loop
 returns-2 c = let a = c .before .before .before .before .before .before .args in let l = c .before .loop in
-    joined-done (a .sets .now) (a .i) (a .rows .now) (l .rows) (search needs)
-    (l .inv .1 .0, (λ j m. l .inv .1 .1 j (omega arith)), λ j m. l .inv .1 .2 j (omega arith))
+    let h : a .i < 32 = search needs in let z : l .j ≡ a .top = omega arith in
+    joined-done (a .sets .now) (a .i) (a .rows .now) (l .rows) h
+    (joined-rest (a .sets .now) (a .i) (a .rows .now) (l .j) (l .rows) (omega arith)
+    (λ j k m. empty-holds (a .sets .now) (a .top) (a .i) j (c .before .before .before .before .before .before .pre .2) (omega arith) m) (l .inv .1))
 
 pub add-holder-spec : {M : Type 1} → statement M
 add-holder-spec =
