@@ -10,12 +10,13 @@ use native.Mathlib.Numerals.{add-one}
 use native.Mathlib.Omega.{arith}
 use lib.ListN.{length, getD, set, drop, length-append}
 use lib.Seq.{sets}
-use borrow.Author.Tests.{eq-eqb, ne-eqb}
-use Rattle.files.proofs.Tests.{by-option}
+use lib.Dec.{eqb}
+use borrow.Author.Tests.{eq-eqb, ne-eqb, eqb-true, eqb-false}
+use Rattle.files.proofs.Tests.{by-option, by-test}
 use Rattle.rules.specs.declared.Program.{Program}
 use Rattle.rules.specs.declared.Board.{Board}
 use Rattle.rules.specs.declared.Word.{Word}
-use Rattle.rules.specs.Lists.{all, first, names}
+use Rattle.rules.specs.Lists.{all, first, names, padded}
 use Rattle.rules.specs.Boards.{at, awaited, isProgram, isWaiting, hasOpen, setEntry}
 use Rattle.rules.specs.Orders.{withGiven, inUse, canGive}
 use Rattle.rules.specs.Settling.{Step, line, still, andThen, unfavour, resume, tryGive, pass, candidate, favour, runHeld, choose, settle}
@@ -296,3 +297,35 @@ module _ (w : Written) where
   unfolding settle
   settle-is s e = ap (λ (x : Written). after x (choose (x .board))) e ∙ after-then w (pass (names (w .board .waiting))
       (w .board)) (choose (pass (names (w .board .waiting)) (w .board) .board))
+
+-- nobody waits and nobody is held: nothing is done
+none-favoured : (b : Board) → Loose b → names (b .waiting) ≡ [] → b .favoured ≡ 0
+none-favoured b k e = by-test (eqb (b .favoured) 0) (λ t. eqb-true (b .favoured) 0 t)
+    (λ t. let (i, u) = k .fav-waits (eqb-false (b .favoured) 0 t) in
+    absurd (List·Memᴰ·not-nil (subst (λ (l : List ℕ). b .favoured ∈ l) e (k .waits .on (b .favoured) i u))))
+
+-- the board with this as its entry line
+abbrev entering : Board → List ℕ → Board
+entering b l = record { programs = b .programs; waiting = b .waiting; entry = l; favoured = b .favoured; initial = b .initial; leaves = b .leaves }
+
+same-entry : (b : Board) → Loose b → names (b .entry) ≡ [] → setEntry b [] ≡ b
+same-entry b k e = ap (λ (l : List ℕ). entering b l) (sym (k .helds .form ∙ ap (padded 0) e))
+
+nobody-unused : (b : Board) → names (b .waiting) ≡ [] → candidate b ≡ none
+unfolding candidate
+nobody-unused b e = first-none-left (unused b) (names (b .waiting)) e
+
+choose-nobody : (w : Written) → Loose (w .board) → names (w .board .waiting) ≡ [] → names (w .board .entry) ≡ []
+    → choose (w .board) ≡ still (w .board)
+unfolding runHeld
+choose-nobody w k e d = choose-held w (none-favoured (w .board) k e) (nobody-unused (w .board) e)
+    ∙ ap (λ (l : List ℕ). runHeld l (setEntry (w .board) [])) d ∙ ap still (same-entry (w .board) k d)
+
+settle-still : (w : Written) → Loose (w .board) → names (w .board .waiting) ≡ [] → names (w .board .entry) ≡ []
+    → settle (w .board) ≡ still (w .board)
+unfolding settle pass
+settle-still w k e d = ap (λ (l : List ℕ). let s = pass l (w .board) in andThen (s .lines) (choose (s .board))) e ∙ choose-nobody w k e d
+
+pub settle-nobody : (w : Written) → Loose (w .board) → names (w .board .waiting) ≡ [] → names (w .board .entry) ≡ []
+    → w ≡ after w (settle (w .board))
+settle-nobody w k e d = after-still w ∙ ap (after w) (sym (settle-still w k e d))

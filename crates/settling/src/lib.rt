@@ -289,11 +289,28 @@ fn choose_next(w: Written) -> Written
     favour_waiter(w, p)
 }
 
-// Settle: through the waiting line once from the oldest, then favour or run those held.
-pub fn settled(w: Written) -> Written
+// Settle, where somebody waits or is held.
+fn settle_lines(w: Written) -> Written
     requires { ⌜ Loose (w .board) × Fits w (settle (w .board)) ⌝ }
     ensures { λ r. ⌜ r ≡ after w (settle (w .board)) ⌝ }
 {
     let s = pass_line(w);
     choose_next(s)
+}
+
+// Settle: through the waiting line once from the oldest, then favour or run those held.
+pub fn settled(w: Written) -> Written
+    requires { ⌜ Loose (w .board) × Fits w (settle (w .board)) ⌝ }
+    ensures { λ r. ⌜ r ≡ after w (settle (w .board)) ⌝ }
+{
+    let b = w.board;
+    let waiting = b.waiting;
+    if waiting[0] != 0 {
+        return settle_lines(w);
+    }
+    let entry = b.entry;
+    if entry[0] != 0 {
+        return settle_lines(w);
+    }
+    w
 }
