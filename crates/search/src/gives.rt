@@ -2,11 +2,12 @@
 use crate::Uses;
 use files::FileSet;
 use rules::Board;
+use tables::ProgramSet;
 ghost use mathlib.Core.Path.{_≡_};
 ghost use Prim.Native.Nat.{_≤_};
 ghost use Rattle.tables.specs.Tables.{openedFrom};
 ghost use Rattle.search.specs.Rows.{admittedSet};
-ghost use Rattle.search.specs.Gives.{usesOf, UsedFor, GivenFor};
+ghost use Rattle.search.specs.Gives.{usesOf, UsedFor, GivenFor, usesIn, SafeBy, GivenBy};
 
 // Who is admitted, and what is open.
 pub fn uses_of(b: Board, sets: &[u64; 128]) -> Uses
@@ -50,4 +51,59 @@ pub fn can_give(sets: &[u64; 128], rows: &[u32; 32], u: Uses, p: u8, f: u8) -> b
     }
     let admitted = u.admitted;
     crate::is_safe(sets, rows, admitted, p, f)
+}
+
+// ---- by the sets alone
+
+// What is open, by the sets, with these admitted.
+pub fn uses_in(admitted: ProgramSet, sets: &[u64; 128]) -> Uses
+    ensures { λ r. ⌜ r ≡ usesIn admitted (now (sets .entry)) ⌝ }
+{
+    let written = tables::opened(sets, 64);
+    let read = tables::opened(sets, 96);
+    Uses {
+        admitted,
+        written,
+        read,
+    }
+}
+
+// On a board that has an order: whether an order comes back with f given to p. Those that hold p back, directly or through
+// others, are gathered round by round, until one claims f so that p would hold it back, or there are no more.
+pub fn is_safe_by(sets: &[u64; 128], admitted: ProgramSet, p: u8, f: u8) -> bool
+    requires { ⌜ (1 ≤ p) × (p ≤ 32) ⌝ }
+    ensures { λ r. ⌜ SafeBy (now (sets .entry)) admitted p f r ⌝ }
+{
+    let i = (p - 1) as usize;
+    let v = sets[i];
+    let q = sets[32 + i];
+    let own = FileSet { bits: v };
+    let both = own.has(f);
+    let others = admitted.without(p);
+    let first = tables::reach::holders_by(sets, v, q);
+    let mut seen = ProgramSet::EMPTY;
+    let mut next = first.and(others);
+    while next.bits != seen.bits {
+        seen = next;
+        let w = tables::reach::files_of(sets, 0, seen);
+        let r = tables::reach::files_of(sets, 32, seen);
+        if tables::reach::is_claimed(FileSet { bits: w }, FileSet { bits: r }, f, both) {
+            return false;
+        }
+        let more = tables::reach::holders_by(sets, v | w, q | r);
+        next = seen.or(more.and(others));
+    }
+    true
+}
+
+// Whether an open would give f, which p has not open, to p, on a board that has an order and no conflict.
+pub fn can_give_by(sets: &[u64; 128], u: Uses, p: u8, f: u8) -> bool
+    requires { ⌜ (1 ≤ p) × (p ≤ 32) ⌝ }
+    ensures { λ r. ⌜ GivenBy (now (sets .entry)) u p f r ⌝ }
+{
+    if in_use(sets, u, p, f) {
+        return false;
+    }
+    let admitted = u.admitted;
+    is_safe_by(sets, admitted, p, f)
 }

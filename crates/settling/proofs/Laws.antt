@@ -8,15 +8,16 @@ use Prim.Native.Nat.{ℕ, suc, _+_, _-_, _≤_, _<_}
 use native.Mathlib.Nat.{add-zero, add-assoc}
 use native.Mathlib.Numerals.{add-one}
 use native.Mathlib.Omega.{arith}
-use lib.ListN.{length, getD, set, drop, length-append}
-use lib.Seq.{sets}
-use borrow.Author.Tests.{eq-eqb, ne-eqb}
-use Rattle.files.proofs.Tests.{by-option}
+use lib.ListN.{length, getD, set, drop, length-append, length-set}
+use lib.Seq.{sets, getD-set-same, getD-set-other}
+use lib.Dec.{eqb}
+use borrow.Author.Tests.{eq-eqb, ne-eqb, eqb-true, eqb-false}
+use Rattle.files.proofs.Tests.{by-option, by-test}
 use Rattle.rules.specs.declared.Program.{Program}
 use Rattle.rules.specs.declared.Board.{Board}
 use Rattle.rules.specs.declared.Word.{Word}
-use Rattle.rules.specs.Lists.{all, first, names}
-use Rattle.rules.specs.Boards.{at, awaited, isProgram, isWaiting, hasOpen, setEntry}
+use Rattle.rules.specs.Lists.{all, first, names, padded}
+use Rattle.rules.specs.Boards.{at, awaited, awaitedOf, isProgram, isWaiting, hasOpen, setEntry}
 use Rattle.rules.specs.Orders.{withGiven, inUse, canGive}
 use Rattle.rules.specs.Settling.{Step, line, still, andThen, unfavour, resume, tryGive, pass, candidate, favour, runHeld, choose, settle}
 use Rattle.theory.specs.Lists.{_∈_, Pairs, here, each-all, first-some}
@@ -24,13 +25,13 @@ use Rattle.theory.specs.Programs.{Is, of-is}
 use Rattle.theory.specs.Loose.{waitsIn, Loose}
 use Rattle.theory.specs.Settling.{pass-passed}
 use Rattle.theory.specs.Sound.{loose-apart, loose-order, loose-waiter}
-use Rattle.tables.specs.Tables.{SetsOf, RowsOf}
+use Rattle.tables.specs.Tables.{inPlace, SetsOf}
 use Rattle.search.specs.declared.Uses.{Uses}
-use Rattle.search.specs.Gives.{usesOf, UsedFor, GivenFor}
+use Rattle.search.specs.Gives.{usesOf, UsedFor, GivenBy}
 use Rattle.lines.proofs.Laws.{names-on, names-end}
 use Rattle.lines.proofs.Laws.{names-left}
 use Rattle.settling.specs.declared.Written.{Written}
-use Rattle.settling.specs.Writing.{Ready, NextGiven, after, Fits, admitOne, unused}
+use Rattle.settling.specs.Writing.{Ready, NextGiven, after, Fits, admitOne, unused, AskedTo, Asks}
 
 -- ---- lines after lines
 
@@ -144,6 +145,19 @@ next-none b l from k o n r e d = let z : names (drop k l) ≡ names (drop 32 l) 
   gives = λ h. absurd (omega arith);
 }
 
+-- one file more that is waited for
+pub asked-more : (b : Board) (i : ℕ) (asked : List ℕ) (f : ℕ) → i < 32 → length asked ≡ 32 → AskedTo b i asked
+    → f ≡ awaitedOf (inPlace b i .standing) → AskedTo b (i + 1) (set asked i f)
+asked-more b i asked f h n a e j m = by-test (eqb j i)
+    (λ t. let z : j ≡ i = eqb-true j i t in rw z (getD-set-same asked i f 0 (omega arith) ∙ e))
+    (λ t. let z : j ≢ i = eqb-false j i t in getD-set-other asked i j f 0 z ∙ a j (omega arith))
+
+-- from one place to the other nobody is given a file
+abbrev pub Over : List ℕ → List ℕ → Uses → List ℕ → ℕ → ℕ → Type 0
+Over sets asked u l from k = (b : Board) → SetsOf b sets → u ≡ usesOf b sets → Ready b (names (drop from l))
+    → Asks b (names (drop from l)) asked
+    → Ready b (names (drop k l)) × Asks b (names (drop k l)) asked × (pass (names (drop from l)) b ≡ pass (names (drop k l)) b)
+
 module _ (b : Board) (l : List ℕ) (k : ℕ) (h : k < length l) (ne : getD l k 0 ≢ 0) (r : Ready b (names (drop k l))) where
   ready-at : Ready b (getD l k 0 ∷ names (drop (suc k) l))
   ready-at = subst (Ready b) (names-on l k h ne) r
@@ -154,13 +168,19 @@ module _ (b : Board) (l : List ℕ) (k : ℕ) (h : k < length l) (ne : getD l k 
   pub waiter-range : (1 ≤ getD l k 0) × (getD l k 0 ≤ 32)
   waiter-range = (waiter-at .0 .least, waiter-at .0 .most)
 
+  waiter-in : getD l k 0 ∈ names (drop k l)
+  waiter-in = subst (λ (ps : List ℕ). getD l k 0 ∈ ps) (sym (names-on l k h ne)) here
+
   -- what the arrays say of the waiter is what the rules say
-  pub waiter-can : (sets rows : List ℕ) (u : Uses) (f : ℕ) (t : Bool) → SetsOf b sets → RowsOf b rows → u ≡ usesOf b sets
-      → f ≡ awaited b (getD l k 0) → GivenFor sets rows u (getD l k 0) f t → t ≡ canGive b (getD l k 0) (awaited b (getD l k 0))
-  waiter-can sets rows u f t x y z e g =
-      let m = loose-waiter b (getD l k 0) (ready-at .0) (waiter-at .0) (waiter-at .1) in
-      g b x y z (loose-apart b (ready-at .0)) (loose-order b (ready-at .0)) (m .0) (ap (hasOpen (at b (getD l k 0))) e ∙ m .1)
+  pub waiter-can : (sets asked : List ℕ) (u : Uses) (t : Bool) → SetsOf b sets → u ≡ usesOf b sets → Asks b (names (drop k l)) asked
+      → GivenBy sets u (getD l k 0) (getD asked (getD l k 0 - 1) 0) t → t ≡ canGive b (getD l k 0) (awaited b (getD l k 0))
+  waiter-can sets asked u t x z a g =
+      let m = loose-waiter b (getD l k 0) (ready-at .0) (waiter-at .0) (waiter-at .1) in let e = a (getD l k 0) waiter-in in
+      g b x z (loose-apart b (ready-at .0)) (loose-order b (ready-at .0)) (m .0) (ap (hasOpen (at b (getD l k 0))) e ∙ m .1)
       ∙ ap (canGive b (getD l k 0)) e
+
+  pub asks-left : (asked : List ℕ) → Asks b (names (drop k l)) asked → Asks b (names (drop (k + 1) l)) asked
+  asks-left asked a = rw (add-one k) (λ p m. a p (subst (λ (ps : List ℕ). p ∈ ps) (sym (names-on l k h ne)) (List·Memᴰ·tail m)))
 
   pub waiter-used : (sets : List ℕ) (u : Uses) (f : ℕ) (t : Bool) → SetsOf b sets → u ≡ usesOf b sets
       → f ≡ awaited b (getD l k 0) → UsedFor sets u (getD l k 0) f t → t ≡ inUse b (getD l k 0) (awaited b (getD l k 0))
@@ -296,3 +316,35 @@ module _ (w : Written) where
   unfolding settle
   settle-is s e = ap (λ (x : Written). after x (choose (x .board))) e ∙ after-then w (pass (names (w .board .waiting))
       (w .board)) (choose (pass (names (w .board .waiting)) (w .board) .board))
+
+-- nobody waits and nobody is held: nothing is done
+none-favoured : (b : Board) → Loose b → names (b .waiting) ≡ [] → b .favoured ≡ 0
+none-favoured b k e = by-test (eqb (b .favoured) 0) (λ t. eqb-true (b .favoured) 0 t)
+    (λ t. let (i, u) = k .fav-waits (eqb-false (b .favoured) 0 t) in
+    absurd (List·Memᴰ·not-nil (subst (λ (l : List ℕ). b .favoured ∈ l) e (k .waits .on (b .favoured) i u))))
+
+-- the board with this as its entry line
+abbrev entering : Board → List ℕ → Board
+entering b l = record { programs = b .programs; waiting = b .waiting; entry = l; favoured = b .favoured; initial = b .initial; leaves = b .leaves }
+
+same-entry : (b : Board) → Loose b → names (b .entry) ≡ [] → setEntry b [] ≡ b
+same-entry b k e = ap (λ (l : List ℕ). entering b l) (sym (k .helds .form ∙ ap (padded 0) e))
+
+nobody-unused : (b : Board) → names (b .waiting) ≡ [] → candidate b ≡ none
+unfolding candidate
+nobody-unused b e = first-none-left (unused b) (names (b .waiting)) e
+
+choose-nobody : (w : Written) → Loose (w .board) → names (w .board .waiting) ≡ [] → names (w .board .entry) ≡ []
+    → choose (w .board) ≡ still (w .board)
+unfolding runHeld
+choose-nobody w k e d = choose-held w (none-favoured (w .board) k e) (nobody-unused (w .board) e)
+    ∙ ap (λ (l : List ℕ). runHeld l (setEntry (w .board) [])) d ∙ ap still (same-entry (w .board) k d)
+
+settle-still : (w : Written) → Loose (w .board) → names (w .board .waiting) ≡ [] → names (w .board .entry) ≡ []
+    → settle (w .board) ≡ still (w .board)
+unfolding settle pass
+settle-still w k e d = ap (λ (l : List ℕ). let s = pass l (w .board) in andThen (s .lines) (choose (s .board))) e ∙ choose-nobody w k e d
+
+pub settle-nobody : (w : Written) → Loose (w .board) → names (w .board .waiting) ≡ [] → names (w .board .entry) ≡ []
+    → w ≡ after w (settle (w .board))
+settle-nobody w k e d = after-still w ∙ ap (after w) (sym (settle-still w k e d))

@@ -1,6 +1,6 @@
 -- A board with the lines written so far, and what a step of the rules makes of it.
 -- Assumes nothing.
-use Prim.Native.Nat.{ℕ, _+_, _≤_, _<_}
+use Prim.Native.Nat.{ℕ, _+_, _-_, _≤_, _<_}
 use mathlib.Core.Path.{_≡_}
 use mathlib.Core.Logic.{_≢_}
 use mathlib.Core.Bool.{Bool, true, not}
@@ -8,15 +8,19 @@ use mathlib.Core.List.{List, [], _∷_}
 use lib.ListN.{length, getD, drop}
 use lib.Seq.{sets}
 use Rattle.rules.specs.declared.Standing.{Standing}
+use Rattle.rules.specs.declared.Program.{Program}
 use Rattle.rules.specs.declared.Board.{Board}
 use Rattle.rules.specs.declared.Word.{Word}
 use Rattle.rules.specs.Lists.{names}
-use Rattle.rules.specs.Boards.{at, awaited, setProgram, setStanding}
+use Rattle.rules.specs.Boards.{at, awaited, awaitedOf, setProgram, setStanding, opening}
 use Rattle.rules.specs.Orders.{inUse, canGive}
 use Rattle.rules.specs.Settling.{Step, line, pass}
 use Rattle.theory.specs.Lists.{_∈_, NoRepeat}
 use Rattle.theory.specs.Programs.{Is}
 use Rattle.theory.specs.Loose.{Loose, waitsIn}
+use Rattle.tables.specs.Tables.{inPlace, SetsOf}
+use Rattle.search.specs.declared.Uses.{Uses}
+use Rattle.search.specs.Gives.{usesOf}
 use Rattle.settling.specs.declared.Written.{Written}
 
 -- the step's board, with its lines after those of w
@@ -46,3 +50,24 @@ pub record NextGiven (b : Board) (l : List ℕ) (from to : ℕ) : Type 0 where
   pub ready : Ready b (names (drop to l))
   pub same : pass (names (drop from l)) b ≡ pass (names (drop to l)) b
   pub gives : to < 32 → (getD l to 0 ≢ 0) × (canGive b (getD l to 0) (awaited b (getD l to 0)) ≡ true)
+
+-- the waiter q is given f, and runs
+abbrev pub serve : Program → ℕ → Program
+serve q f = setStanding (opening q f) Standing.Running
+
+-- the files that the first n programs wait for stand in their places
+abbrev pub AskedTo : Board → ℕ → List ℕ → Type 0
+AskedTo b n asked = (i : ℕ) → i < n → getD asked i 0 ≡ awaitedOf (inPlace b i .standing)
+
+-- and those of all, in 32 places
+abbrev pub AskedOf : Board → List ℕ → Type 0
+AskedOf b asked = (length asked ≡ 32) × AskedTo b 32 asked
+
+-- the files that these wait for stand in their places
+abbrev pub Asks : Board → List ℕ → List ℕ → Type 0
+Asks b ps asked = (p : ℕ) → p ∈ ps → getD asked (p - 1) 0 ≡ awaited b p
+
+-- on every board with these sets, on which these wait for these files: the next place of the line
+abbrev pub NextFor : List ℕ → List ℕ → Uses → List ℕ → ℕ → ℕ → Type 0
+NextFor sets asked u l from to = (b : Board) → SetsOf b sets → u ≡ usesOf b sets → Ready b (names (drop from l))
+    → Asks b (names (drop from l)) asked → NextGiven b l from to × Asks b (names (drop to l)) asked

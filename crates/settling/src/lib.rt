@@ -1,20 +1,22 @@
 // Settling.
 use rules::Board;
 use rules::Line;
+use rules::Program;
 use rules::Standing;
 use rules::Word;
+use search::Uses;
 ghost use mathlib.Core.Path.{_≡_};
-ghost use mathlib.Core.Bool.{true};
+ghost use mathlib.Core.Bool.{true, cond};
+ghost use lib.Dec.{eqb};
 ghost use mathlib.Core.List.{[]};
 ghost use mathlib.Core.Option.{Option·getD};
 ghost use Prim.Native.Nat.{_+_, _≤_, _<_};
 ghost use lib.ListN.{length, set, drop};
 ghost use Rattle.rules.specs.Lists.{all, names};
-ghost use Rattle.rules.specs.Boards.{awaited, isProgram, setEntry};
-ghost use Rattle.rules.specs.Settling.{unfavour, resume, tryGive, pass, candidate, favour, runHeld, choose, settle};
-ghost use Rattle.rules.specs.Orders.{canGive};
+ghost use Rattle.rules.specs.Boards.{isProgram, setEntry};
+ghost use Rattle.rules.specs.Settling.{pass, candidate, favour, runHeld, choose, settle};
 ghost use Rattle.theory.specs.Loose.{Loose};
-ghost use Rattle.settling.specs.Writing.{after, Fits, admitOne, Ready, NextGiven};
+ghost use Rattle.settling.specs.Writing.{after, Fits, admitOne, serve, AskedOf, NextFor};
 
 // A board, and the lines written so far: the first `count` of `lines`.
 pub struct Written {
@@ -34,74 +36,43 @@ fn add_line(lines: [Line; 32], count: u8, l: Line) -> [Line; 32]
     more
 }
 
-// The waiter p runs, out of the waiting line.
-fn resumed(b: Board, p: u8) -> Board
-    requires { ⌜ (1 ≤ p) × (p ≤ 32) ⌝ }
-    ensures { λ r. ⌜ r ≡ resume b p ⌝ }
+// The waiter is given its file, and runs.
+fn served(q: Program, f: u8) -> Program
+    ensures { λ r. ⌜ r ≡ serve q f ⌝ }
 {
-    let i = (p - 1) as usize;
-    let q = b.programs[i];
-    let runs = q.at_standing(Standing::Running);
-    let line = b.waiting;
-    let rest = lines::remove(line, p);
-    let mut c = search::put(b, p, runs);
-    c.waiting = rest;
-    c
+    let given = q.opening(f);
+    given.at_standing(Standing::Running)
 }
 
-// A favoured program that is given its file is favoured no longer.
-fn unfavoured(b: Board, p: u8) -> Board
-    ensures { λ r. ⌜ r ≡ unfavour b p ⌝ }
+// A favoured program that is given its file is favoured no longer: the number, or 0 if p was favoured.
+fn unless_favoured(favoured: u8, p: u8, n: u8) -> u8
+    ensures { λ r. ⌜ r ≡ cond (eqb favoured p) 0 n ⌝ }
 {
-    let f = b.favoured;
-    if f == p {
-        let mut c = b;
-        c.favoured = 0;
-        c.initial = 0;
-        c.leaves = 0;
-        return c;
+    if favoured == p {
+        return 0;
     }
-    b
+    n
 }
 
-// The waiter p is given its file, which an open would now give: a GIVEN line.
-fn give_waiter(w: Written, p: u8) -> Written
-    requires { ⌜ ((1 ≤ p) × (p ≤ 32)) × (canGive (w .board) p (awaited (w .board) p) ≡ true) × (w .count < 32) ⌝ }
-    ensures { λ r. ⌜ r ≡ after w (tryGive (w .board) p (awaited (w .board) p)) ⌝ }
+// The files that the programs wait for, each in its program's place.
+fn fill_asked(b: Board, asked: &mut [u8; 32])
+    requires { ⌜ length (now asked) ≡ 32 ⌝ }
+    ensures { λ _. ⌜ AskedOf b (now (asked .exit)) ⌝ }
 {
-    let b = w.board;
-    let f = search::awaited(b, p);
-    let given = search::with_given(b, p, f);
-    let runs = resumed(given, p);
-    let c = unfavoured(runs, p);
-    let n = w.count;
-    let lines = w.lines;
-    let more = add_line(
-        lines,
-        n,
-        Line {
-            word: Word::Given,
-            program: p,
-            file: f,
-            refusal: 0,
-        },
-    );
-    Written {
-        board: c,
-        lines: more,
-        count: n + 1,
+    let mut i: usize = 0;
+    while i < 32 {
+        let q = b.programs[i];
+        let s = q.standing;
+        asked[i] = s.awaited();
+        i += 1;
     }
 }
 
 // The place of the next waiter, from a place of the line on, to which an open would now give its file; 32 if there is none.
-fn next_given(b: Board, line: [u8; 32], from: usize) -> usize
-    requires { ⌜ (from ≤ 32) × Ready b (names (drop from line)) ⌝ }
-    ensures { λ r. ⌜ NextGiven b line from r ⌝ }
+fn next_given(sets: &[u64; 128], asked: &[u8; 32], uses: Uses, line: [u8; 32], from: usize) -> usize
+    requires { ⌜ (from ≤ 32) × (all isProgram (names (drop from line)) ≡ true) ⌝ }
+    ensures { λ r. ⌜ NextFor (now (sets .entry)) (now (asked .entry)) uses line from r ⌝ }
 {
-    let mut sets = [0u64; 128];
-    let mut rows = [0u32; 32];
-    tables::fill(b, &mut sets, &mut rows);
-    let uses = search::gives::uses_of(b, &sets);
     let mut k = from;
     while k < 32 {
         let p = line[k];
@@ -109,10 +80,7 @@ fn next_given(b: Board, line: [u8; 32], from: usize) -> usize
             return 32;
         }
         let i = (p - 1) as usize;
-        let q = b.programs[i];
-        let s = q.standing;
-        let f = s.awaited();
-        if search::gives::can_give(&sets, &rows, uses, p, f) {
+        if search::gives::can_give_by(sets, uses, p, asked[i]) {
             return k;
         }
         k += 1;
@@ -120,29 +88,60 @@ fn next_given(b: Board, line: [u8; 32], from: usize) -> usize
     32
 }
 
-// Once through the waiting line, from the oldest.
+// Once through the waiting line, from the oldest: a GIVEN line for each waiter that is given its file.
 fn pass_line(w: Written) -> Written
     requires { ⌜ Loose (w .board) × Fits w (pass (names (w .board .waiting)) (w .board)) ⌝ }
     ensures { λ r. ⌜ r ≡ after w (pass (names (w .board .waiting)) (w .board)) ⌝ }
 {
-    let b = w.board;
-    let line = b.waiting;
-    if line[0] == 0 {
-        return w;
-    }
-    let mut s = w;
+    let mut c = w.board;
+    let line = c.waiting;
+    let mut sets = [0u64; 128];
+    let mut asked = [0u8; 32];
+    tables::reach::fill_sets(c, &mut sets);
+    fill_asked(c, &mut asked);
+    let mut uses = search::gives::uses_of(c, &sets);
+    let mut lines = w.lines;
+    let mut n = w.count;
     let mut k: usize = 0;
     while k < 32 {
-        let now = s.board;
-        let j = next_given(now, line, k);
+        let j = next_given(&sets, &asked, uses, line, k);
         if 31 < j {
-            return s;
+            return Written {
+                board: c,
+                lines: lines,
+                count: n,
+            };
         }
         let p = line[j];
-        s = give_waiter(s, p);
+        let i = (p - 1) as usize;
+        let f = asked[i];
+        let q = c.programs[i];
+        let runs = served(q, f);
+        c.programs[i] = runs;
+        let waiting = c.waiting;
+        let rest = lines::remove(waiting, p);
+        c.waiting = rest;
+        let favoured = c.favoured;
+        c.favoured = unless_favoured(favoured, p, favoured);
+        c.initial = unless_favoured(favoured, p, c.initial);
+        c.leaves = unless_favoured(favoured, p, c.leaves);
+        lines[n as usize] = Line {
+            word: Word::Given,
+            program: p,
+            file: f,
+            refusal: 0,
+        };
+        n += 1;
+        tables::reach::give(&mut sets, i, f);
+        let admitted = uses.admitted;
+        uses = search::gives::uses_in(admitted, &sets);
         k = j + 1;
     }
-    s
+    Written {
+        board: c,
+        lines: lines,
+        count: n,
+    }
 }
 
 // The oldest waiter whose file is in no conflicting use, or 0.
@@ -155,8 +154,7 @@ fn oldest_unused(b: Board) -> u8
         return 0;
     }
     let mut sets = [0u64; 128];
-    let mut rows = [0u32; 32];
-    tables::fill(b, &mut sets, &mut rows);
+    tables::reach::fill_sets(b, &mut sets);
     let uses = search::gives::uses_of(b, &sets);
     let mut k: usize = 0;
     while k < 32 {
@@ -289,11 +287,28 @@ fn choose_next(w: Written) -> Written
     favour_waiter(w, p)
 }
 
-// Settle: through the waiting line once from the oldest, then favour or run those held.
-pub fn settled(w: Written) -> Written
+// Settle, where somebody waits or is held.
+fn settle_lines(w: Written) -> Written
     requires { ⌜ Loose (w .board) × Fits w (settle (w .board)) ⌝ }
     ensures { λ r. ⌜ r ≡ after w (settle (w .board)) ⌝ }
 {
     let s = pass_line(w);
     choose_next(s)
+}
+
+// Settle: through the waiting line once from the oldest, then favour or run those held.
+pub fn settled(w: Written) -> Written
+    requires { ⌜ Loose (w .board) × Fits w (settle (w .board)) ⌝ }
+    ensures { λ r. ⌜ r ≡ after w (settle (w .board)) ⌝ }
+{
+    let b = w.board;
+    let waiting = b.waiting;
+    if waiting[0] != 0 {
+        return settle_lines(w);
+    }
+    let entry = b.entry;
+    if entry[0] != 0 {
+        return settle_lines(w);
+    }
+    w
 }

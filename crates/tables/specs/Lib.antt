@@ -1,3 +1,4 @@
 -- The definitions that the contracts of tables cite.
+pub mod Claims
 pub mod ProgramSets
 pub mod Tables

@@ -29,41 +29,41 @@ returns c = let b = c .before .before .args .t1 in let m : length (b .waiting) �
 
 loop-holds : tie.Need-loop-holds Inv-loop μ-loop
 unfolding candidate
-loop-holds c = let a = c .before .before .before .before .before .before .before in (search needs, ready-all (a .args .t1) (a .pre), refl, search needs)
+loop-holds c = let a = c .before .before .before .before .before .before in (search needs, ready-all (a .args .t1) (a .pre), refl, search needs)
 
 returns-2 : tie.Need-returns-2 Inv-loop μ-loop
-returns-2 c = let l = c .before .before .loop in let b = c .before .before .before .before .before .before .before .before .before .before .args .t1 in
+returns-2 c = let l = c .before .before .loop in let b = c .before .before .before .before .before .before .before .before .before .args .t1 in
     let m = l .inv .3 in
     sym (ap (λ (x : Option ℕ). Option·getD x 0) (l .inv .2 ∙ first-none-left (unused b) (names (drop (l .k) (b .waiting)))
     (names-stop (b .waiting) (l .k) (omega arith) (c .if2 .taken))))
 
 sub-i : tie.Need-sub-i Inv-loop μ-loop
-sub-i c = let l = c .before .before .loop in let g = c .before .before .before .before .before .before .before .before .before .before .args in
+sub-i c = let l = c .before .before .loop in let g = c .before .before .before .before .before .before .before .before .before .args in
     let m = l .inv .3 in let n = waiter-range (g .t1) (g .t1 .waiting) (l .k) (omega arith) (c .if2 .left) (l .inv .1) in let h = n .0 in let j = n .1 in h
 
 cast-i : tie.Need-cast-i Inv-loop μ-loop
-cast-i c = let l = c .before .before .loop in let g = c .before .before .before .before .before .before .before .before .before .before .args in
+cast-i c = let l = c .before .before .loop in let g = c .before .before .before .before .before .before .before .before .before .args in
     let m = l .inv .3 in let n = waiter-range (g .t1) (g .t1 .waiting) (l .k) (omega arith) (c .if2 .left) (l .inv .1) in let h = n .0 in let j = n .1 in omega arith
 
 mul-q : tie.Need-mul-q Inv-loop μ-loop
-mul-q c = let l = c .before .before .loop in let g = c .before .before .before .before .before .before .before .before .before .before .args in
+mul-q c = let l = c .before .before .loop in let g = c .before .before .before .before .before .before .before .before .before .args in
     let m = l .inv .3 in let n = waiter-range (g .t1) (g .t1 .waiting) (l .k) (omega arith) (c .if2 .left) (l .inv .1) in let h = n .0 in let j = n .1 in omega arith
 
 element-copy-out-q : tie.Need-element-copy-out-q Inv-loop μ-loop
-element-copy-out-q c = let l = c .before .before .loop in let g = c .before .before .before .before .before .before .before .before .before .before .args in
+element-copy-out-q c = let l = c .before .before .loop in let g = c .before .before .before .before .before .before .before .before .before .args in
     let m = l .inv .3 in let n = waiter-range (g .t1) (g .t1 .waiting) (l .k) (omega arith) (c .if2 .left) (l .inv .1) in let h = n .0 in let j = n .1 in omega arith
 
 in-use-requires : tie.Need-in-use-requires Inv-loop μ-loop
 in-use-requires c κs = let i = c .before .before .before in let l = i .before .before .loop in
-    let g = i .before .before .before .before .before .before .before .before .before .before .args in let m = l .inv .3 in
+    let g = i .before .before .before .before .before .before .before .before .before .args in let m = l .inv .3 in
     waiter-range (g .t1) (g .t1 .waiting) (l .k) (omega arith) (i .if2 .left) (l .inv .1)
 
 returns-3 : tie.Need-returns-3 Inv-loop μ-loop
 returns-3 c =
     let w = c .before in let a = w .before .before in let i = a .before .before in let l = i .before .before .loop in
-    let u = i .before .before .before in let e = u .before .before in let g = e .before .before .before .before .before .args in let m = l .inv .3 in
-    let t = waiter-used (g .t1) (g .t1 .waiting) (l .k) (omega arith) (i .if2 .left) (l .inv .1) (e .fill .last .1 .0)
-    (u .uses-of .result) (a .awaited .result) (w .in-use .result) (e .fill .ensures .0) (u .uses-of .ensures) (a .awaited .ensures)
+    let u = i .before .before .before in let e = u .before .before in let g = e .before .before .before .before .args in let m = l .inv .3 in
+    let t = waiter-used (g .t1) (g .t1 .waiting) (l .k) (omega arith) (i .if2 .left) (l .inv .1) (e .fill-sets .last .1 .0)
+    (u .uses-of .result) (a .awaited .result) (w .in-use .result) (e .fill-sets .ensures) (u .uses-of .ensures) (a .awaited .ensures)
     (w .in-use .ensures) in
     sym (rw (sym t ∙ not-true (w .in-use .result) (c .if3 .taken)) at (ap (λ (x : Option ℕ). Option·getD x 0) (l .inv .2
     ∙ first-names-on (unused (g .t1)) (g .t1 .waiting) (l .k) (omega arith) (i .if2 .left))))
@@ -71,9 +71,9 @@ returns-3 c =
 loop-again : tie.Need-loop-again Inv-loop μ-loop
 loop-again c =
     let w = c .before in let a = w .before .before in let i = a .before .before in let l = i .before .before .loop in
-    let u = i .before .before .before in let e = u .before .before in let g = e .before .before .before .before .before .args in let m = l .inv .3 in
-    let t = waiter-used (g .t1) (g .t1 .waiting) (l .k) (omega arith) (i .if2 .left) (l .inv .1) (e .fill .last .1 .0)
-    (u .uses-of .result) (a .awaited .result) (w .in-use .result) (e .fill .ensures .0) (u .uses-of .ensures) (a .awaited .ensures)
+    let u = i .before .before .before in let e = u .before .before in let g = e .before .before .before .before .args in let m = l .inv .3 in
+    let t = waiter-used (g .t1) (g .t1 .waiting) (l .k) (omega arith) (i .if2 .left) (l .inv .1) (e .fill-sets .last .1 .0)
+    (u .uses-of .result) (a .awaited .result) (w .in-use .result) (e .fill-sets .ensures) (u .uses-of .ensures) (a .awaited .ensures)
     (w .in-use .ensures) in (
       search needs,
       ready-left (g .t1) (g .t1 .waiting) (l .k) (omega arith) (i .if2 .left) (l .inv .1),
@@ -83,7 +83,7 @@ loop-again c =
     )
 
 returns-4 : tie.Need-returns-4 Inv-loop μ-loop
-returns-4 c = let l = c .before .loop in let b = c .before .before .before .before .before .before .before .before .before .args .t1 in
+returns-4 c = let l = c .before .loop in let b = c .before .before .before .before .before .before .before .before .args .t1 in
     let m = l .inv .3 in
     sym (ap (λ (x : Option ℕ). Option·getD x 0) (l .inv .2 ∙ first-none-left (unused b) (names (drop (l .k) (b .waiting)))
     (names-end (b .waiting) (l .k) (omega arith))))

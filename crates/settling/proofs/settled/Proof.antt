@@ -1,22 +1,34 @@
 -- `settled` meets its contract. Assumes nothing.
-use mathlib.Core.Path.{_∙_}
-use Rattle.settling.proofs.Laws.{settle-loose, settle-fits-pass, settle-fits-choose, settle-is}
+use mathlib.Core.Path.{_≡_}
+use native.Mathlib.Omega.{arith}
+use lib.ListN.{length}
+use Rattle.lines.proofs.Laws.{names-stop}
+use Rattle.settling.proofs.Laws.{settle-nobody}
+use borrow.Author.Needs.{needs}
 use Rattle.settling.proofs.settled.Statement.{statement}
 use Rattle.settling.proofs.settled.Tie as tie
 
-pass-line-requires : tie.Need-pass-line-requires
-pass-line-requires c κs = (c .pre .0, settle-fits-pass (c .args .w) (c .pre .1))
+settle-lines-requires : tie.Need-settle-lines-requires
+settle-lines-requires c κs = c .before .before .before .pre
 
-choose-next-requires : tie.Need-choose-next-requires
-choose-next-requires c κs = let s = c .before in let w = s .args .w in (
-  settle-loose w (c .pass-line .result) (c .pass-line .ensures) (s .pre .0),
-  settle-fits-choose w
-      (c .pass-line .result) (c .pass-line .ensures) (s .pre .1),
-)
+settle-lines-requires-2 : tie.Need-settle-lines-requires-2
+settle-lines-requires-2 c κs = c .before .before .before .before .before .pre
 
-returns : tie.Need-returns
-returns c = let s = c .before .before in let w = s .args .w in c .choose-next .ensures
-    ∙ settle-is w (c .before .pass-line .result) (c .before .pass-line .ensures)
+returns-3 : tie.Need-returns-3
+returns-3 c =
+    let i = c .before .before in let s = i .before .before .before in let w = s .args .w in
+    let m : length (w .board .waiting) ≡ 32 = search needs in let n : length (w .board .entry) ≡ 32 = search needs in
+    settle-nobody w (s .pre .0) (names-stop (w .board .waiting) 0 (omega arith) (i .if1 .left))
+    (names-stop (w .board .entry) 0 (omega arith) (c .if2 .left))
 
 pub settled-spec : {M : Type 1} → statement M
-settled-spec = tie.close (tie.spec pass-line-requires choose-next-requires returns)
+settled-spec =
+    tie.close
+    (tie.spec
+    (λ c. search needs)
+    settle-lines-requires
+    (λ c. search needs)
+    (λ c. search needs)
+    settle-lines-requires-2
+    (λ c. search needs)
+    returns-3)

@@ -1,0 +1,246 @@
+-- Laws of one waiter given its file, on the board and in its arrays. Assumes nothing.
+use mathlib.Core.Path.{_≡_, refl, sym, ap, ap₂, _∙_, subst}
+use mathlib.Core.Logic.{_≢_}
+use mathlib.Core.Bool.{Bool, true, cond}
+use mathlib.Core.List.{List, [], _∷_, List·Memᴰ·tail, List·Memᴰ·not-nil}
+use Prim.Native.Nat.{ℕ, zero, suc, _+_, _-_, _≤_, _<_}
+use native.Mathlib.Numerals.{add-one}
+use native.Mathlib.Omega.{arith}
+use lib.Dec.{eqb}
+use lib.ListN.{length, getD, set, drop, length-set}
+use lib.Seq.{getD-set-same, getD-set-other}
+use borrow.Author.Tests.{eqb-true, eqb-false}
+use Rattle.files.proofs.Tests.{by-test}
+use Rattle.files.specs.declared.FileSet.{FileSet}
+use Rattle.files.specs.Bits.{withNumber}
+use Rattle.files.specs.Sets.{member}
+use Rattle.rules.specs.declared.Program.{Program}
+use Rattle.rules.specs.declared.Board.{Board}
+use Rattle.rules.specs.declared.Word.{Word}
+use Rattle.rules.specs.declared.Line.{Line}
+use Rattle.rules.specs.Lists.{all, names, padded, without}
+use Rattle.rules.specs.Boards.{noProgram, at, awaited, awaitedOf, isProgram, isAdmitted, opening}
+use Rattle.rules.specs.Orders.{withGiven, canGive}
+use Rattle.rules.specs.Settling.{line, unfavour, resume, tryGive, pass}
+use Rattle.theory.specs.Lists.{_∈_, Pairs, here, each-all}
+use Rattle.theory.specs.Programs.{Is, of-is, Sized}
+use Rattle.theory.specs.Loose.{Loose, waiting-in}
+use Rattle.tables.specs.declared.ProgramSet.{ProgramSet}
+use Rattle.tables.specs.Tables.{inPlace, joined, packed, SetsOf}
+use Rattle.tables.specs.Claims.{givenAt}
+use Rattle.search.specs.declared.Uses.{Uses}
+use Rattle.search.specs.Rows.{admits, admittedSet}
+use Rattle.search.specs.Gives.{usesOf, usesIn}
+use Rattle.lines.proofs.Laws.{names-on, names-end}
+use Rattle.settling.specs.declared.Written.{Written}
+use Rattle.settling.specs.Writing.{after, Fits, Ready, NextGiven, serve, AskedOf, Asks, NextFor}
+use Rattle.settling.proofs.Laws.{PassAt, pass-start, pass-to, pass-over, pass-range, pass-next, give-fits, give-some}
+
+-- the board with the waiter p given f
+abbrev pub givenTo : Board → ℕ → ℕ → Board
+givenTo c p f = record {
+  programs = set (c .programs) (p - 1) (serve (at c p) f);
+  waiting = padded 0 (without p (names (c .waiting)));
+  entry = c .entry;
+  favoured = cond (eqb (c .favoured) p) 0 (c .favoured);
+  initial = cond (eqb (c .favoured) p) 0 (c .initial);
+  leaves = cond (eqb (c .favoured) p) 0 (c .leaves);
+}
+
+abbrev pub stateOf : Board → List Line → ℕ → Written
+stateOf c ls n = record { board = c; lines = ls; count = n }
+
+set-set : {A : Type 0} (l : List A) (i : ℕ) (a b : A) → set (set l i a) i b ≡ set l i b
+set-set [] i a b = refl
+set-set (x ∷ xs) zero a b = refl
+set-set (x ∷ xs) (suc i) a b = ap (λ ys. x ∷ ys) (set-set xs i a b)
+
+packed-same : (t u : ℕ → Bool) (n : ℕ) → ((x : ℕ) → 1 ≤ x → x ≤ n → t x ≡ u x) → packed t n ≡ packed u n
+unfolding packed
+packed-same t u zero g = refl
+packed-same t u (suc n) g = ap₂ (λ (s : ProgramSet) (y : Bool). joined s (suc n) y) (packed-same t u n (λ x h k. g x h (omega arith)))
+    (g (suc n) (omega arith) (omega arith))
+
+module _ (c : Board) (p f : ℕ) (z : Sized (c .programs)) (i : Is p) where
+  place : p - 1 < 32
+  place = let a = i .least in let b = i .most in omega arith
+
+  given-here : at (givenTo c p f) p ≡ serve (at c p) f
+  given-here = let h = place in getD-set-same (c .programs) (p - 1) (serve (at c p) f) noProgram (omega arith)
+
+  given-there : (x : ℕ) → Is x → x ≢ p → at (givenTo c p f) x ≡ at c x
+  given-there x k n = let a = i .least in let b = k .least in
+      getD-set-other (c .programs) (p - 1) (x - 1) (serve (at c p) f) noProgram (omega arith)
+
+  -- as the rules say it
+  given-is : givenTo c p f ≡ unfavour (resume (withGiven c p f) p) p
+  unfolding unfavour resume withGiven
+  given-is = let h = place in
+      rw (
+        set-set (c .programs) (p - 1) (opening (at c p) f)
+            (record { writable = getD (set (c .programs) (p - 1) (opening (at c p) f)) (p - 1) noProgram .writable; readable = getD (set (c .programs) (p - 1) (opening (at c p) f)) (p - 1) noProgram .readable; writing = getD (set (c .programs) (p - 1) (opening (at c p) f)) (p - 1) noProgram .writing; reading = getD (set (c .programs) (p - 1) (opening (at c p) f)) (p - 1) noProgram .reading; standing = serve (at c p) f .standing }),
+        getD-set-same (c .programs) (p - 1) (opening (at c p) f) noProgram (omega arith),
+      )
+      (by-test (eqb (c .favoured) p) (λ t. rw t) (λ t. rw t))
+
+  -- the admitted programs are the same
+  admitted-given : admits c p ≡ true → admittedSet (givenTo c p f) ≡ admittedSet c
+  unfolding admittedSet
+  admitted-given a = packed-same (admits (givenTo c p f)) (admits c) 32 (λ x h k. by-test (eqb x p)
+      (λ t. let d : x ≡ p = eqb-true x p t in rw d (ap (λ (q : Program). isAdmitted (q .standing)) given-here ∙ sym a))
+      (λ t. ap (λ (q : Program). isAdmitted (q .standing)) (given-there x (record { least = h; most = k }) (eqb-false x p t))))
+
+  -- the next ones wait for the same files
+  asks-given : (ps asked : List ℕ) → Ready c (p ∷ ps) → Asks c (p ∷ ps) asked → Asks (givenTo c p f) ps asked
+  unfolding Pairs
+  asks-given ps asked r a x m = a x (List·Memᴰ·tail m)
+      ∙ sym (ap (λ (q : Program). awaitedOf (q .standing)) (given-there x (r .2 x (List·Memᴰ·tail m) .0) (λ d. r .1 .0 x m (sym d))))
+
+-- ---- the sets, with a file given
+
+serve-v : (q : Program) (f : ℕ) → serve q f .writable ≡ q .writable
+unfolding opening
+serve-v q f = by-test (member (q .writable) f) (λ t. rw t) (λ t. rw t)
+
+serve-q : (q : Program) (f : ℕ) → serve q f .readable ≡ q .readable
+unfolding opening
+serve-q q f = by-test (member (q .writable) f) (λ t. rw t) (λ t. rw t)
+
+serve-w : (q : Program) (f : ℕ) → serve q f .writing .bits ≡ cond (member (q .writable) f) (withNumber 64 (q .writing .bits) f) (q .writing .bits)
+unfolding opening
+serve-w q f = by-test (member (q .writable) f) (λ t. rw t) (λ t. rw t)
+
+serve-r : (q : Program) (f : ℕ) → serve q f .reading .bits ≡ cond (member (q .writable) f) (q .reading .bits) (withNumber 64 (q .reading .bits) f)
+unfolding opening
+serve-r q f = by-test (member (q .writable) f) (λ t. rw t) (λ t. rw t)
+
+module _ (l : List ℕ) (i f : ℕ) (h : i < 32) (n : length l ≡ 128) where
+  abbrev mine : Bool
+  mine = member (record { bits = getD l i 0 }) f
+
+  abbrev w : ℕ
+  w = getD l (64 + i) 0
+
+  abbrev r : ℕ
+  r = getD l (96 + i) 0
+
+  given-length : length (givenAt l i f) ≡ 128
+  given-length = by-test mine (λ t. rw t (length-set l (64 + i) (withNumber 64 w f) ∙ n)) (λ t. rw t (length-set l (96 + i) (withNumber 64 r f) ∙ n))
+
+  given-else : (j : ℕ) → j ≢ 64 + i → j ≢ 96 + i → getD (givenAt l i f) j 0 ≡ getD l j 0
+  given-else j a b = by-test mine (λ t. rw t (getD-set-other l (64 + i) j (withNumber 64 w f) 0 a))
+      (λ t. rw t (getD-set-other l (96 + i) j (withNumber 64 r f) 0 b))
+
+  given-w : getD (givenAt l i f) (64 + i) 0 ≡ cond mine (withNumber 64 w f) w
+  given-w = by-test mine (λ t. rw t (getD-set-same l (64 + i) (withNumber 64 w f) 0 (omega arith)))
+      (λ t. rw t (getD-set-other l (96 + i) (64 + i) (withNumber 64 r f) 0 (omega arith)))
+
+  given-r : getD (givenAt l i f) (96 + i) 0 ≡ cond mine r (withNumber 64 r f)
+  given-r = by-test mine (λ t. rw t (getD-set-other l (64 + i) (96 + i) (withNumber 64 w f) 0 (omega arith)))
+      (λ t. rw t (getD-set-same l (96 + i) (withNumber 64 r f) 0 (omega arith)))
+
+sets-given : (c : Board) (p f : ℕ) (sets : List ℕ) → Sized (c .programs) → Is p → SetsOf c sets → SetsOf (givenTo c p f) (givenAt sets (p - 1) f)
+sets-given c p f sets z i (n, s) = let h = place c p f z i in (
+  given-length sets (p - 1) f h n,
+  λ j m. by-test (eqb j (p - 1))
+      (λ t. let d : j ≡ p - 1 = eqb-true j (p - 1) t in let e = s (p - 1) h in rw d (
+        given-else sets (p - 1) f h n (p - 1) (omega arith) (omega arith) ∙ e .0 ∙ sym (ap (λ (q : Program). q .writable .bits) here-is ∙ ap (λ (x : FileSet). x .bits) (serve-v (at c p) f)),
+        given-else sets (p - 1) f h n (32 + (p - 1)) (omega arith) (omega arith) ∙ e .1
+            ∙ sym (ap (λ (q : Program). q .readable .bits) here-is ∙ ap (λ (x : FileSet). x .bits) (serve-q (at c p) f)),
+        given-w sets (p - 1) f h n ∙ rw (e .0, e .2) (sym (ap (λ (q : Program). q .writing .bits) here-is ∙ serve-w (at c p) f)),
+        given-r sets (p - 1) f h n ∙ rw (e .0, e .3) (sym (ap (λ (q : Program). q .reading .bits) here-is ∙ serve-r (at c p) f)),
+      ))
+      (λ t. let d : j ≢ p - 1 = eqb-false j (p - 1) t in let e = s j m in
+      let o = sym (getD-set-other (c .programs) (p - 1) j (serve (at c p) f) noProgram d) in (
+        given-else sets (p - 1) f h n j (omega arith) (omega arith) ∙ e .0 ∙ ap (λ (q : Program). q .writable .bits) o,
+        given-else sets (p - 1) f h n (32 + j) (omega arith) (omega arith) ∙ e .1 ∙ ap (λ (q : Program). q .readable .bits) o,
+        given-else sets (p - 1) f h n (64 + j) (omega arith) (omega arith) ∙ e .2 ∙ ap (λ (q : Program). q .writing .bits) o,
+        given-else sets (p - 1) f h n (96 + j) (omega arith) (omega arith) ∙ e .3 ∙ ap (λ (q : Program). q .reading .bits) o,
+      )),
+)
+  where
+    here-is : inPlace (givenTo c p f) (p - 1) ≡ serve (at c p) f
+    here-is = given-here c p f z i
+
+-- ---- the pass, with the arrays
+
+-- the waiters from place k on are still to be asked, s is what was written before that, and the arrays are those of its board
+pub record At (w : Written) (l asked : List ℕ) (k : ℕ) (s : Written) (sets : List ℕ) (u : Uses) : Type 0 where
+  pub passed : PassAt w l k s
+  pub sets-are : SetsOf (s .board) sets
+  pub uses-are : u ≡ usesOf (s .board) sets
+  pub asks : Asks (s .board) (names (drop k l)) asked
+
+-- all that wait are asked
+pub asks-all : (b : Board) (asked : List ℕ) → Loose b → AskedOf b asked → Asks b (names (b .waiting)) asked
+asks-all b asked k a p m = let i = k .waits .of p m .0 in let x = i .least in let y = i .most in a .1 (p - 1) (omega arith)
+
+pub asks-none : (b : Board) (l asked : List ℕ) → length l ≡ 32 → Asks b (names (drop 32 l)) asked
+asks-none b l asked n p m = absurd (List·Memᴰ·not-nil (subst (λ (ps : List ℕ). p ∈ ps) (names-end l 32 (omega arith)) m))
+
+pub ready-programs : (b : Board) (ps : List ℕ) → Ready b ps → all isProgram ps ≡ true
+ready-programs b ps r = each-all isProgram ps (λ p m. of-is p (r .2 p m .0))
+
+module _ (w s : Written) (l asked sets : List ℕ) (u : Uses) (k j : ℕ) (a : At w l asked k s sets u) (x : NextFor sets asked u l k j) where
+  next-at : NextGiven (s .board) l k j × Asks (s .board) (names (drop j l)) asked
+  next-at = x (s .board) (a .sets-are) (a .uses-are) (a .passed .0) (a .asks)
+
+  pub pass-at : PassAt w l j s
+  pass-at = pass-to w s l k j (a .passed) (next-at .0)
+
+  pub next-on : (k ≤ j) × (j ≤ 32)
+  next-on = (next-at .0 .onward, next-at .0 .within)
+
+  module _ (m : length l ≡ 32) (h : j < 32) where
+    p : ℕ
+    p = getD l j 0
+
+    ne : getD l j 0 ≢ 0
+    ne = next-at .0 .gives h .0
+
+    can : canGive (s .board) (getD l j 0) (awaited (s .board) (getD l j 0)) ≡ true
+    can = next-at .0 .gives h .1
+
+    range : ((1 ≤ getD l j 0) × (getD l j 0 ≤ 32)) × Fits s (tryGive (s .board) (getD l j 0) (awaited (s .board) (getD l j 0)))
+    range = pass-range w s l j (omega arith) ne pass-at
+
+    -- a waiter is a program, and its line fits
+    pub give-range : (1 ≤ getD l j 0) × (getD l j 0 ≤ 32) × (s .count < 32)
+    give-range = (range .0 .0, range .0 .1, give-fits s (s .board) _ _ can (range .1))
+
+    is : Is (getD l j 0)
+    is = record { least = range .0 .0; most = range .0 .1 }
+
+    ready : Ready (s .board) (getD l j 0 ∷ names (drop (suc j) l))
+    ready = subst (Ready (s .board)) (names-on l j (omega arith) ne) (pass-at .0)
+
+    asks-here : Asks (s .board) (getD l j 0 ∷ names (drop (suc j) l)) asked
+    asks-here = subst (λ (ps : List ℕ). Asks (s .board) ps asked) (names-on l j (omega arith) ne) (next-at .1)
+
+    admitted : admits (s .board) (getD l j 0) ≡ true
+    admitted = waiting-in (at (s .board) (getD l j 0) .standing) (ready .2 (getD l j 0) here .1)
+
+    size : Sized (s .board .programs)
+    size = ready .0 .base .size
+
+    f : ℕ
+    f = getD asked (getD l j 0 - 1) 0
+
+    -- the waiter is given its file
+    pub give-next : (v : Uses) → v ≡ usesIn (u .admitted) (givenAt sets (getD l j 0 - 1) (getD asked (getD l j 0 - 1) 0))
+        → At w l asked (j + 1) (stateOf (givenTo (s .board) (getD l j 0) (getD asked (getD l j 0 - 1) 0))
+        (set (s .lines) (s .count) (line Word.Given (getD l j 0) (getD asked (getD l j 0 - 1) 0))) (s .count + 1))
+        (givenAt sets (getD l j 0 - 1) (getD asked (getD l j 0 - 1) 0)) v
+    give-next v e = record {
+      passed = pass-next w s l j (omega arith) ne pass-at _
+          (ap (λ (g : ℕ). stateOf (givenTo (s .board) (getD l j 0) g) (set (s .lines) (s .count) (line Word.Given (getD l j 0) g)) (s .count + 1))
+          (asks-here (getD l j 0) here)
+          ∙ ap (λ (y : Board). stateOf y (set (s .lines) (s .count) (line Word.Given (getD l j 0) (awaited (s .board) (getD l j 0)))) (s .count + 1))
+          (given-is (s .board) (getD l j 0) (awaited (s .board) (getD l j 0)) size is)
+          ∙ give-some s (s .board) (getD l j 0) (awaited (s .board) (getD l j 0)) can);
+      sets-are = sets-given (s .board) (getD l j 0) (getD asked (getD l j 0 - 1) 0) sets size is (a .sets-are);
+      uses-are = e ∙ ap (λ (y : ProgramSet). usesIn y (givenAt sets (getD l j 0 - 1) (getD asked (getD l j 0 - 1) 0)))
+          (ap (λ (y : Uses). y .admitted) (a .uses-are)
+          ∙ sym (admitted-given (s .board) (getD l j 0) (getD asked (getD l j 0 - 1) 0) size is admitted));
+      asks = rw (add-one j) (asks-given (s .board) (getD l j 0) (getD asked (getD l j 0 - 1) 0) size is (names (drop (suc j) l)) asked ready asks-here);
+    }
