@@ -100,21 +100,25 @@ fn put_waiting(b: Board, p: u8, f: u8) -> Board
 }
 
 // Open: WAIT if another program has f in conflicting use; UNSAFE if no order comes back with f given; otherwise GIVEN.
-fn do_open(b: Board, p: u8, f: u8) -> Changed
-    requires { ⌜ ((1 ≤ p) × (p ≤ 32)) × Good b × (openCheck b p f ≡ Check.Passed) ⌝ }
+fn do_open(b: Board, q: Program, p: u8, f: u8) -> Changed
+    requires { ⌜ ((1 ≤ p) × (p ≤ 32)) × Good b × (openCheck b p f ≡ Check.Passed) × (q ≡ at b p) ⌝ }
     ensures { λ r. ⌜ replyOf r ≡ openFile b p f ⌝ }
 {
-    if search::in_use(b, p, f) {
+    let mut sets = [0u64; 128];
+    tables::reach::fill_sets(b, &mut sets);
+    let uses = search::gives::uses_of(b, &sets);
+    if search::gives::in_use(&sets, uses, p, f) {
         let c = put_waiting(b, p, f);
         return replies::answered(c, Word::Wait, p, f, Answer::Wait);
     }
-    let given = search::with_given(b, p, f);
-    let order = search::carried_order(given);
+    let admitted = uses.admitted;
+    let order = search::gives::order_given(&mut sets, admitted, p, f);
     let kind = order.kind;
     let Search::Found(_) = kind else {
         let c = put_waiting(b, p, f);
         return replies::answered(c, Word::Unsafe, p, f, Answer::Unsafe);
     };
+    let given = search::put(b, p, q.opening(f));
     replies::answered(given, Word::Given, p, f, Answer::Given)
 }
 
@@ -130,7 +134,7 @@ fn call_open(b: Board, p: u8, file: u64) -> Changed
     let q = b.programs[i];
     let check = checks::check_open(q, f);
     match check {
-        Check::Passed => do_open(b, p, f),
+        Check::Passed => do_open(b, q, p, f),
         Check::Failed(refusal) => replies::refused(b, refusal),
     }
 }

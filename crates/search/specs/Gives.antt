@@ -4,15 +4,17 @@ use Prim.Native.Nat.{ℕ}
 use mathlib.Core.Path.{_≡_}
 use mathlib.Core.Bool.{Bool, true, false}
 use mathlib.Core.List.{List}
+use lib.ListN.{length}
 use Rattle.rules.specs.declared.Board.{Board}
 use Rattle.rules.specs.Lists.{found}
 use Rattle.rules.specs.Boards.{at, hasOpen}
-use Rattle.rules.specs.Orders.{carried, inUse, safe, canGive}
+use Rattle.rules.specs.Orders.{carried, withGiven, inUse, safe, canGive}
 use Rattle.rules.specs.Soundness.{noConflict}
 use Rattle.tables.specs.declared.ProgramSet.{ProgramSet}
 use Rattle.tables.specs.Tables.{SetsOf, RowsOf, openedFrom}
+use Rattle.search.specs.declared.Order.{Order}
 use Rattle.search.specs.declared.Uses.{Uses}
-use Rattle.search.specs.Rows.{admits, admittedSet}
+use Rattle.search.specs.Rows.{admits, admittedSet, asOrder}
 
 -- who is admitted, and what is open
 abbrev pub usesOf : Board → List ℕ → Uses
@@ -44,3 +46,7 @@ SafeBy sets a p f r = (b : Board) → SetsOf b sets → a ≡ admittedSet b → 
 abbrev pub GivenBy : List ℕ → Uses → ℕ → ℕ → Bool → Type 0
 GivenBy sets u p f r = (b : Board) → SetsOf b sets → u ≡ usesOf b sets → noConflict b ≡ true → found (carried b) ≡ true
     → admits b p ≡ true → hasOpen (at b p) f ≡ false → r ≡ canGive b p f
+
+-- of every board of 32 programs with these sets and admitted programs: the carried order with f given to p
+abbrev pub OrderGiven : List ℕ → ProgramSet → ℕ → ℕ → Order → Type 0
+OrderGiven sets a p f r = (b : Board) → length (b .programs) ≡ 32 → SetsOf b sets → a ≡ admittedSet b → r ≡ asOrder (carried (withGiven b p f))

@@ -1,13 +1,15 @@
 // Whether a file can be given, by the arrays of a board.
+use crate::Order;
 use crate::Uses;
 use files::FileSet;
 use rules::Board;
 use tables::ProgramSet;
 ghost use mathlib.Core.Path.{_≡_};
 ghost use Prim.Native.Nat.{_≤_};
+ghost use lib.ListN.{length};
 ghost use Rattle.tables.specs.Tables.{openedFrom};
 ghost use Rattle.search.specs.Rows.{admittedSet};
-ghost use Rattle.search.specs.Gives.{usesOf, UsedFor, GivenFor, usesIn, SafeBy, GivenBy};
+ghost use Rattle.search.specs.Gives.{usesOf, UsedFor, GivenFor, usesIn, SafeBy, GivenBy, OrderGiven};
 
 // Who is admitted, and what is open.
 pub fn uses_of(b: Board, sets: &[u64; 128]) -> Uses
@@ -106,4 +108,16 @@ pub fn can_give_by(sets: &[u64; 128], u: Uses, p: u8, f: u8) -> bool
     }
     let admitted = u.admitted;
     is_safe_by(sets, admitted, p, f)
+}
+
+// The carried order of the board with f given to p, by its sets, which then are those with f given.
+pub fn order_given(sets: &mut [u64; 128], admitted: ProgramSet, p: u8, f: u8) -> Order
+    requires { ⌜ ((1 ≤ p) × (p ≤ 32)) × (length (now sets) ≡ 128) ⌝ }
+    ensures { λ r. ⌜ OrderGiven (now (sets .entry)) admitted p f r ⌝ }
+{
+    let i = (p - 1) as usize;
+    tables::reach::give(sets, i, f);
+    let mut rows = [0u32; 32];
+    tables::fill_rows(sets, &mut rows);
+    crate::order_in(&rows, admitted)
 }

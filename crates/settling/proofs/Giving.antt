@@ -26,8 +26,9 @@ use Rattle.theory.specs.Lists.{_∈_, Pairs, here, each-all}
 use Rattle.theory.specs.Programs.{Is, of-is, Sized}
 use Rattle.theory.specs.Loose.{Loose, waiting-in}
 use Rattle.tables.specs.declared.ProgramSet.{ProgramSet}
-use Rattle.tables.specs.Tables.{inPlace, joined, packed, SetsOf}
+use Rattle.tables.specs.Tables.{SetsOf}
 use Rattle.tables.specs.Claims.{givenAt}
+use Rattle.tables.proofs.Given.{packed-same, Given, opening-given, sets-given}
 use Rattle.search.specs.declared.Uses.{Uses}
 use Rattle.search.specs.Rows.{admits, admittedSet}
 use Rattle.search.specs.Gives.{usesOf, usesIn}
@@ -54,12 +55,6 @@ set-set : {A : Type 0} (l : List A) (i : ℕ) (a b : A) → set (set l i a) i b 
 set-set [] i a b = refl
 set-set (x ∷ xs) zero a b = refl
 set-set (x ∷ xs) (suc i) a b = ap (λ ys. x ∷ ys) (set-set xs i a b)
-
-packed-same : (t u : ℕ → Bool) (n : ℕ) → ((x : ℕ) → 1 ≤ x → x ≤ n → t x ≡ u x) → packed t n ≡ packed u n
-unfolding packed
-packed-same t u zero g = refl
-packed-same t u (suc n) g = ap₂ (λ (s : ProgramSet) (y : Bool). joined s (suc n) y) (packed-same t u n (λ x h k. g x h (omega arith)))
-    (g (suc n) (omega arith) (omega arith))
 
 module _ (c : Board) (p f : ℕ) (z : Sized (c .programs)) (i : Is p) where
   place : p - 1 < 32
@@ -98,69 +93,11 @@ module _ (c : Board) (p f : ℕ) (z : Sized (c .programs)) (i : Is p) where
 
 -- ---- the sets, with a file given
 
-serve-v : (q : Program) (f : ℕ) → serve q f .writable ≡ q .writable
-unfolding opening
-serve-v q f = by-test (member (q .writable) f) (λ t. rw t) (λ t. rw t)
+serve-given : (q : Program) (f : ℕ) → Given q (serve q f) f
+serve-given q f = let k = opening-given q f in record { v = k .v; q′ = k .q′; w = k .w; r = k .r }
 
-serve-q : (q : Program) (f : ℕ) → serve q f .readable ≡ q .readable
-unfolding opening
-serve-q q f = by-test (member (q .writable) f) (λ t. rw t) (λ t. rw t)
-
-serve-w : (q : Program) (f : ℕ) → serve q f .writing .bits ≡ cond (member (q .writable) f) (withNumber 64 (q .writing .bits) f) (q .writing .bits)
-unfolding opening
-serve-w q f = by-test (member (q .writable) f) (λ t. rw t) (λ t. rw t)
-
-serve-r : (q : Program) (f : ℕ) → serve q f .reading .bits ≡ cond (member (q .writable) f) (q .reading .bits) (withNumber 64 (q .reading .bits) f)
-unfolding opening
-serve-r q f = by-test (member (q .writable) f) (λ t. rw t) (λ t. rw t)
-
-module _ (l : List ℕ) (i f : ℕ) (h : i < 32) (n : length l ≡ 128) where
-  abbrev mine : Bool
-  mine = member (record { bits = getD l i 0 }) f
-
-  abbrev w : ℕ
-  w = getD l (64 + i) 0
-
-  abbrev r : ℕ
-  r = getD l (96 + i) 0
-
-  given-length : length (givenAt l i f) ≡ 128
-  given-length = by-test mine (λ t. rw t (length-set l (64 + i) (withNumber 64 w f) ∙ n)) (λ t. rw t (length-set l (96 + i) (withNumber 64 r f) ∙ n))
-
-  given-else : (j : ℕ) → j ≢ 64 + i → j ≢ 96 + i → getD (givenAt l i f) j 0 ≡ getD l j 0
-  given-else j a b = by-test mine (λ t. rw t (getD-set-other l (64 + i) j (withNumber 64 w f) 0 a))
-      (λ t. rw t (getD-set-other l (96 + i) j (withNumber 64 r f) 0 b))
-
-  given-w : getD (givenAt l i f) (64 + i) 0 ≡ cond mine (withNumber 64 w f) w
-  given-w = by-test mine (λ t. rw t (getD-set-same l (64 + i) (withNumber 64 w f) 0 (omega arith)))
-      (λ t. rw t (getD-set-other l (96 + i) (64 + i) (withNumber 64 r f) 0 (omega arith)))
-
-  given-r : getD (givenAt l i f) (96 + i) 0 ≡ cond mine r (withNumber 64 r f)
-  given-r = by-test mine (λ t. rw t (getD-set-other l (64 + i) (96 + i) (withNumber 64 w f) 0 (omega arith)))
-      (λ t. rw t (getD-set-same l (96 + i) (withNumber 64 r f) 0 (omega arith)))
-
-sets-given : (c : Board) (p f : ℕ) (sets : List ℕ) → Sized (c .programs) → Is p → SetsOf c sets → SetsOf (givenTo c p f) (givenAt sets (p - 1) f)
-sets-given c p f sets z i (n, s) = let h = place c p f z i in (
-  given-length sets (p - 1) f h n,
-  λ j m. by-test (eqb j (p - 1))
-      (λ t. let d : j ≡ p - 1 = eqb-true j (p - 1) t in let e = s (p - 1) h in rw d (
-        given-else sets (p - 1) f h n (p - 1) (omega arith) (omega arith) ∙ e .0 ∙ sym (ap (λ (q : Program). q .writable .bits) here-is ∙ ap (λ (x : FileSet). x .bits) (serve-v (at c p) f)),
-        given-else sets (p - 1) f h n (32 + (p - 1)) (omega arith) (omega arith) ∙ e .1
-            ∙ sym (ap (λ (q : Program). q .readable .bits) here-is ∙ ap (λ (x : FileSet). x .bits) (serve-q (at c p) f)),
-        given-w sets (p - 1) f h n ∙ rw (e .0, e .2) (sym (ap (λ (q : Program). q .writing .bits) here-is ∙ serve-w (at c p) f)),
-        given-r sets (p - 1) f h n ∙ rw (e .0, e .3) (sym (ap (λ (q : Program). q .reading .bits) here-is ∙ serve-r (at c p) f)),
-      ))
-      (λ t. let d : j ≢ p - 1 = eqb-false j (p - 1) t in let e = s j m in
-      let o = sym (getD-set-other (c .programs) (p - 1) j (serve (at c p) f) noProgram d) in (
-        given-else sets (p - 1) f h n j (omega arith) (omega arith) ∙ e .0 ∙ ap (λ (q : Program). q .writable .bits) o,
-        given-else sets (p - 1) f h n (32 + j) (omega arith) (omega arith) ∙ e .1 ∙ ap (λ (q : Program). q .readable .bits) o,
-        given-else sets (p - 1) f h n (64 + j) (omega arith) (omega arith) ∙ e .2 ∙ ap (λ (q : Program). q .writing .bits) o,
-        given-else sets (p - 1) f h n (96 + j) (omega arith) (omega arith) ∙ e .3 ∙ ap (λ (q : Program). q .reading .bits) o,
-      )),
-)
-  where
-    here-is : inPlace (givenTo c p f) (p - 1) ≡ serve (at c p) f
-    here-is = given-here c p f z i
+sets-served : (c : Board) (p f : ℕ) (sets : List ℕ) → Sized (c .programs) → Is p → SetsOf c sets → SetsOf (givenTo c p f) (givenAt sets (p - 1) f)
+sets-served c p f sets z i s = sets-given c (givenTo c p f) (serve (at c p) f) p f sets z i refl (serve-given (at c p) f) s
 
 -- ---- the pass, with the arrays
 
@@ -238,7 +175,7 @@ module _ (w s : Written) (l asked sets : List ℕ) (u : Uses) (k j : ℕ) (a : A
           ∙ ap (λ (y : Board). stateOf y (set (s .lines) (s .count) (line Word.Given (getD l j 0) (awaited (s .board) (getD l j 0)))) (s .count + 1))
           (given-is (s .board) (getD l j 0) (awaited (s .board) (getD l j 0)) size is)
           ∙ give-some s (s .board) (getD l j 0) (awaited (s .board) (getD l j 0)) can);
-      sets-are = sets-given (s .board) (getD l j 0) (getD asked (getD l j 0 - 1) 0) sets size is (a .sets-are);
+      sets-are = sets-served (s .board) (getD l j 0) (getD asked (getD l j 0 - 1) 0) sets size is (a .sets-are);
       uses-are = e ∙ ap (λ (y : ProgramSet). usesIn y (givenAt sets (getD l j 0 - 1) (getD asked (getD l j 0 - 1) 0)))
           (ap (λ (y : Uses). y .admitted) (a .uses-are)
           ∙ sym (admitted-given (s .board) (getD l j 0) (getD asked (getD l j 0 - 1) 0) size is admitted));

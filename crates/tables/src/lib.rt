@@ -126,13 +126,21 @@ fn clear(rows: &mut [u32; 32])
     }
 }
 
+// Who holds back whom, by the sets of the board's programs.
+pub fn fill_rows(sets: &[u64; 128], rows: &mut [u32; 32])
+    requires { ⌜ length (now rows) ≡ 32 ⌝ }
+    ensures { λ _. ⌜ RowsFor (now (sets .entry)) (now (rows .exit)) ⌝ }
+{
+    clear(rows);
+    let top = highest(sets);
+    add_holders(sets, top, rows);
+}
+
 // The sets of the board's programs, and who holds back whom.
 pub fn fill(b: Board, sets: &mut [u64; 128], rows: &mut [u32; 32])
     requires { ⌜ (length (now sets) ≡ 128) × (length (now rows) ≡ 32) ⌝ }
     ensures { λ _. ⌜ SetsOf b (now (sets .exit)) × RowsOf b (now (rows .exit)) ⌝ }
 {
     take_sets(b, sets);
-    clear(rows);
-    let top = highest(sets);
-    add_holders(sets, top, rows);
+    fill_rows(sets, rows);
 }

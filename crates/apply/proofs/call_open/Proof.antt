@@ -1,6 +1,6 @@
 -- `call_open` meets its contract. Assumes nothing.
 use Prim.Native.Nat.{ℕ}
-use mathlib.Core.Path.{_≡_, sym, ap, _∙_}
+use mathlib.Core.Path.{_≡_, refl, sym, ap, _∙_}
 use Rattle.files.specs.Sets.{isFile}
 use Rattle.files.proofs.Bits.{is-number}
 use Rattle.rules.specs.declared.Refusal.{Refusal}
@@ -33,7 +33,7 @@ returns c = let a = c .before .before .before .args in
 
 do-open-requires : tie.Need-do-open-requires
 do-open-requires c κs = let k = c .before .before in let s = start k in
-    (s .pre .0, s .pre .1, sym (told k) ∙ c .enum-told .given .1)
+    (s .pre .0, s .pre .1, sym (told k) ∙ c .enum-told .given .1, refl)
 
 returns-2 : tie.Need-returns-2
 returns-2 c = let k = c .before .before .before in let a = start k .args in

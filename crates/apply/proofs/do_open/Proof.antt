@@ -1,64 +1,97 @@
 -- `do_open` meets its contract. Assumes nothing.
-use mathlib.Core.Path.{sym, ap, _∙_}
+use mathlib.Core.Path.{_≡_, refl, sym, ap, _∙_}
 use mathlib.Core.List.{[], _∷_}
 use Rattle.rules.specs.declared.Board.{Board}
+use Rattle.rules.specs.declared.Program.{Program}
 use Rattle.rules.specs.declared.Answer.{Answer}
 use Rattle.rules.specs.declared.Word.{Word}
+use Rattle.rules.specs.Boards.{at, setProgram, opening}
+use Rattle.rules.specs.Orders.{carried, withGiven, inUse}
 use Rattle.rules.specs.Settling.{line}
 use Rattle.rules.specs.Replies.{reply}
 use Rattle.rules.specs.Calls.{openFile}
+use Rattle.theory.specs.Sound.{loose-apart}
+use Rattle.theory.specs.Calls.{open-may}
+use Rattle.search.specs.declared.Uses.{Uses}
+use Rattle.search.specs.Rows.{asOrder}
 use Rattle.apply.proofs.Laws.{waiting-free, not-safe, is-safe}
 use borrow.Author.Needs.{needs}
 use Rattle.apply.proofs.do_open.Statement.{statement}
 use Rattle.apply.proofs.do_open.Tie as tie
 
+abbrev start : tie.After-in-use → tie.Start
+start u = u .before .before .before .before .before .before
+
+-- whether the file is in conflicting use
+used : (u : tie.After-in-use) → u .in-use .result ≡ inUse (start u .args .b) (start u .args .p) (start u .args .f)
+used u = let s = start u in let a = s .args in u .in-use .ensures (a .b) (u .before .before .before .before .fill-sets .ensures)
+    (u .before .before .uses-of .ensures) (loose-apart (a .b) (s .pre .1 .loose)) (open-may (a .b) (a .p) (a .f) (s .pre .2) .asked .shut)
+
+abbrev tested : tie.After-order-given → tie.After-in-use
+tested o = o .before .before .before .before
+
+-- the order with the file given
+sought : (o : tie.After-order-given) → let a = start (tested o) .args in o .order-given .result ≡ asOrder (carried (withGiven (a .b) (a .p) (a .f)))
+sought o = let u = tested o in let s = start u in
+    o .order-given .ensures (s .args .b) (s .pre .1 .loose .base .size) (u .before .before .before .before .fill-sets .ensures)
+    (ap (λ (x : Uses). x .admitted) (u .before .before .uses-of .ensures))
+
 put-waiting-requires : tie.Need-put-waiting-requires
-put-waiting-requires c κs = let s = c .before .before in let a = s .args in (s .pre .0, waiting-free (a .b) (a .p) (a .f) (s .pre .1) (s .pre .2))
+put-waiting-requires c κs = let s = start (c .before) in let a = s .args in
+    (s .pre .0, waiting-free (a .b) (a .p) (a .f) (s .pre .1) (s .pre .2))
 
 returns : tie.Need-returns
 unfolding openFile
-returns c = let a = c .before .before .before .before .args in
-    rw (sym (c .before .before .before .in-use .ensures) ∙ c .before .before .if1 .taken)
+returns c = let u = c .before .before .before in let a = start u .args in
+    rw (sym (used u) ∙ c .before .before .if1 .taken)
     (c .answered .ensures ∙ ap (λ (x : Board). reply x Answer.Wait (line Word.Wait (a .p) (a .f) ∷ [])) (c .before .put-waiting .ensures))
 
 put-waiting-requires-2 : tie.Need-put-waiting-requires-2
-put-waiting-requires-2 c κs = let s = c .before .before .before .before .before .before in let a =
-    s .args in (s .pre .0, waiting-free (a .b) (a .p) (a .f) (s .pre .1) (s .pre .2))
+put-waiting-requires-2 c κs = let s = start (tested (c .before .before)) in let a = s .args in
+    (s .pre .0, waiting-free (a .b) (a .p) (a .f) (s .pre .1) (s .pre .2))
 
 returns-2 : tie.Need-returns-2
 unfolding openFile
-returns-2 c = let o = c .before .before .before .before in let g = o .before in let u = g .before .before in let a = u .before .args in
+returns-2 c = let o = c .before .before .before .before in let u = tested o in let a = start u .args in
     rw (
-      sym (u .in-use .ensures) ∙ g .before .if1 .left,
-      not-safe (a .b) (g .with-given .result) (a .p) (a .f) (o .carried-order .result) (g .with-given .ensures)
-          (o .carried-order .ensures) (c .before .before .enum-told2 .given .1),
+      sym (used u) ∙ o .before .before .before .if1 .left,
+      not-safe (a .b) (withGiven (a .b) (a .p) (a .f)) (a .p) (a .f) (o .order-given .result) refl (sought o) (c .before .before .enum-told2 .given .1),
     )
     (c .answered2 .ensures ∙ ap (λ (x : Board). reply x Answer.Unsafe (line Word.Unsafe (a .p) (a .f) ∷ [])) (c .before .put-waiting2 .ensures))
 
+-- the board with the file given
+given : (k : tie.After-put) → let a = start (tested (k .before .before .before .before)) .args in k .put .result ≡ withGiven (a .b) (a .p) (a .f)
+unfolding withGiven
+given k = let s = start (tested (k .before .before .before .before)) in let a = s .args in k .put .ensures
+    ∙ ap (setProgram (a .b) (a .p)) (k .before .opening .ensures ∙ ap (λ (x : Program). opening x (a .f)) (s .pre .3))
+
 returns-3 : tie.Need-returns-3
 unfolding openFile
-returns-3 c = let o = c .before .before .before in let g = o .before in let u = g .before .before in let a = u .before .args in
+returns-3 c = let o = c .before .before .before .before .before in let u = tested o in let a = start u .args in
     rw (
-      sym (u .in-use .ensures) ∙ g .before .if1 .left,
-      is-safe (a .b) (g .with-given .result) (a .p) (a .f) (o .carried-order .result) (c .before .enum-told .given .0 .0)
-          (g .with-given .ensures) (o .carried-order .ensures) (c .before .enum-told .given .1),
+      sym (used u) ∙ o .before .before .before .if1 .left,
+      is-safe (a .b) (withGiven (a .b) (a .p) (a .f)) (a .p) (a .f) (o .order-given .result) (c .before .before .before .enum-told .given .0 .0)
+          refl (sought o) (c .before .before .before .enum-told .given .1),
     )
-    (c .answered3 .ensures ∙ ap (λ (x : Board). reply x Answer.Given (line Word.Given (a .p) (a .f) ∷ [])) (g .with-given .ensures))
+    (c .answered3 .ensures ∙ ap (λ (x : Board). reply x Answer.Given (line Word.Given (a .p) (a .f) ∷ [])) (given (c .before)))
 
 pub do-open-spec : {M : Type 1} → statement M
 do-open-spec =
     tie.close
     (tie.spec
     (λ c κs. search needs)
+    (λ c κs. search needs)
+    (λ c κs. search needs)
     put-waiting-requires
     (λ c κs. search needs)
     returns
-    (λ c κs. search needs)
     (λ c κs. search needs)
     (λ c. search needs)
     (λ c. search needs)
     put-waiting-requires-2
     (λ c κs. search needs)
     returns-2
+    (λ c κs. search needs)
+    (λ c κs. search needs)
     (λ c κs. search needs)
     returns-3)

@@ -4,8 +4,8 @@ use Rattle.tables.proofs.fill.Statement.{statement}
 use Rattle.tables.proofs.fill.Tie as tie
 
 returns : tie.Need-returns
-returns c = let t = c .before .before .before .before .before .before .before in
-    (t .take-sets .ensures, c .add-holders .ensures (t .before .before .args .b) (t .take-sets .ensures))
+returns c = let t = c .before .before .before in
+    (t .take-sets .ensures, c .fill-rows .ensures (t .before .before .args .b) (t .take-sets .ensures))
 
 pub fill-spec : {M : Type 1} → statement M
-fill-spec = tie.close (tie.spec (λ c κs. search needs) (λ c κs. search needs) (λ c κs. search needs) (λ c κs. search needs) returns)
+fill-spec = tie.close (tie.spec (λ c κs. search needs) (λ c κs. search needs) returns)
