@@ -1,5 +1,6 @@
 -- Laws of lines of names, by sets of programs. Assumes nothing.
 use Prim.Native.Nat.{ℕ, suc, _-_, _<_, _^_}
+use native.Mathlib.Nat.{le-antisymm}
 use native.Mathlib.Omega.{arith}
 use mathlib.Core.Path.{_≡_, refl, sym, ap, ap₂, _∙_}
 use mathlib.Core.Logic.{_≢_}
@@ -13,10 +14,11 @@ use Rattle.files.specs.Bits.{hasBit, isNumber, hasNumber, withoutNumber}
 use Rattle.files.proofs.Tests.{by-test, never, or-cases, or-left, or-right, and-left, and-right, and-both, no-true, not-true, true-not}
 use Rattle.files.proofs.Tests.{same-test}
 use Rattle.files.proofs.Bits.{zero-has, has-number, numbers-same, without-number-same, without-number-other}
-use Rattle.rules.specs.Lists.{any, all, listed, distinct, same, names, padded}
+use Rattle.rules.specs.Lists.{any, all, keep, listed, distinct, same, names, padded}
 use Rattle.rules.specs.Boards.{isProgram, everyone}
 use Rattle.rules.specs.Soundness.{lineSound}
 use Rattle.theory.specs.Lists.{_∈_, Pairs, NoRepeat, by-mem, here, all-each, each-all, listed-mem, mem-listed, distinct-once, once-distinct}
+use Rattle.theory.specs.Lists.{keep-mem, mem-keep, no-longer, Pairs-keep, Pairs-map, rising-pairs}
 use Rattle.theory.specs.Programs.{is-of, of-is, mem-everyone, everyone-is}
 use Rattle.tables.specs.declared.ProgramSet.{ProgramSet}
 use Rattle.tables.specs.ProgramSets.{hasProgram, withoutProgram}
@@ -153,3 +155,14 @@ line-packed l t = ap₂ (λ (a b : Bool). a && b && distinct (names l) && same l
     twice : (a b : Bool) → a && (a && b) ≡ a && b
     twice true b = refl
     twice false b = refl
+
+-- numbers that take all programs out of the set are as many as those
+pub takes-count : (l : List ℕ) (s : ProgramSet) → takes l s ≡ true → length l ≡ length (keep (hasProgram s) everyone)
+unfolding everyone
+takes-count l s e = let r = takes-right l s e in
+    le-antisymm
+    (no-longer l (keep (hasProgram s) everyone) (r .once)
+    (λ p m. let h = r .only p m in mem-keep (hasProgram s) everyone p (mem-everyone p (is-of p (has-number 32 (s .bits) p h))) h))
+    (no-longer (keep (hasProgram s) everyone) l
+    (Pairs-keep _ (hasProgram s) everyone (Pairs-map everyone (λ a b m k l d. absurd (omega arith)) (rising-pairs 32 1)))
+    (λ p m. r .every p (keep-mem (hasProgram s) everyone p m .1)))

@@ -6,11 +6,12 @@ use search::Order;
 use search::Uses;
 use tables::ProgramSet;
 ghost use mathlib.Core.Path.{_≡_};
-ghost use mathlib.Core.Bool.{true, false, _&&_};
+ghost use mathlib.Core.Bool.{true, false, cond, _&&_};
 ghost use Prim.Native.Nat.{_≤_};
 ghost use lib.Dec.{eqb};
+ghost use lib.ListN.{length};
 ghost use Rattle.files.specs.Sets.{isEmpty};
-ghost use Rattle.rules.specs.Lists.{all, found, names};
+ghost use Rattle.rules.specs.Lists.{all, found, keep, names};
 ghost use Rattle.rules.specs.Boards.{everyone};
 ghost use Rattle.rules.specs.Orders.{carried};
 ghost use Rattle.rules.specs.Soundness.{setsSound, standingSound, programSound, lineSound, waiterSound, noneFavoured};
@@ -19,7 +20,7 @@ ghost use Rattle.tables.specs.ProgramSets.{hasProgram};
 ghost use Rattle.tables.specs.Tables.{SetsOf, RowsOf};
 ghost use Rattle.search.specs.Rows.{asOrder, admittedSet};
 ghost use Rattle.search.specs.Gives.{usesOf};
-ghost use Rattle.sound.specs.Parts.{stands, rightName, standSet, takes, isSoundAt, ConflictFree, waiterAt, Known, WaiterFor};
+ghost use Rattle.sound.specs.Parts.{isName, stands, rightName, standSet, takes, isSoundAt, ConflictFree, waiterAt, Known, WaiterFor};
 
 // Whether a board is sound, and its carried order.
 pub struct Judged {
@@ -193,6 +194,30 @@ fn is_blank(line: [u8; 32]) -> bool
     bits == 0
 }
 
+// 1 unless x is 0.
+fn one_named(x: u8) -> u8
+    ensures { λ r. ⌜ (r ≡ cond (isName x) 1 0) × (r ≤ 1) ⌝ }
+{
+    if x == 0 {
+        return 0;
+    }
+    1
+}
+
+// How many places of the line are not 0.
+fn count_named(line: [u8; 32]) -> u8
+    ensures { λ r. ⌜ r ≡ length (keep isName line) ⌝ }
+{
+    let mut n: u8 = 0;
+    let mut k: usize = 0;
+    while k < 32 {
+        let one = one_named(line[k]);
+        n += one;
+        k += 1;
+    }
+    n
+}
+
 // The line names each program of the set once, and nobody else, and is then 0.
 fn line_sound(line: [u8; 32], set: ProgramSet) -> bool
     ensures { λ r. ⌜ r ≡ lineSound line (hasProgram set) ⌝ }
@@ -203,7 +228,8 @@ fn line_sound(line: [u8; 32], set: ProgramSet) -> bool
     if !takes_all(line, set) {
         return false;
     }
-    lines::is_zero_after(line)
+    let n = set.count();
+    count_named(line) == n
 }
 
 // The waiter's file is claimed, not open by it, and can't be given now.

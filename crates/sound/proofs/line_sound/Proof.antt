@@ -1,7 +1,8 @@
 -- `line_sound` meets its contract. Assumes nothing.
-use mathlib.Core.Path.{_≡_, sym, _∙_}
+use mathlib.Core.Path.{_≡_, sym, ap₂, _∙_}
 use mathlib.Core.Bool.{not, _&&_, _||_}
 use Prim.Native.Nat.{_<_, _^_}
+use lib.Dec.{eqb}
 use lib.ListN.{length}
 use borrow.Author.Tests.{not-true, not-false}
 use borrow.Author.Needs.{needs}
@@ -9,8 +10,9 @@ use Rattle.rules.specs.Lists.{all, names, listed, distinct}
 use Rattle.rules.specs.Boards.{isProgram, everyone}
 use Rattle.rules.specs.Soundness.{lineSound}
 use Rattle.tables.specs.ProgramSets.{hasProgram}
-use Rattle.sound.proofs.Taken.{takes-is}
+use Rattle.sound.proofs.Taken.{takes-is, takes-count}
 use Rattle.sound.proofs.Blank.{blank-line}
+use Rattle.sound.proofs.Named.{named-is}
 use Rattle.sound.proofs.line_sound.Statement.{statement}
 use Rattle.sound.proofs.line_sound.Tie as tie
 
@@ -31,8 +33,12 @@ returns-2 c = rw (right (c .before) ∙ not-true (c .before .takes-all .result) 
 
 returns-3 : tie.Need-returns-3
 unfolding lineSound
-returns-3 c = rw (right (c .before .before) ∙ not-false (c .before .before .takes-all .result) (c .before .if2 .left))
-    (c .is-zero-after .ensures)
+returns-3 c = let k = c .before .before .before in let a = k .before .before .before .args in let n : length (a .line) ≡ 32 = search needs in
+    let t = not-false (k .takes-all .result) (c .before .before .if2 .left) in
+    rw (right k ∙ t) (ap₂ eqb (c .count-named .ensures) (c .before .count .ensures .0
+    ∙ sym (takes-count (names (a .line)) (a .set) (sym (k .takes-all .ensures) ∙ t))) ∙ named-is (a .line) n)
 
 pub line-sound-spec : {M : Type 1} → statement M
-line-sound-spec = tie.close (tie.spec (λ c κs. search needs) returns (λ c κs. search needs) returns-2 (λ c κs. search needs) returns-3)
+line-sound-spec =
+    tie.close
+    (tie.spec (λ c κs. search needs) returns (λ c κs. search needs) returns-2 (λ c κs. search needs) (λ c κs. search needs) returns-3)
