@@ -23,115 +23,80 @@ loop-holds c = let a = c .before .before .before .before .before in (search need
 
 array-read-p : tie.Need-array-read-p Inv-loop μ-loop
 array-read-p c =
-    let l = c .before .loop in let g = c .before .before .before .before .before .before .before .args .w in let m = l .inv .1 in let e = c .before .before .before .count-names .ensures .1 in
-    let x = held-ne (g .board .entry) (l .k) _ (l .inv .2) (omega arith) (omega arith) in
-    let r = name-range (g .board .entry) (l .k) (omega arith) x (l .inv .3 .0) in
-    let n = held-room (stateOf (l .c) (l .lines) (l .n)) (g .board .entry) (l .k) (omega arith) x (l .inv .3 .1) in
-    let a = r .0 in let b = r .1 in omega arith
+    let l = c .before .loop in let m = l .inv .1 in let e = c .before .before .before .count-names .ensures .1 in omega arith
 
 sub-i : tie.Need-sub-i Inv-loop μ-loop
 sub-i c =
-    let l = c .before .loop in let g = c .before .before .before .before .before .before .before .args .w in let m = l .inv .1 in let e = c .before .before .before .count-names .ensures .1 in
-    let x = held-ne (g .board .entry) (l .k) _ (l .inv .2) (omega arith) (omega arith) in
-    let r = name-range (g .board .entry) (l .k) (omega arith) x (l .inv .3 .0) in
-    let n = held-room (stateOf (l .c) (l .lines) (l .n)) (g .board .entry) (l .k) (omega arith) x (l .inv .3 .1) in
-    let a = r .0 in let b = r .1 in a
+    let l = c .before .loop in let m = l .inv .1 in let e = c .before .before .before .count-names .ensures .1 in
+    let g = c .before .before .before .before .before .before .before .args .w in let x = held-ne (g .board .entry) (l .k) _ (l .inv .2) (omega arith) (omega arith) in
+    let r = name-range (g .board .entry) (l .k) (omega arith) x (l .inv .3 .0) in let a = r .0 in let b = r .1 in a
 
 cast-i : tie.Need-cast-i Inv-loop μ-loop
 cast-i c =
-    let l = c .before .loop in let g = c .before .before .before .before .before .before .before .args .w in let m = l .inv .1 in let e = c .before .before .before .count-names .ensures .1 in
-    let x = held-ne (g .board .entry) (l .k) _ (l .inv .2) (omega arith) (omega arith) in
-    let r = name-range (g .board .entry) (l .k) (omega arith) x (l .inv .3 .0) in
-    let n = held-room (stateOf (l .c) (l .lines) (l .n)) (g .board .entry) (l .k) (omega arith) x (l .inv .3 .1) in
-    let a = r .0 in let b = r .1 in omega arith
+    let l = c .before .loop in let m = l .inv .1 in let e = c .before .before .before .count-names .ensures .1 in
+    let g = c .before .before .before .before .before .before .before .args .w in let x = held-ne (g .board .entry) (l .k) _ (l .inv .2) (omega arith) (omega arith) in
+    let r = name-range (g .board .entry) (l .k) (omega arith) x (l .inv .3 .0) in let a = r .0 in let b = r .1 in omega arith
 
 mul-q : tie.Need-mul-q Inv-loop μ-loop
 mul-q c =
-    let l = c .before .loop in let g = c .before .before .before .before .before .before .before .args .w in let m = l .inv .1 in let e = c .before .before .before .count-names .ensures .1 in
-    let x = held-ne (g .board .entry) (l .k) _ (l .inv .2) (omega arith) (omega arith) in
-    let r = name-range (g .board .entry) (l .k) (omega arith) x (l .inv .3 .0) in
-    let n = held-room (stateOf (l .c) (l .lines) (l .n)) (g .board .entry) (l .k) (omega arith) x (l .inv .3 .1) in
-    let a = r .0 in let b = r .1 in omega arith
+    let l = c .before .loop in let m = l .inv .1 in let e = c .before .before .before .count-names .ensures .1 in
+    let g = c .before .before .before .before .before .before .before .args .w in let x = held-ne (g .board .entry) (l .k) _ (l .inv .2) (omega arith) (omega arith) in
+    let r = name-range (g .board .entry) (l .k) (omega arith) x (l .inv .3 .0) in let a = r .0 in let b = r .1 in omega arith
 
 element-copy-out-q : tie.Need-element-copy-out-q Inv-loop μ-loop
 element-copy-out-q c =
-    let l = c .before .loop in let g = c .before .before .before .before .before .before .before .args .w in let m = l .inv .1 in let e = c .before .before .before .count-names .ensures .1 in
-    let x = held-ne (g .board .entry) (l .k) _ (l .inv .2) (omega arith) (omega arith) in
-    let r = name-range (g .board .entry) (l .k) (omega arith) x (l .inv .3 .0) in
-    let n = held-room (stateOf (l .c) (l .lines) (l .n)) (g .board .entry) (l .k) (omega arith) x (l .inv .3 .1) in
-    let a = r .0 in let b = r .1 in omega arith
+    let l = c .before .loop in let m = l .inv .1 in let e = c .before .before .before .count-names .ensures .1 in
+    let g = c .before .before .before .before .before .before .before .args .w in let x = held-ne (g .board .entry) (l .k) _ (l .inv .2) (omega arith) (omega arith) in
+    let r = name-range (g .board .entry) (l .k) (omega arith) x (l .inv .3 .0) in let a = r .0 in let b = r .1 in omega arith
 
 mul-runs : tie.Need-mul-runs Inv-loop μ-loop
 mul-runs c =
-    let l = c .before .before .before .loop in let g = c .before .before .before .before .before .before .before .before .before .args .w in let m = l .inv .1 in let e = c .before .before .before .before .before .count-names .ensures .1 in
-    let x = held-ne (g .board .entry) (l .k) _ (l .inv .2) (omega arith) (omega arith) in
-    let r = name-range (g .board .entry) (l .k) (omega arith) x (l .inv .3 .0) in
-    let n = held-room (stateOf (l .c) (l .lines) (l .n)) (g .board .entry) (l .k) (omega arith) x (l .inv .3 .1) in
-    let a = r .0 in let b = r .1 in omega arith
+    let l = c .before .before .before .loop in let m = l .inv .1 in let e = c .before .before .before .before .before .count-names .ensures .1 in
+    let g = c .before .before .before .before .before .before .before .before .before .args .w in let x = held-ne (g .board .entry) (l .k) _ (l .inv .2) (omega arith) (omega arith) in
+    let r = name-range (g .board .entry) (l .k) (omega arith) x (l .inv .3 .0) in let a = r .0 in let b = r .1 in omega arith
 
 element-set-from-runs : tie.Need-element-set-from-runs Inv-loop μ-loop
 element-set-from-runs c =
-    let l = c .before .before .before .loop in let g = c .before .before .before .before .before .before .before .before .before .args .w in let m = l .inv .1 in let e = c .before .before .before .before .before .count-names .ensures .1 in
-    let x = held-ne (g .board .entry) (l .k) _ (l .inv .2) (omega arith) (omega arith) in
-    let r = name-range (g .board .entry) (l .k) (omega arith) x (l .inv .3 .0) in
-    let n = held-room (stateOf (l .c) (l .lines) (l .n)) (g .board .entry) (l .k) (omega arith) x (l .inv .3 .1) in
-    let a = r .0 in let b = r .1 in omega arith
+    let l = c .before .before .before .loop in let m = l .inv .1 in let e = c .before .before .before .before .before .count-names .ensures .1 in
+    let g = c .before .before .before .before .before .before .before .before .before .args .w in let x = held-ne (g .board .entry) (l .k) _ (l .inv .2) (omega arith) (omega arith) in
+    let r = name-range (g .board .entry) (l .k) (omega arith) x (l .inv .3 .0) in let a = r .0 in let b = r .1 in omega arith
 
 cast-lines : tie.Need-cast-lines Inv-loop μ-loop
 cast-lines c =
-    let l = c .before .before .before .loop in let g = c .before .before .before .before .before .before .before .before .before .args .w in let m = l .inv .1 in let e = c .before .before .before .before .before .count-names .ensures .1 in
-    let x = held-ne (g .board .entry) (l .k) _ (l .inv .2) (omega arith) (omega arith) in
-    let r = name-range (g .board .entry) (l .k) (omega arith) x (l .inv .3 .0) in
-    let n = held-room (stateOf (l .c) (l .lines) (l .n)) (g .board .entry) (l .k) (omega arith) x (l .inv .3 .1) in
-    let a = r .0 in let b = r .1 in omega arith
+    let l = c .before .before .before .loop in let m = l .inv .1 in let e = c .before .before .before .before .before .count-names .ensures .1 in
+    let g = c .before .before .before .before .before .before .before .before .before .args .w in let x = held-ne (g .board .entry) (l .k) _ (l .inv .2) (omega arith) (omega arith) in
+    let n = held-room (stateOf (l .c) (l .lines) (l .n)) (g .board .entry) (l .k) (omega arith) x (l .inv .3 .1) in omega arith
 
 mul-lines : tie.Need-mul-lines Inv-loop μ-loop
 mul-lines c =
-    let l = c .before .before .before .loop in let g = c .before .before .before .before .before .before .before .before .before .args .w in let m = l .inv .1 in let e = c .before .before .before .before .before .count-names .ensures .1 in
-    let x = held-ne (g .board .entry) (l .k) _ (l .inv .2) (omega arith) (omega arith) in
-    let r = name-range (g .board .entry) (l .k) (omega arith) x (l .inv .3 .0) in
-    let n = held-room (stateOf (l .c) (l .lines) (l .n)) (g .board .entry) (l .k) (omega arith) x (l .inv .3 .1) in
-    let a = r .0 in let b = r .1 in omega arith
+    let l = c .before .before .before .loop in let m = l .inv .1 in let e = c .before .before .before .before .before .count-names .ensures .1 in
+    let g = c .before .before .before .before .before .before .before .before .before .args .w in let x = held-ne (g .board .entry) (l .k) _ (l .inv .2) (omega arith) (omega arith) in
+    let n = held-room (stateOf (l .c) (l .lines) (l .n)) (g .board .entry) (l .k) (omega arith) x (l .inv .3 .1) in omega arith
 
 array-set-from-lines : tie.Need-array-set-from-lines Inv-loop μ-loop
 array-set-from-lines c =
-    let l = c .before .before .before .loop in let g = c .before .before .before .before .before .before .before .before .before .args .w in let m = l .inv .1 in let e = c .before .before .before .before .before .count-names .ensures .1 in
-    let x = held-ne (g .board .entry) (l .k) _ (l .inv .2) (omega arith) (omega arith) in
-    let r = name-range (g .board .entry) (l .k) (omega arith) x (l .inv .3 .0) in
-    let n = held-room (stateOf (l .c) (l .lines) (l .n)) (g .board .entry) (l .k) (omega arith) x (l .inv .3 .1) in
-    let a = r .0 in let b = r .1 in omega arith
+    let l = c .before .before .before .loop in let m = l .inv .1 in let e = c .before .before .before .before .before .count-names .ensures .1 in
+    let g = c .before .before .before .before .before .before .before .before .before .args .w in let x = held-ne (g .board .entry) (l .k) _ (l .inv .2) (omega arith) (omega arith) in
+    let n = held-room (stateOf (l .c) (l .lines) (l .n)) (g .board .entry) (l .k) (omega arith) x (l .inv .3 .1) in omega arith
 
 add-n : tie.Need-add-n Inv-loop μ-loop
 add-n c =
-    let l = c .before .before .before .loop in let g = c .before .before .before .before .before .before .before .before .before .args .w in let m = l .inv .1 in let e = c .before .before .before .before .before .count-names .ensures .1 in
-    let x = held-ne (g .board .entry) (l .k) _ (l .inv .2) (omega arith) (omega arith) in
-    let r = name-range (g .board .entry) (l .k) (omega arith) x (l .inv .3 .0) in
-    let n = held-room (stateOf (l .c) (l .lines) (l .n)) (g .board .entry) (l .k) (omega arith) x (l .inv .3 .1) in
-    let a = r .0 in let b = r .1 in omega arith
+    let l = c .before .before .before .loop in let m = l .inv .1 in let e = c .before .before .before .before .before .count-names .ensures .1 in
+    let g = c .before .before .before .before .before .before .before .before .before .args .w in let x = held-ne (g .board .entry) (l .k) _ (l .inv .2) (omega arith) (omega arith) in
+    let n = held-room (stateOf (l .c) (l .lines) (l .n)) (g .board .entry) (l .k) (omega arith) x (l .inv .3 .1) in omega arith
 
 add-k : tie.Need-add-k Inv-loop μ-loop
 add-k c =
-    let l = c .before .before .before .loop in let g = c .before .before .before .before .before .before .before .before .before .args .w in let m = l .inv .1 in let e = c .before .before .before .before .before .count-names .ensures .1 in
-    let x = held-ne (g .board .entry) (l .k) _ (l .inv .2) (omega arith) (omega arith) in
-    let r = name-range (g .board .entry) (l .k) (omega arith) x (l .inv .3 .0) in
-    let n = held-room (stateOf (l .c) (l .lines) (l .n)) (g .board .entry) (l .k) (omega arith) x (l .inv .3 .1) in
-    let a = r .0 in let b = r .1 in omega arith
+    let l = c .before .before .before .loop in let m = l .inv .1 in let e = c .before .before .before .before .before .count-names .ensures .1 in omega arith
 
 loop-less : tie.Need-loop-less Inv-loop μ-loop
 loop-less c =
-    let l = c .before .before .before .loop in let g = c .before .before .before .before .before .before .before .before .before .args .w in let m = l .inv .1 in let e = c .before .before .before .before .before .count-names .ensures .1 in
-    let x = held-ne (g .board .entry) (l .k) _ (l .inv .2) (omega arith) (omega arith) in
-    let r = name-range (g .board .entry) (l .k) (omega arith) x (l .inv .3 .0) in
-    let n = held-room (stateOf (l .c) (l .lines) (l .n)) (g .board .entry) (l .k) (omega arith) x (l .inv .3 .1) in
-    let a = r .0 in let b = r .1 in omega arith
+    let l = c .before .before .before .loop in let m = l .inv .1 in let e = c .before .before .before .before .before .count-names .ensures .1 in omega arith
 
 loop-again : tie.Need-loop-again Inv-loop μ-loop
 loop-again c =
-    let l = c .before .before .before .loop in let g = c .before .before .before .before .before .before .before .before .before .args .w in let m = l .inv .1 in let e = c .before .before .before .before .before .count-names .ensures .1 in
-    let x = held-ne (g .board .entry) (l .k) _ (l .inv .2) (omega arith) (omega arith) in
-    let r = name-range (g .board .entry) (l .k) (omega arith) x (l .inv .3 .0) in
-    let n = held-room (stateOf (l .c) (l .lines) (l .n)) (g .board .entry) (l .k) (omega arith) x (l .inv .3 .1) in
-    let a = r .0 in let b = r .1 in (
+    let l = c .before .before .before .loop in let m = l .inv .1 in let e = c .before .before .before .before .before .count-names .ensures .1 in
+    let g = c .before .before .before .before .before .before .before .before .before .args .w in let x = held-ne (g .board .entry) (l .k) _ (l .inv .2) (omega arith) (omega arith) in (
       omega arith,
       m,
       held-left (g .board .entry) (l .k) _ (l .inv .2) (omega arith) x,
