@@ -118,66 +118,73 @@ asks-none b l asked n p m = absurd (List·Memᴰ·not-nil (subst (λ (ps : List 
 pub ready-programs : (b : Board) (ps : List ℕ) → Ready b ps → all isProgram ps ≡ true
 ready-programs b ps r = each-all isProgram ps (λ p m. of-is p (r .2 p m .0))
 
+-- and an open would give the waiter at place k its file, or the line is at its end
+pub record Found (w : Written) (l asked : List ℕ) (k : ℕ) (s : Written) (sets : List ℕ) (u : Uses) : Type 0 where
+  pub here : At w l asked k s sets u
+  pub within : k ≤ 32
+  pub gives : k < 32 → (getD l k 0 ≢ 0) × (canGive (s .board) (getD l k 0) (awaited (s .board) (getD l k 0)) ≡ true)
+
 module _ (w s : Written) (l asked sets : List ℕ) (u : Uses) (k j : ℕ) (a : At w l asked k s sets u) (x : NextFor sets asked u l k j) where
   next-at : NextGiven (s .board) l k j × Asks (s .board) (names (drop j l)) asked
   next-at = x (s .board) (a .sets-are) (a .uses-are) (a .passed .0) (a .asks)
 
-  pub pass-at : PassAt w l j s
-  pass-at = pass-to w s l k j (a .passed) (next-at .0)
+  pub next-found : Found w l asked j s sets u
+  next-found = record {
+    here = record { passed = pass-to w s l k j (a .passed) (next-at .0); sets-are = a .sets-are; uses-are = a .uses-are; asks = next-at .1 };
+    within = next-at .0 .within;
+    gives = next-at .0 .gives;
+  }
 
-  pub next-on : (k ≤ j) × (j ≤ 32)
-  next-on = (next-at .0 .onward, next-at .0 .within)
+  pub next-on : k ≤ j
+  next-on = next-at .0 .onward
 
-  module _ (m : length l ≡ 32) (h : j < 32) where
-    p : ℕ
-    p = getD l j 0
+module _ (w s : Written) (l asked sets : List ℕ) (u : Uses) (j : ℕ) (a : Found w l asked j s sets u) (m : length l ≡ 32) (h : j < 32) where
+  pass-at : PassAt w l j s
+  pass-at = a .here .passed
 
-    ne : getD l j 0 ≢ 0
-    ne = next-at .0 .gives h .0
+  ne : getD l j 0 ≢ 0
+  ne = a .gives h .0
 
-    can : canGive (s .board) (getD l j 0) (awaited (s .board) (getD l j 0)) ≡ true
-    can = next-at .0 .gives h .1
+  can : canGive (s .board) (getD l j 0) (awaited (s .board) (getD l j 0)) ≡ true
+  can = a .gives h .1
 
-    range : ((1 ≤ getD l j 0) × (getD l j 0 ≤ 32)) × Fits s (tryGive (s .board) (getD l j 0) (awaited (s .board) (getD l j 0)))
-    range = pass-range w s l j (omega arith) ne pass-at
+  range : ((1 ≤ getD l j 0) × (getD l j 0 ≤ 32)) × Fits s (tryGive (s .board) (getD l j 0) (awaited (s .board) (getD l j 0)))
+  range = pass-range w s l j (omega arith) ne pass-at
 
-    -- a waiter is a program, and its line fits
-    pub give-range : (1 ≤ getD l j 0) × (getD l j 0 ≤ 32) × (s .count < 32)
-    give-range = (range .0 .0, range .0 .1, give-fits s (s .board) _ _ can (range .1))
+  -- a waiter is a program, and its line fits
+  pub give-range : (1 ≤ getD l j 0) × (getD l j 0 ≤ 32) × (s .count < 32)
+  give-range = (range .0 .0, range .0 .1, give-fits s (s .board) _ _ can (range .1))
 
-    is : Is (getD l j 0)
-    is = record { least = range .0 .0; most = range .0 .1 }
+  is : Is (getD l j 0)
+  is = record { least = range .0 .0; most = range .0 .1 }
 
-    ready : Ready (s .board) (getD l j 0 ∷ names (drop (suc j) l))
-    ready = subst (Ready (s .board)) (names-on l j (omega arith) ne) (pass-at .0)
+  ready : Ready (s .board) (getD l j 0 ∷ names (drop (suc j) l))
+  ready = subst (Ready (s .board)) (names-on l j (omega arith) ne) (pass-at .0)
 
-    asks-here : Asks (s .board) (getD l j 0 ∷ names (drop (suc j) l)) asked
-    asks-here = subst (λ (ps : List ℕ). Asks (s .board) ps asked) (names-on l j (omega arith) ne) (next-at .1)
+  asks-here : Asks (s .board) (getD l j 0 ∷ names (drop (suc j) l)) asked
+  asks-here = subst (λ (ps : List ℕ). Asks (s .board) ps asked) (names-on l j (omega arith) ne) (a .here .asks)
 
-    admitted : admits (s .board) (getD l j 0) ≡ true
-    admitted = waiting-in (at (s .board) (getD l j 0) .standing) (ready .2 (getD l j 0) here .1)
+  admitted : admits (s .board) (getD l j 0) ≡ true
+  admitted = waiting-in (at (s .board) (getD l j 0) .standing) (ready .2 (getD l j 0) here .1)
 
-    size : Sized (s .board .programs)
-    size = ready .0 .base .size
+  size : Sized (s .board .programs)
+  size = ready .0 .base .size
 
-    f : ℕ
-    f = getD asked (getD l j 0 - 1) 0
-
-    -- the waiter is given its file
-    pub give-next : (v : Uses) → v ≡ usesIn (u .admitted) (givenAt sets (getD l j 0 - 1) (getD asked (getD l j 0 - 1) 0))
-        → At w l asked (j + 1) (stateOf (givenTo (s .board) (getD l j 0) (getD asked (getD l j 0 - 1) 0))
-        (set (s .lines) (s .count) (line Word.Given (getD l j 0) (getD asked (getD l j 0 - 1) 0))) (s .count + 1))
-        (givenAt sets (getD l j 0 - 1) (getD asked (getD l j 0 - 1) 0)) v
-    give-next v e = record {
-      passed = pass-next w s l j (omega arith) ne pass-at _
-          (ap (λ (g : ℕ). stateOf (givenTo (s .board) (getD l j 0) g) (set (s .lines) (s .count) (line Word.Given (getD l j 0) g)) (s .count + 1))
-          (asks-here (getD l j 0) here)
-          ∙ ap (λ (y : Board). stateOf y (set (s .lines) (s .count) (line Word.Given (getD l j 0) (awaited (s .board) (getD l j 0)))) (s .count + 1))
-          (given-is (s .board) (getD l j 0) (awaited (s .board) (getD l j 0)) size is)
-          ∙ give-some s (s .board) (getD l j 0) (awaited (s .board) (getD l j 0)) can);
-      sets-are = sets-served (s .board) (getD l j 0) (getD asked (getD l j 0 - 1) 0) sets size is (a .sets-are);
-      uses-are = e ∙ ap (λ (y : ProgramSet). usesIn y (givenAt sets (getD l j 0 - 1) (getD asked (getD l j 0 - 1) 0)))
-          (ap (λ (y : Uses). y .admitted) (a .uses-are)
-          ∙ sym (admitted-given (s .board) (getD l j 0) (getD asked (getD l j 0 - 1) 0) size is admitted));
-      asks = rw (add-one j) (asks-given (s .board) (getD l j 0) (getD asked (getD l j 0 - 1) 0) size is (names (drop (suc j) l)) asked ready asks-here);
-    }
+  -- the waiter is given its file
+  pub give-next : (v : Uses) → v ≡ usesIn (u .admitted) (givenAt sets (getD l j 0 - 1) (getD asked (getD l j 0 - 1) 0))
+      → At w l asked (j + 1) (stateOf (givenTo (s .board) (getD l j 0) (getD asked (getD l j 0 - 1) 0))
+      (set (s .lines) (s .count) (line Word.Given (getD l j 0) (getD asked (getD l j 0 - 1) 0))) (s .count + 1))
+      (givenAt sets (getD l j 0 - 1) (getD asked (getD l j 0 - 1) 0)) v
+  give-next v e = record {
+    passed = pass-next w s l j (omega arith) ne pass-at _
+        (ap (λ (g : ℕ). stateOf (givenTo (s .board) (getD l j 0) g) (set (s .lines) (s .count) (line Word.Given (getD l j 0) g)) (s .count + 1))
+        (asks-here (getD l j 0) here)
+        ∙ ap (λ (y : Board). stateOf y (set (s .lines) (s .count) (line Word.Given (getD l j 0) (awaited (s .board) (getD l j 0)))) (s .count + 1))
+        (given-is (s .board) (getD l j 0) (awaited (s .board) (getD l j 0)) size is)
+        ∙ give-some s (s .board) (getD l j 0) (awaited (s .board) (getD l j 0)) can);
+    sets-are = sets-served (s .board) (getD l j 0) (getD asked (getD l j 0 - 1) 0) sets size is (a .here .sets-are);
+    uses-are = e ∙ ap (λ (y : ProgramSet). usesIn y (givenAt sets (getD l j 0 - 1) (getD asked (getD l j 0 - 1) 0)))
+        (ap (λ (y : Uses). y .admitted) (a .here .uses-are)
+        ∙ sym (admitted-given (s .board) (getD l j 0) (getD asked (getD l j 0 - 1) 0) size is admitted));
+    asks = rw (add-one j) (asks-given (s .board) (getD l j 0) (getD asked (getD l j 0 - 1) 0) size is (names (drop (suc j) l)) asked ready asks-here);
+  }

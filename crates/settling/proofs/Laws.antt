@@ -28,7 +28,7 @@ use Rattle.theory.specs.Sound.{loose-apart, loose-order, loose-waiter}
 use Rattle.tables.specs.Tables.{inPlace, SetsOf}
 use Rattle.search.specs.declared.Uses.{Uses}
 use Rattle.search.specs.Gives.{usesOf, UsedFor, GivenBy}
-use Rattle.lines.proofs.Laws.{names-on, names-end}
+use Rattle.lines.proofs.Laws.{names-on, names-stop, names-end}
 use Rattle.lines.proofs.Laws.{names-left}
 use Rattle.settling.specs.declared.Written.{Written}
 use Rattle.settling.specs.Writing.{Ready, NextGiven, after, Fits, admitOne, unused, AskedTo, Asks}
@@ -232,6 +232,23 @@ held-next w s u l k h ne i e =
 pub held-room : (s : Written) (l : List ℕ) (k : ℕ) → k < length l → getD l k 0 ≢ 0 → s .count + length (names (drop k l)) ≤ 32 → s .count < 32
 held-room s l k h ne f = let n : length (names (drop k l)) ≡ suc (length (names (drop (suc k) l))) =
     ap length (names-on l k h ne) in omega (arith, f, n)
+
+-- as long as not all that are held have run, there is a name at this place
+pub held-ne : (l : List ℕ) (k n : ℕ) → n ≡ k + length (names (drop k l)) → k < n → k < length l → getD l k 0 ≢ 0
+held-ne l k n e h m d = let z : length (names (drop k l)) ≡ 0 = ap length (names-stop l k m d) in omega arith
+
+pub held-left : (l : List ℕ) (k n : ℕ) → n ≡ k + length (names (drop k l)) → k < length l → getD l k 0 ≢ 0
+    → n ≡ k + 1 + length (names (drop (k + 1) l))
+held-left l k n e m ne = let z : length (names (drop k l)) ≡ suc (length (names (drop (suc k) l))) = ap length (names-on l k m ne) in
+    rw (add-one k) (omega arith)
+
+-- and then there is none
+pub held-none : (l : List ℕ) (k n : ℕ) → n ≡ k + length (names (drop k l)) → n ≤ k → names (drop k l) ≡ []
+held-none l k n e h = nil-of (names (drop k l)) (omega arith)
+  where
+    nil-of : (xs : List ℕ) → length xs ≡ 0 → xs ≡ []
+    nil-of [] z = refl
+    nil-of (x ∷ xs) z = absurd (omega arith)
 
 -- ---- the waiter to be favoured
 

@@ -16,7 +16,7 @@ ghost use Rattle.rules.specs.Lists.{all, names};
 ghost use Rattle.rules.specs.Boards.{isProgram, setEntry};
 ghost use Rattle.rules.specs.Settling.{pass, candidate, favour, runHeld, choose, settle};
 ghost use Rattle.theory.specs.Loose.{Loose};
-ghost use Rattle.settling.specs.Writing.{after, Fits, admitOne, serve, AskedOf, NextFor};
+ghost use Rattle.settling.specs.Writing.{after, Fits, serve, AskedOf, NextFor};
 
 // A board, and the lines written so far: the first `count` of `lines`.
 pub struct Written {
@@ -71,7 +71,7 @@ fn fill_asked(b: Board, asked: &mut [u8; 32])
 // The place of the next waiter, from a place of the line on, to which an open would now give its file; 32 if there is none.
 fn next_given(sets: &[u64; 128], asked: &[u8; 32], uses: Uses, line: [u8; 32], from: usize) -> usize
     requires { ⌜ (from ≤ 32) × (all isProgram (names (drop from line)) ≡ true) ⌝ }
-    ensures { λ r. ⌜ NextFor (now (sets .entry)) (now (asked .entry)) uses line from r ⌝ }
+    ensures { λ r. ⌜ (from ≤ r) × (r ≤ 32) × NextFor (now (sets .entry)) (now (asked .entry)) uses line from r ⌝ }
 {
     let mut k = from;
     while k < 32 {
@@ -102,16 +102,8 @@ fn pass_line(w: Written) -> Written
     let mut uses = search::gives::uses_of(c, &sets);
     let mut lines = w.lines;
     let mut n = w.count;
-    let mut k: usize = 0;
-    while k < 32 {
-        let j = next_given(&sets, &asked, uses, line, k);
-        if 31 < j {
-            return Written {
-                board: c,
-                lines: lines,
-                count: n,
-            };
-        }
+    let mut j = next_given(&sets, &asked, uses, line, 0);
+    while j < 32 {
         let p = line[j];
         let i = (p - 1) as usize;
         let f = asked[i];
@@ -135,7 +127,7 @@ fn pass_line(w: Written) -> Written
         tables::reach::give(&mut sets, i, f);
         let admitted = uses.admitted;
         uses = search::gives::uses_in(admitted, &sets);
-        k = j + 1;
+        j = next_given(&sets, &asked, uses, line, j + 1);
     }
     Written {
         board: c,
@@ -205,54 +197,7 @@ fn favour_waiter(w: Written, p: u8) -> Written
     }
 }
 
-// The held program p runs: an ADMIT line.
-fn admit_held(w: Written, p: u8) -> Written
-    requires { ⌜ ((1 ≤ p) × (p ≤ 32)) × (w .count < 32) ⌝ }
-    ensures { λ r. ⌜ r ≡ after w (admitOne (w .board) p) ⌝ }
-{
-    let b = w.board;
-    let i = (p - 1) as usize;
-    let q = b.programs[i];
-    let runs = q.at_standing(Standing::Running);
-    let c = search::put(b, p, runs);
-    let n = w.count;
-    let lines = w.lines;
-    let more = add_line(
-        lines,
-        n,
-        Line {
-            word: Word::Admit,
-            program: p,
-            file: 0,
-            refusal: 0,
-        },
-    );
-    Written {
-        board: c,
-        lines: more,
-        count: n + 1,
-    }
-}
-
-// The programs of a line run, in line order.
-fn admit_line(w: Written, line: [u8; 32]) -> Written
-    requires { ⌜ (all isProgram (names line) ≡ true) × (w .count + length (names line) ≤ 32) ⌝ }
-    ensures { λ r. ⌜ r ≡ after w (runHeld (names line) (w .board)) ⌝ }
-{
-    let mut s = w;
-    let mut k: usize = 0;
-    while k < 32 {
-        let p = line[k];
-        if p == 0 {
-            return s;
-        }
-        s = admit_held(s, p);
-        k += 1;
-    }
-    s
-}
-
-// All held programs run, and the entry line is empty.
+// All held programs run, an ADMIT line for each, and the entry line is empty.
 fn admit_all(w: Written) -> Written
     requires { ⌜ (all isProgram (names (w .board .entry)) ≡ true) × (w .count + length (names (w .board .entry)) ≤ 32) ⌝ }
     ensures { λ r. ⌜ r ≡ after w (runHeld (names (w .board .entry)) (setEntry (w .board) [])) ⌝ }
@@ -260,14 +205,30 @@ fn admit_all(w: Written) -> Written
     let mut c = w.board;
     let line = c.entry;
     c.entry = [0u8; 32];
-    let lines = w.lines;
-    let n = w.count;
-    let s = Written {
+    let held = lines::count_names(line);
+    let mut lines = w.lines;
+    let mut n = w.count;
+    let mut k: usize = 0;
+    while k < held {
+        let p = line[k];
+        let i = (p - 1) as usize;
+        let q = c.programs[i];
+        let runs = q.at_standing(Standing::Running);
+        c.programs[i] = runs;
+        lines[n as usize] = Line {
+            word: Word::Admit,
+            program: p,
+            file: 0,
+            refusal: 0,
+        };
+        n += 1;
+        k += 1;
+    }
+    Written {
         board: c,
         lines: lines,
         count: n,
-    };
-    admit_line(s, line)
+    }
 }
 
 // If nobody is favoured, the oldest waiter whose file is not in use is; if there is none, all held programs run.

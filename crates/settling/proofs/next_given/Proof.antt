@@ -24,11 +24,15 @@ loop-holds : tie.Need-loop-holds Inv-loop μ-loop
 loop-holds c = (c .pre .0, search needs, c .pre .1, search needs, λ b s u r a. (r, a, refl))
 
 returns : tie.Need-returns Inv-loop μ-loop
-returns c = let l = c .before .before .loop in let g = c .before .before .before .args in let m = l .inv .3 in λ b s u r a.
-    let (r′, a′, e) = l .inv .4 b s u r a in (
-      next-none b (g .t4) (g .from) (l .k) (omega (arith, l .inv .0, l .inv .1)) m r′ e (names-stop (g .t4) (l .k) (omega arith) (c .if1 .taken)),
-      asks-none b (g .t4) (g .asked .now) m,
-    )
+returns c = let l = c .before .before .loop in let g = c .before .before .before .args in let m = l .inv .3 in (
+  omega (arith, l .inv .0, l .inv .1),
+  search needs,
+  λ b s u r a.
+      let (r′, a′, e) = l .inv .4 b s u r a in (
+        next-none b (g .t4) (g .from) (l .k) (omega (arith, l .inv .0, l .inv .1)) m r′ e (names-stop (g .t4) (l .k) (omega arith) (c .if1 .taken)),
+        asks-none b (g .t4) (g .asked .now) m,
+      ),
+)
 
 sub-i : tie.Need-sub-i Inv-loop μ-loop
 sub-i c = let l = c .before .before .loop in let g = c .before .before .before .args in let m = l .inv .3 in let n = name-range (g .t4) (l .k) (omega arith) (c .if1 .left) (l .inv .2) in let h = n .0 in let j = n .1 in h
@@ -44,18 +48,22 @@ can-give-by-requires c κs = let l = c .before .before .before .loop in let g = 
 
 returns-2 : tie.Need-returns-2 Inv-loop μ-loop
 returns-2 c =
-    let l = c .before .before .before .before .before .loop in let i = c .before .before .before in let g = c .before .before .before .before .before .before .args in let m = l .inv .3 in λ b s u r a.
-    let (r′, a′, e) = l .inv .4 b s u r a in
-    let t = waiter-can b (g .t4) (l .k) (omega arith) (i .if1 .left) r′ (g .sets .now) (g .asked .now) (g .uses) (c .before .can-give-by .result)
-    s u a′ (c .before .can-give-by .ensures) in (
-      record {
-        onward = l .inv .1;
-        within = l .inv .0;
-        ready = r′;
-        same = e;
-        gives = λ h. (i .if1 .left, sym t ∙ c .if2 .taken);
-      },
-      a′,
+    let l = c .before .before .before .before .before .loop in let i = c .before .before .before in let g = c .before .before .before .before .before .before .args in let m = l .inv .3 in (
+      l .inv .1,
+      l .inv .0,
+      λ b s u r a.
+          let (r′, a′, e) = l .inv .4 b s u r a in
+          let t = waiter-can b (g .t4) (l .k) (omega arith) (i .if1 .left) r′ (g .sets .now) (g .asked .now) (g .uses) (c .before .can-give-by .result)
+          s u a′ (c .before .can-give-by .ensures) in (
+            record {
+              onward = l .inv .1;
+              within = l .inv .0;
+              ready = r′;
+              same = e;
+              gives = λ h. (i .if1 .left, sym t ∙ c .if2 .taken);
+            },
+            a′,
+          ),
     )
 
 loop-again : tie.Need-loop-again Inv-loop μ-loop
@@ -74,11 +82,15 @@ loop-again c =
     )
 
 returns-3 : tie.Need-returns-3 Inv-loop μ-loop
-returns-3 c = let l = c .before .loop in let g = c .before .before .args in let m = l .inv .3 in λ b s u r a.
-    let (r′, a′, e) = l .inv .4 b s u r a in (
-      next-none b (g .t4) (g .from) (l .k) (omega (arith, l .inv .0, l .inv .1)) m r′ e (names-end (g .t4) (l .k) (omega arith)),
-      asks-none b (g .t4) (g .asked .now) m,
-    )
+returns-3 c = let l = c .before .loop in let g = c .before .before .args in let m = l .inv .3 in (
+  omega (arith, l .inv .0, l .inv .1),
+  search needs,
+  λ b s u r a.
+      let (r′, a′, e) = l .inv .4 b s u r a in (
+        next-none b (g .t4) (g .from) (l .k) (omega (arith, l .inv .0, l .inv .1)) m r′ e (names-end (g .t4) (l .k) (omega arith)),
+        asks-none b (g .t4) (g .asked .now) m,
+      ),
+)
 
 pub next-given-spec : {M : Type 1} → statement M
 next-given-spec =
