@@ -19,8 +19,8 @@ use Rattle.rules.specs.Orders.{holdsBack, carried, safe}
 use Rattle.theory.specs.Reach.{isOther, ReachesOn, ClosedOn, no-back, reaches-direct, reaches-through, given-holds, safe-by-closed, unsafe-by-reach}
 use Rattle.tables.specs.declared.ProgramSet.{ProgramSet}
 use Rattle.tables.specs.ProgramSets.{noPrograms, hasProgram, withoutProgram, unionOf, commonOf}
-use Rattle.tables.specs.Tables.{packed, SetsOf, claimsAt}
-use Rattle.tables.specs.Claims.{filesIn, holdsAgainst}
+use Rattle.tables.specs.Tables.{packed, SetsOf}
+use Rattle.tables.specs.Claims.{claimsAt, filesIn, holdsAgainst}
 use Rattle.tables.proofs.Laws.{packed-has, union-has, common-has, none-has}
 use Rattle.tables.proofs.Claims.{holdsOne, has-split, has-some, against-split, against-first, against-some}
 use Rattle.search.specs.Rows.{admits, admittedSet}

@@ -5,18 +5,16 @@ use mathlib.Core.Path.{_≡_}
 use mathlib.Core.Bool.{Bool, true, false, not, _&&_}
 use mathlib.Core.List.{List, [], _∷_, _++_}
 use mathlib.Core.Option.{Option, none, some, Option·getD}
-use lib.Dec.{eqb}
 use lib.ListN.{length, take, drop, replicate}
-use Rattle.rules.specs.declared.Program.{Program}
 use Rattle.rules.specs.declared.Board.{Board}
-use Rattle.rules.specs.Lists.{any, first, found, withFound, padded}
+use Rattle.rules.specs.Lists.{first, withFound, padded}
 use Rattle.rules.specs.Boards.{everyone, at, isAdmitted}
-use Rattle.rules.specs.Orders.{conflict, carried, safe}
+use Rattle.rules.specs.Orders.{carried}
 use Rattle.tables.specs.declared.ProgramSet.{ProgramSet}
 use Rattle.search.specs.declared.Search.{Search}
 use Rattle.search.specs.declared.Order.{Order}
 use Rattle.tables.specs.ProgramSets.{hasProgram, withoutProgram, programsMeet}
-use Rattle.tables.specs.Tables.{packed, holders, rowOf, SetsOf, RowsOf}
+use Rattle.tables.specs.Tables.{packed, holders, rowOf, RowsOf}
 
 -- the rows of the board: in each program's place, those that hold it back
 abbrev pub RowsAt : Board → List ℕ → Type 0
@@ -29,14 +27,6 @@ admits b p = isAdmitted (at b p .standing)
 -- the admitted programs
 unfoldable pub admittedSet : Board → ProgramSet
 admittedSet b = packed (admits b) 32
-
--- i is another program than p, which would be me, and conflicts with it
-abbrev pub clashes : Board → ℕ → Program → ℕ → Bool
-clashes b p me i = not (eqb i p) && conflict (at b i) me
-
--- r conflicts with whom some program of the board conflicts with
-abbrev pub ConflictsFor : Board → Program → Type 0
-ConflictsFor b r = (q : Program) → conflict r q ≡ any (λ i. conflict (at b i) q) everyone
 
 -- p is left, and none that is left is in its row
 abbrev pub free : List ℕ → ProgramSet → ℕ → Bool
@@ -72,13 +62,6 @@ asOrder none = record { kind = Search.Stuck; at = replicate 32 0 }
 abbrev pub isFound : Search → Bool
 isFound (Search.Found n) = true
 isFound Search.Stuck = false
-
--- ---- giving a file
-
--- on every board with these sets, rows and admitted programs that has an order: the test says whether an order comes back with f given to p
-abbrev pub SafeFor : List ℕ → List ℕ → ProgramSet → ℕ → ℕ → Bool → Type 0
-SafeFor sets rows a p f r = (b : Board) → SetsOf b sets → RowsOf b rows → a ≡ admittedSet b → admits b p ≡ true
-    → found (carried b) ≡ true → r ≡ safe b p f
 
 -- the carried order of every board with these rows and admitted programs
 abbrev pub OrderFor : List ℕ → ProgramSet → Order → Type 0

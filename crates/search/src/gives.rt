@@ -9,7 +9,7 @@ ghost use Prim.Native.Nat.{_≤_};
 ghost use lib.ListN.{length};
 ghost use Rattle.tables.specs.Tables.{openedFrom};
 ghost use Rattle.search.specs.Rows.{admittedSet};
-ghost use Rattle.search.specs.Gives.{usesOf, UsedFor, GivenFor, usesIn, SafeBy, GivenBy, OrderGiven};
+ghost use Rattle.search.specs.Gives.{usesOf, UsedFor, usesIn, SafeFor, GivenFor, OrderGiven};
 
 // Who is admitted, and what is open.
 pub fn uses_of(b: Board, sets: &[u64; 128]) -> Uses
@@ -43,20 +43,6 @@ pub fn in_use(sets: &[u64; 128], u: Uses, p: u8, f: u8) -> bool
     read.has(f)
 }
 
-// Whether an open would give f, which p has not open, to p, on a board that has an order and no conflict.
-pub fn can_give(sets: &[u64; 128], rows: &[u32; 32], u: Uses, p: u8, f: u8) -> bool
-    requires { ⌜ (1 ≤ p) × (p ≤ 32) ⌝ }
-    ensures { λ r. ⌜ GivenFor (now (sets .entry)) (now (rows .entry)) u p f r ⌝ }
-{
-    if in_use(sets, u, p, f) {
-        return false;
-    }
-    let admitted = u.admitted;
-    crate::is_safe(sets, rows, admitted, p, f)
-}
-
-// ---- by the sets alone
-
 // What is open, by the sets, with these admitted.
 pub fn uses_in(admitted: ProgramSet, sets: &[u64; 128]) -> Uses
     ensures { λ r. ⌜ r ≡ usesIn admitted (now (sets .entry)) ⌝ }
@@ -72,9 +58,9 @@ pub fn uses_in(admitted: ProgramSet, sets: &[u64; 128]) -> Uses
 
 // On a board that has an order: whether an order comes back with f given to p. Those that hold p back, directly or through
 // others, are gathered round by round, until one claims f so that p would hold it back, or there are no more.
-pub fn is_safe_by(sets: &[u64; 128], admitted: ProgramSet, p: u8, f: u8) -> bool
+pub fn is_safe(sets: &[u64; 128], admitted: ProgramSet, p: u8, f: u8) -> bool
     requires { ⌜ (1 ≤ p) × (p ≤ 32) ⌝ }
-    ensures { λ r. ⌜ SafeBy (now (sets .entry)) admitted p f r ⌝ }
+    ensures { λ r. ⌜ SafeFor (now (sets .entry)) admitted p f r ⌝ }
 {
     let i = (p - 1) as usize;
     let v = sets[i];
@@ -99,15 +85,15 @@ pub fn is_safe_by(sets: &[u64; 128], admitted: ProgramSet, p: u8, f: u8) -> bool
 }
 
 // Whether an open would give f, which p has not open, to p, on a board that has an order and no conflict.
-pub fn can_give_by(sets: &[u64; 128], u: Uses, p: u8, f: u8) -> bool
+pub fn can_give(sets: &[u64; 128], u: Uses, p: u8, f: u8) -> bool
     requires { ⌜ (1 ≤ p) × (p ≤ 32) ⌝ }
-    ensures { λ r. ⌜ GivenBy (now (sets .entry)) u p f r ⌝ }
+    ensures { λ r. ⌜ GivenFor (now (sets .entry)) u p f r ⌝ }
 {
     if in_use(sets, u, p, f) {
         return false;
     }
     let admitted = u.admitted;
-    is_safe_by(sets, admitted, p, f)
+    is_safe(sets, admitted, p, f)
 }
 
 // The carried order of the board with f given to p, by its sets, which then are those with f given.

@@ -27,7 +27,7 @@ use Rattle.theory.specs.Settling.{pass-passed}
 use Rattle.theory.specs.Sound.{loose-apart, loose-order, loose-waiter}
 use Rattle.tables.specs.Tables.{inPlace, SetsOf}
 use Rattle.search.specs.declared.Uses.{Uses}
-use Rattle.search.specs.Gives.{usesOf, UsedFor, GivenBy}
+use Rattle.search.specs.Gives.{usesOf, UsedFor, GivenFor}
 use Rattle.lines.proofs.Laws.{names-on, names-stop, names-end}
 use Rattle.lines.proofs.Laws.{names-left}
 use Rattle.settling.specs.declared.Written.{Written}
@@ -173,7 +173,7 @@ module _ (b : Board) (l : List ℕ) (k : ℕ) (h : k < length l) (ne : getD l k 
 
   -- what the arrays say of the waiter is what the rules say
   pub waiter-can : (sets asked : List ℕ) (u : Uses) (t : Bool) → SetsOf b sets → u ≡ usesOf b sets → Asks b (names (drop k l)) asked
-      → GivenBy sets u (getD l k 0) (getD asked (getD l k 0 - 1) 0) t → t ≡ canGive b (getD l k 0) (awaited b (getD l k 0))
+      → GivenFor sets u (getD l k 0) (getD asked (getD l k 0 - 1) 0) t → t ≡ canGive b (getD l k 0) (awaited b (getD l k 0))
   waiter-can sets asked u t x z a g =
       let m = loose-waiter b (getD l k 0) (ready-at .0) (waiter-at .0) (waiter-at .1) in let e = a (getD l k 0) waiter-in in
       g b x z (loose-apart b (ready-at .0)) (loose-order b (ready-at .0)) (m .0) (ap (hasOpen (at b (getD l k 0))) e ∙ m .1)

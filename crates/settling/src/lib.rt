@@ -80,7 +80,7 @@ fn next_given(sets: &[u64; 128], asked: &[u8; 32], uses: Uses, line: [u8; 32], f
             return 32;
         }
         let i = (p - 1) as usize;
-        if search::gives::can_give_by(sets, uses, p, asked[i]) {
+        if search::gives::can_give(sets, uses, p, asked[i]) {
             return k;
         }
         k += 1;

@@ -17,7 +17,7 @@ ghost use Rattle.rules.specs.Orders.{carried};
 ghost use Rattle.rules.specs.Soundness.{setsSound, standingSound, programSound, lineSound, waiterSound, noneFavoured};
 ghost use Rattle.rules.specs.Soundness.{someFavoured, sound};
 ghost use Rattle.tables.specs.ProgramSets.{hasProgram};
-ghost use Rattle.tables.specs.Tables.{SetsOf, RowsOf};
+ghost use Rattle.tables.specs.Tables.{SetsOf};
 ghost use Rattle.search.specs.Rows.{asOrder, admittedSet};
 ghost use Rattle.search.specs.Gives.{usesOf};
 ghost use Rattle.sound.specs.Parts.{isName, stands, rightName, standSet, takes, isSoundAt, ConflictFree, waiterAt, Known, WaiterFor};
@@ -233,9 +233,9 @@ fn line_sound(line: [u8; 32], set: ProgramSet) -> bool
 }
 
 // The waiter's file is claimed, not open by it, and can't be given now.
-fn waiter_sound(q: Program, sets: &[u64; 128], rows: &[u32; 32], uses: Uses, p: u8, f: u8) -> bool
+fn waiter_sound(q: Program, sets: &[u64; 128], uses: Uses, p: u8, f: u8) -> bool
     requires { ⌜ (1 ≤ p) × (p ≤ 32) ⌝ }
-    ensures { λ r. ⌜ WaiterFor q (now (sets .entry)) (now (rows .entry)) uses p f r ⌝ }
+    ensures { λ r. ⌜ WaiterFor q (now (sets .entry)) uses p f r ⌝ }
 {
     if !q.claims(f) {
         return false;
@@ -243,12 +243,12 @@ fn waiter_sound(q: Program, sets: &[u64; 128], rows: &[u32; 32], uses: Uses, p: 
     if q.has_open(f) {
         return false;
     }
-    !search::gives::can_give(sets, rows, uses, p, f)
+    !search::gives::can_give(sets, uses, p, f)
 }
 
 // All waiters of a line that names waiting programs.
-fn waiters_sound(b: Board, sets: &[u64; 128], rows: &[u32; 32], uses: Uses, line: [u8; 32]) -> bool
-    requires { ⌜ Known b (now sets) (now rows) uses × (all (rightName b false) (names line) ≡ true) ⌝ }
+fn waiters_sound(b: Board, sets: &[u64; 128], uses: Uses, line: [u8; 32]) -> bool
+    requires { ⌜ Known b (now sets) uses × (all (rightName b false) (names line) ≡ true) ⌝ }
     ensures { λ r. ⌜ r ≡ all (waiterAt b) (names line) ⌝ }
 {
     let mut k: usize = 0;
@@ -261,7 +261,7 @@ fn waiters_sound(b: Board, sets: &[u64; 128], rows: &[u32; 32], uses: Uses, line
         let q = b.programs[i];
         let s = q.standing;
         let f = s.awaited();
-        if !waiter_sound(q, sets, rows, uses, p, f) {
+        if !waiter_sound(q, sets, uses, p, f) {
             return false;
         }
         k += 1;
@@ -305,13 +305,12 @@ fn some_favoured(b: Board, waiters: ProgramSet, admitted: ProgramSet) -> bool
 fn is_sound_by(
     b: Board,
     sets: &[u64; 128],
-    rows: &[u32; 32],
     uses: Uses,
     ordered: bool,
     waiters: ProgramSet,
     held: ProgramSet,
 ) -> bool
-    requires { ⌜ SetsOf b (now sets) × RowsOf b (now rows) × (uses ≡ usesOf b (now sets)) × (ordered ≡ found (carried b)) × (waiters ≡ standSet b false) × (held ≡ standSet b true) ⌝ }
+    requires { ⌜ SetsOf b (now sets) × (uses ≡ usesOf b (now sets)) × (ordered ≡ found (carried b)) × (waiters ≡ standSet b false) × (held ≡ standSet b true) ⌝ }
     ensures { λ r. ⌜ r ≡ sound b ⌝ }
 {
     if !programs_sound(b) {
@@ -331,7 +330,7 @@ fn is_sound_by(
     if !line_sound(entry, held) {
         return false;
     }
-    if !waiters_sound(b, sets, rows, uses, waiting) {
+    if !waiters_sound(b, sets, uses, waiting) {
         return false;
     }
     if b.favoured == 0 {
@@ -360,7 +359,7 @@ pub fn judge(b: Board) -> Judged
     let ordered = search::is_found(order);
     let waiters = standing_set(b, false);
     let held = standing_set(b, true);
-    let sound = is_sound_by(b, &sets, &rows, uses, ordered, waiters, held);
+    let sound = is_sound_by(b, &sets, uses, ordered, waiters, held);
     Judged { sound, order }
 }
 

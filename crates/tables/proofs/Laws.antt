@@ -273,21 +273,8 @@ packed-has t (suc n) i m l h =
         (λ y. rw y (no-true (hasProgram (packed t n) (suc n)) (λ d. let k : suc n - 1 ≡ n = omega arith in
         let r = packed-bit t n n (omega arith) (rw k at (has-bit 32 (packed t n .bits) (suc n) d)) .0 in omega arith)))
 
--- ---- those that hold back one of a set
+-- ---- members of sets of two sets
 
-pub holders-more : (rows : List ℕ) (s : ProgramSet) (p : ℕ) (a r : ProgramSet) → 1 ≤ p → a ≡ holdersOf rows s (p - 1)
-    → r ≡ cond (hasProgram s p) (unionOf a (rowOf rows p)) a → r ≡ holdersOf rows s (p + 1 - 1)
-unfolding holdersOf
-holders-more rows s zero a r h e k = absurd (omega arith)
-holders-more rows s (suc p) a r h e k =
-    let y : suc p + 1 - 1 ≡ suc p = omega arith in
-    let z : suc p - 1 ≡ p = omega arith in
-    rw y (k ∙ ap (λ (x : ProgramSet). cond (hasProgram s (suc p)) (unionOf x (rowOf rows (suc p))) x) (e ∙ ap (holdersOf rows s) z))
-
-pub holders-all : (rows : List ℕ) (s : ProgramSet) (p : ℕ) (a : ProgramSet) → p ≡ 33 → a ≡ holdersOf rows s (p - 1) → a ≡ holdersOf rows s 32
-holders-all rows s p a h e = e ∙ ap (λ (x : ℕ). holdersOf rows s (x - 1)) h
-
--- members of a union, and of what two sets have in common
 pub union-has : (s t : ProgramSet) (x : ℕ) → hasProgram (unionOf s t) x ≡ (hasProgram s x || hasProgram t x)
 union-has s t x = by-test (isNumber 32 x) (λ e. rw e (or-has (s .bits) (t .bits) (x - 1))) (λ e. rw e)
 
@@ -298,79 +285,6 @@ pub none-has : (x : ℕ) → hasProgram noPrograms x ≡ false
 none-has x = by-test (isNumber 32 x) (λ e. rw e (zero-has (x - 1))) (λ e. rw e)
 
 -- who holds back one of the set is among its holders, and nobody else
-pub holder-in : (rows : List ℕ) (s : ProgramSet) (n x y : ℕ) → 1 ≤ y → y ≤ n → hasProgram s y ≡ true → hasProgram (rowOf rows y) x ≡ true
-    → hasProgram (holdersOf rows s n) x ≡ true
-unfolding holdersOf
-holder-in rows s zero x y l h e k = absurd (omega arith)
-holder-in rows s (suc n) x y l h e k =
-    by-test (eqb y (suc n))
-    (λ t. let z : y ≡ suc n = eqb-true y (suc n) t in
-    rw (rw z at e) (union-has (holdersOf rows s n) (rowOf rows (suc n)) x ∙ or-right (hasProgram (holdersOf rows s n) x) _ (rw z at k)))
-    (λ t. let z : y ≢ suc n = eqb-false y (suc n) t in let r = holder-in rows s n x y l (omega arith) e k in
-    by-test (hasProgram s (suc n))
-    (λ u. rw u (union-has (holdersOf rows s n) (rowOf rows (suc n)) x ∙ or-left _ (hasProgram (rowOf rows (suc n)) x) r)) (λ u. rw u r))
-
-pub in-holder : (rows : List ℕ) (s : ProgramSet) (n x : ℕ) → hasProgram (holdersOf rows s n) x ≡ true
-    → (y : ℕ) × (hasProgram s y ≡ true) × (hasProgram (rowOf rows y) x ≡ true)
-unfolding holdersOf
-in-holder rows s zero x e = never e (none-has x)
-in-holder rows s (suc n) x e =
-    by-test (hasProgram s (suc n))
-    (λ u. or-cases (hasProgram (holdersOf rows s n) x) (hasProgram (rowOf rows (suc n)) x)
-    (sym (union-has (holdersOf rows s n) (rowOf rows (suc n)) x) ∙ rw u at e) (in-holder rows s n x) (λ k. (suc n, u, k)))
-    (λ u. in-holder rows s n x (rw u at e))
-
--- ---- reaching, one round after another
-
-module _ (rows : List ℕ) (among : ProgramSet) where
-  abbrev pub grownBy : ProgramSet → ProgramSet
-  grownBy s = unionOf s (commonOf (holdersOf rows s 32) among)
-
-  -- what is reached so far: the first ones, and only those with a chain to them
-  abbrev pub SoFar : ProgramSet → ProgramSet → Type 0
-  SoFar start s = ((x : ℕ) → hasProgram start x ≡ true → hasProgram s x ≡ true)
-      × ((x : ℕ) → hasProgram s x ≡ true → Chain rows among start x)
-
-  pub sofar-start : (set start : ProgramSet) → start ≡ commonOf set among → SoFar start start
-  sofar-start set start e = (
-    λ x h. h,
-    λ x h. Chain.first h (and-right (hasProgram set x) (hasProgram among x)
-        (sym (common-has set among x) ∙ ap (λ (s : ProgramSet). hasProgram s x) (sym e) ∙ h)),
-  )
-
-  pub sofar-more : (start s : ProgramSet) → SoFar start s → SoFar start (grownBy s)
-  sofar-more start s (f, g) = (
-    λ x h. union-has s (commonOf (holdersOf rows s 32) among) x ∙ or-left (hasProgram s x) _ (f x h),
-    λ x h. or-cases (hasProgram s x) (hasProgram (commonOf (holdersOf rows s 32) among) x)
-        (sym (union-has s (commonOf (holdersOf rows s 32) among) x) ∙ h) (g x)
-        (λ k. let c = sym (common-has (holdersOf rows s 32) among x) ∙ k in
-        let (y, u, v) = in-holder rows s 32 x (and-left (hasProgram (holdersOf rows s 32) x) (hasProgram among x) c) in
-        Chain.next (and-right (hasProgram (holdersOf rows s 32) x) (hasProgram among x) c) v (g y u)),
-  )
-
-  pub grown-le : (s : ProgramSet) → s .bits ≤ grownBy s .bits
-  grown-le s = omega (
-    arith,
-    or-add-and (s .bits) (bitAnd (holdersOf rows s 32 .bits) (among .bits)),
-    and-le-l (bitAnd (holdersOf rows s 32 .bits) (among .bits)) (s .bits),
-    and-comm (s .bits) (bitAnd (holdersOf rows s 32 .bits) (among .bits)),
-  )
-
-  -- where a round adds nobody, all are reached
-  pub reached-all : (set start s : ProgramSet) → start ≡ commonOf set among → SoFar start s → grownBy s .bits ≡ s .bits
-      → Reached rows among set s
-  reached-all set start s e (f, g) d = record {
-    starts = λ x h k. f x (rw e (common-has set among x ∙ and-both (hasProgram set x) (hasProgram among x) h k));
-    closed = λ x y h k u. ap (λ (n : ℕ). hasNumber 32 n x) (sym d) ∙ union-has s (commonOf (holdersOf rows s 32) among) x
-        ∙ or-right (hasProgram s x) _ (common-has (holdersOf rows s 32) among x
-        ∙ and-both (hasProgram (holdersOf rows s 32) x) (hasProgram among x)
-        (holder-in rows s 32 x y (least 32 y (has-number 32 (s .bits) y k)) (most 32 y (has-number 32 (s .bits) y k)) k u) h);
-    chained = λ x h. widen x (g x h);
-  }
-    where
-      widen : (x : ℕ) → Chain rows among start x → Chain rows among set x
-      widen x (Chain.first h k) = Chain.first (and-left (hasProgram set x) (hasProgram among x) (sym (common-has set among x) ∙ rw e at h)) k
-      widen x (Chain.next {y = y} h k c) = Chain.next h k (widen y c)
 
 -- ---- the numbers from p to 32
 

@@ -1,7 +1,7 @@
 -- Claims and holding back, by the sets of a board's programs alone; and the sets with a file given.
 -- Assumes nothing.
 use Prim.Native.Nat.{ℕ, zero, suc, _+_, _-_}
-use mathlib.Core.Bool.{Bool, cond}
+use mathlib.Core.Bool.{Bool, cond, _&&_, _||_}
 use mathlib.Core.List.{List}
 use lib.Bits.{bitOr}
 use lib.ListN.{getD, set}
@@ -15,6 +15,10 @@ use Rattle.tables.specs.Tables.{holdsBits}
 unfoldable pub filesIn : List ℕ → ℕ → ProgramSet → ℕ → ℕ
 filesIn l k s zero = 0
 filesIn l k s (suc n) = bitOr (filesIn l k s n) (cond (hasProgram s (suc n)) (getD l (k + n) 0) 0)
+
+-- the program at place p - 1 may write f or, if both count, read it
+abbrev pub claimsAt : List ℕ → ℕ → Bool → ℕ → Bool
+claimsAt sets f both p = member (record { bits = getD sets (p - 1) 0 }) f || (both && member (record { bits = getD sets (32 + (p - 1)) 0 }) f)
 
 -- program x holds back one with claims V and Q
 abbrev pub holdsAgainst : List ℕ → ℕ → ℕ → ℕ → Bool

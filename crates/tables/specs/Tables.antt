@@ -78,33 +78,9 @@ HolderAdded sets i before after = (length after ≡ 32) × ((j : ℕ) → j < 32
 abbrev pub RowsFor : List ℕ → List ℕ → Type 0
 RowsFor sets rows = (b : Board) → SetsOf b sets → RowsOf b rows
 
--- ---- reaching
-
 -- the row of p
 abbrev pub rowOf : List ℕ → ℕ → ProgramSet
 rowOf rows p = record { bits = getD rows (p - 1) 0 }
-
--- those that hold back one of the programs 1 to n of a set
-unfoldable pub holdersOf : List ℕ → ProgramSet → ℕ → ProgramSet
-holdersOf rows s zero = noPrograms
-holdersOf rows s (suc n) = cond (hasProgram s (suc n)) (unionOf (holdersOf rows s n) (rowOf rows (suc n))) (holdersOf rows s n)
-
--- x is one of the first, or holds back somebody with a chain to them; all among a set
-pub data Chain (rows : List ℕ) (among start : ProgramSet) : ℕ → Type 0 where
-  first : {x : ℕ} → hasProgram start x ≡ true → hasProgram among x ≡ true → Chain rows among start x
-  next : {x y : ℕ} → hasProgram among x ≡ true → hasProgram (rowOf rows y) x ≡ true → Chain rows among start y → Chain rows among start x
-
--- the set has those that are among the others with a chain to the first, and nobody else
-pub record Reached (rows : List ℕ) (among start r : ProgramSet) : Type 0 where
-  pub starts : (x : ℕ) → hasProgram start x ≡ true → hasProgram among x ≡ true → hasProgram r x ≡ true
-  pub closed : (x y : ℕ) → hasProgram among x ≡ true → hasProgram r y ≡ true → hasProgram (rowOf rows y) x ≡ true → hasProgram r x ≡ true
-  pub chained : (x : ℕ) → hasProgram r x ≡ true → Chain rows among start x
-
--- ---- claims of a file
-
--- the program at place p - 1 may write f or, if both count, read it
-abbrev pub claimsAt : List ℕ → ℕ → Bool → ℕ → Bool
-claimsAt sets f both p = member (record { bits = getD sets (p - 1) 0 }) f || (both && member (record { bits = getD sets (32 + (p - 1)) 0 }) f)
 
 -- 32 places that hold nobody
 abbrev pub Cleared : List ℕ → Type 0

@@ -40,11 +40,11 @@ sub-i c = let l = c .before .before .loop in let g = c .before .before .before .
 cast-i : tie.Need-cast-i Inv-loop μ-loop
 cast-i c = let l = c .before .before .loop in let g = c .before .before .before .args in let m = l .inv .3 in let n = name-range (g .t4) (l .k) (omega arith) (c .if1 .left) (l .inv .2) in let h = n .0 in let j = n .1 in omega arith
 
-element-copy-out-can-give-by : tie.Need-element-copy-out-can-give-by Inv-loop μ-loop
-element-copy-out-can-give-by c = let l = c .before .before .loop in let g = c .before .before .before .args in let m = l .inv .3 in let n = name-range (g .t4) (l .k) (omega arith) (c .if1 .left) (l .inv .2) in let h = n .0 in let j = n .1 in omega arith
+element-copy-out-can-give : tie.Need-element-copy-out-can-give Inv-loop μ-loop
+element-copy-out-can-give c = let l = c .before .before .loop in let g = c .before .before .before .args in let m = l .inv .3 in let n = name-range (g .t4) (l .k) (omega arith) (c .if1 .left) (l .inv .2) in let h = n .0 in let j = n .1 in omega arith
 
-can-give-by-requires : tie.Need-can-give-by-requires Inv-loop μ-loop
-can-give-by-requires c κs = let l = c .before .before .before .loop in let g = c .before .before .before .before .args in let m = l .inv .3 in let n = name-range (g .t4) (l .k) (omega arith) (c .before .if1 .left) (l .inv .2) in let h = n .0 in let j = n .1 in (h, j)
+can-give-requires : tie.Need-can-give-requires Inv-loop μ-loop
+can-give-requires c κs = let l = c .before .before .before .loop in let g = c .before .before .before .before .args in let m = l .inv .3 in let n = name-range (g .t4) (l .k) (omega arith) (c .before .if1 .left) (l .inv .2) in let h = n .0 in let j = n .1 in (h, j)
 
 returns-2 : tie.Need-returns-2 Inv-loop μ-loop
 returns-2 c =
@@ -53,8 +53,8 @@ returns-2 c =
       l .inv .0,
       λ b s u r a.
           let (r′, a′, e) = l .inv .4 b s u r a in
-          let t = waiter-can b (g .t4) (l .k) (omega arith) (i .if1 .left) r′ (g .sets .now) (g .asked .now) (g .uses) (c .before .can-give-by .result)
-          s u a′ (c .before .can-give-by .ensures) in (
+          let t = waiter-can b (g .t4) (l .k) (omega arith) (i .if1 .left) r′ (g .sets .now) (g .asked .now) (g .uses) (c .before .can-give .result)
+          s u a′ (c .before .can-give .ensures) in (
             record {
               onward = l .inv .1;
               within = l .inv .0;
@@ -75,8 +75,8 @@ loop-again c =
       m,
       λ b s u r a.
           let (r′, a′, e) = l .inv .4 b s u r a in
-          let t = waiter-can b (g .t4) (l .k) (omega arith) (i .if1 .left) r′ (g .sets .now) (g .asked .now) (g .uses) (c .before .can-give-by .result)
-          s u a′ (c .before .can-give-by .ensures) in
+          let t = waiter-can b (g .t4) (l .k) (omega arith) (i .if1 .left) r′ (g .sets .now) (g .asked .now) (g .uses) (c .before .can-give .result)
+          s u a′ (c .before .can-give .ensures) in
           let (x, d) = waiter-over b (g .t4) (l .k) (omega arith) (i .if1 .left) r′ (sym t ∙ c .if2 .left) in
           (x, asks-left b (g .t4) (l .k) (omega arith) (i .if1 .left) r′ (g .asked .now) a′, e ∙ d),
     )
@@ -103,8 +103,8 @@ next-given-spec =
     returns
     sub-i
     cast-i
-    element-copy-out-can-give-by
-    can-give-by-requires
+    element-copy-out-can-give
+    can-give-requires
     returns-2
     (λ c. search needs)
     (λ c. search needs)

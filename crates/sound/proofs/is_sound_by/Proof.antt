@@ -65,12 +65,12 @@ past2 c = and-both (all (isSoundAt (b2 c)) everyone) (noConflict (b2 c)) (past1 
 
 past3 : (c : tie.Else3) → first3 (b3 c) ≡ true
 past3 c = let s = c .before .before .before .before .before in
-    and-both (first2 (b3 c)) (found (carried (b3 c))) (past2 (c .before)) (sym (s .pre .3) ∙ not-false (s .args .ordered) (c .if3 .left))
+    and-both (first2 (b3 c)) (found (carried (b3 c))) (past2 (c .before)) (sym (s .pre .2) ∙ not-false (s .args .ordered) (c .if3 .left))
 
 waiting-line : (c : tie.After-line-sound) → let b = b3 (c .before .before) in
     c .line-sound .result ≡ lineSound (b .waiting) (standsAt b false)
 waiting-line c = let b = b3 (c .before .before) in let s = c .before .before .before .before .before .before .before in c .line-sound .ensures
-    ∙ ap (λ (s : ProgramSet). lineSound (b .waiting) (hasProgram s)) (s .pre .4)
+    ∙ ap (λ (s : ProgramSet). lineSound (b .waiting) (hasProgram s)) (s .pre .3)
     ∙ line-packed (b .waiting) (standsAt b false)
 
 past4 : (c : tie.Else4) → first4 (b4 c) ≡ true
@@ -81,7 +81,7 @@ entry-line : (c : tie.After-line-sound2) → let b = b4 (c .before .before) in
     c .line-sound2 .result ≡ lineSound (b .entry) (standsAt b true)
 entry-line c = let b = b4 (c .before .before) in
     let s = c .before .before .before .before .before .before .before .before .before .before in c .line-sound2 .ensures
-    ∙ ap (λ (s : ProgramSet). lineSound (b .entry) (hasProgram s)) (s .pre .5)
+    ∙ ap (λ (s : ProgramSet). lineSound (b .entry) (hasProgram s)) (s .pre .4)
     ∙ line-packed (b .entry) (standsAt b true)
 
 past5 : (c : tie.Else5) → first5 (b5 c) ≡ true
@@ -108,7 +108,7 @@ returns-2 c = rw (
 returns-3 : tie.Need-returns-3
 unfolding sound
 returns-3 c = let s = c .before .before .before .before .before in
-    rw (past2 (c .before), sym (s .pre .3) ∙ not-true (s .args .ordered) (c .if3 .taken))
+    rw (past2 (c .before), sym (s .pre .2) ∙ not-true (s .args .ordered) (c .if3 .taken))
 
 returns-4 : tie.Need-returns-4
 unfolding sound
@@ -129,8 +129,7 @@ waiters-sound-requires c κs = let l = c .before .before .before in
     let e = l .before .before .before in let s = e .before .before .before .before .before in (
       record {
         in-sets = s .pre .0;
-        in-rows = s .pre .1;
-        in-use = s .pre .2;
+        in-use = s .pre .1;
         apart = and-right (all (isSoundAt (b5 c)) everyone) (noConflict (b5 c)) (past2 (e .before));
         ordered = and-right (first2 (b5 c)) (found (carried (b5 c))) (past3 e);
       },
@@ -153,7 +152,7 @@ some-favoured-requires : tie.Need-some-favoured-requires
 some-favoured-requires c κs =
     let e = c .before .before .before .before .before .before .before .before .before .before .before in
     let s = e .before .before .before .before .before in
-    (s .pre .4, ap (λ (u : Uses). u .admitted) (s .pre .2))
+    (s .pre .3, ap (λ (u : Uses). u .admitted) (s .pre .1))
 
 returns-8 : tie.Need-returns-8
 unfolding sound

@@ -17,11 +17,11 @@ use Rattle.sound.proofs.waiters_sound.Statement.{statement}
 use Rattle.sound.proofs.waiters_sound.Tie as tie
 
 abbrev Inv-loop : tie.InvT-loop
-Inv-loop sets rows uses b line k₀ k = (k ≤ 32) × (all (rightName b false) (names (drop k line)) ≡ true) × (all (waiterAt b) (names line)
+Inv-loop sets uses b line k₀ k = (k ≤ 32) × (all (rightName b false) (names (drop k line)) ≡ true) × (all (waiterAt b) (names line)
     ≡ all (waiterAt b) (names (drop k line))) × (length line ≡ 32)
 
 abbrev μ-loop : tie.MeasureT-loop
-μ-loop sets rows uses b line k₀ k = 32 - k
+μ-loop sets uses b line k₀ k = 32 - k
 
 loop-holds : tie.Need-loop-holds Inv-loop μ-loop
 loop-holds c = (search needs, c .pre .1, refl, search needs)

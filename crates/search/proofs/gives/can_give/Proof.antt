@@ -9,15 +9,15 @@ use Rattle.search.proofs.gives.can_give.Tie as tie
 
 returns : tie.Need-returns
 unfolding canGive
-returns c = λ b s r e n o a h. let g = c .before .before .args in
+returns c = λ b s e n o a h. let g = c .before .before .args in
     let u : inUse b (g .p) (g .f) ≡ true = sym (c .before .in-use .ensures b s e n h) ∙ c .if1 .taken in
     sym (ap (λ (x : Bool). not x && safe b (g .p) (g .f)) u)
 
 returns-2 : tie.Need-returns-2
 unfolding canGive
-returns-2 c = λ b s r e n o a h. let i = c .before .before in let g = i .before .before .args in
+returns-2 c = λ b s e n o a h. let i = c .before .before in let g = i .before .before .args in
     let u : inUse b (g .p) (g .f) ≡ false = sym (i .before .in-use .ensures b s e n h) ∙ i .if1 .left in
-    c .is-safe .ensures b s r (ap (λ (z : Uses). z .admitted) e) a o ∙ sym (ap (λ (x : Bool). not x && safe b (g .p) (g .f)) u)
+    c .is-safe .ensures b s (ap (λ (z : Uses). z .admitted) e) a o ∙ sym (ap (λ (x : Bool). not x && safe b (g .p) (g .f)) u)
 
 pub can-give-spec : {M : Type 1} → statement M
 can-give-spec = tie.close (tie.spec (λ c κs. search needs) returns (λ c κs. search needs) returns-2)

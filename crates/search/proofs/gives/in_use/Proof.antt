@@ -6,7 +6,7 @@ use lib.ListN.{getD}
 use borrow.Author.Tests.{not-true, not-false}
 use Rattle.files.specs.Sets.{member}
 use Rattle.files.proofs.Tests.{or-left}
-use Rattle.search.proofs.Safe.{used-by}
+use Rattle.search.proofs.Used.{used-by}
 use borrow.Author.Needs.{needs}
 use Rattle.search.proofs.gives.in_use.Statement.{statement}
 use Rattle.search.proofs.gives.in_use.Tie as tie

@@ -1,4 +1,4 @@
--- `is_safe_by` meets its contract. Assumes nothing.
+-- `is_safe` meets its contract. Assumes nothing.
 use mathlib.Core.Path.{_≡_, sym, ap, ap₂, subst, _∙_}
 use mathlib.Core.Logic.{_≢_}
 use mathlib.Core.Bool.{Bool, true, false, _&&_, _||_}
@@ -13,8 +13,8 @@ use Rattle.tables.specs.Tables.{packed}
 use Rattle.tables.specs.Claims.{holdsAgainst}
 use Rattle.search.proofs.Closing.{Closing, claimedIn, closing-start, closing-more, closing-unsafe, closing-safe}
 use borrow.Author.Needs.{needs}
-use Rattle.search.proofs.gives.is_safe_by.Statement.{statement}
-use Rattle.search.proofs.gives.is_safe_by.Tie as tie
+use Rattle.search.proofs.gives.is_safe.Statement.{statement}
+use Rattle.search.proofs.gives.is_safe.Tie as tie
 
 abbrev Inv-loop : tie.InvT-loop
 Inv-loop sets p f i v q both others seen₀ next₀ seen next = Closing sets others v q f both seen next × (next .bits < 4294967296)
@@ -64,8 +64,8 @@ returns-2 c = λ b s e a o.
     sym (closing-safe b (g .sets .now) (g .p) (g .f) s h k a o (l .seen) (l .next) (c .before .before .before .before .before .before .without .result) (c .before .before .before .before .before .before .before .has .result)
     (c .before .before .before .before .before .before .without .ensures ∙ ap (λ (x : ProgramSet). withoutProgram x (g .p)) e) (c .before .before .before .before .before .before .before .has .ensures) (l .inv .0) (c .if1 .left))
 
-pub is-safe-by-spec : {M : Type 1} → statement M
-is-safe-by-spec =
+pub is-safe-spec : {M : Type 1} → statement M
+is-safe-spec =
     tie.close
     (tie.spec
     Inv-loop
