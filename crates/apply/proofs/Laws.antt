@@ -25,12 +25,12 @@ use Rattle.rules.specs.declared.Verb.{Verb}
 use Rattle.rules.specs.declared.Asked.{Asked}
 use Rattle.rules.specs.Lists.{found, padded, names}
 use Rattle.rules.specs.Boards.{noProgram, isProgram, at, setProgram, closing, dropping}
-use Rattle.rules.specs.Orders.{carried, withGiven, inUse, safe}
+use Rattle.rules.specs.Orders.{carried, withGiven, safe}
 use Rattle.rules.specs.Soundness.{sound}
 use Rattle.rules.specs.Settling.{line, settle}
 use Rattle.rules.specs.Replies.{blank, refusalOf, refused, reply, refuse}
 use Rattle.rules.specs.Checks.{unlessRunning, enterCheck, openCheck, closeCheck, leaveCheck}
-use Rattle.rules.specs.Calls.{openFile, done, countLeave, Call, callOf, callWith, checked, accepted, unless, apply}
+use Rattle.rules.specs.Calls.{done, countLeave, Call, callOf, callWith, checked, accepted, unless, apply}
 use Rattle.theory.specs.Loose.{Loose, Good}
 use Rattle.theory.specs.Sound.{sound-iff, sound-good, good-sound}
 use Rattle.theory.specs.Calls.{apply-accepted, apply-refused}

@@ -5,9 +5,9 @@ use native.Mathlib.Omega.{arith}
 use mathlib.Core.Path.{_≡_, refl, sym, ap, _∙_}
 use mathlib.Core.Logic.{_⊎_, ⊎-elim}
 use mathlib.Core.Bool.{true, false}
-use mathlib.Core.List.{List, [], _∷_, _++_, append-assoc}
+use mathlib.Core.List.{List, _++_}
 use lib.Dec.{eqb}
-use lib.ListN.{length, getD, take, drop, length-take, length-append, List·getD-append}
+use lib.ListN.{length, getD, take, drop, length-append, List·getD-append}
 use lib.Seq.{getD-append-add, getD-take, getD-drop, length-take-le}
 use borrow.Author.Tests.{eq-eqb}
 use Rattle.files.proofs.Tests.{by-test, never}
@@ -22,7 +22,7 @@ use Rattle.rules.specs.Calls.{Call, Enter, Open, Close, Drop, Leave, direct}
 use Rattle.theory.specs.Worked.{direct-is-apply}
 use Rattle.apply.proofs.Laws.{apply-same}
 use Rattle.request.specs.declared.Reading.{Reading}
-use Rattle.request.specs.Requests.{requestOf, requestCall, lineOf}
+use Rattle.request.specs.Requests.{requestOf, requestCall}
 use Rattle.request.specs.Law.{saying}
 use Rattle.request.proofs.Lines.{line-read}
 use Rattle.journal.specs.Journal.{linesBytes, written}
@@ -30,9 +30,9 @@ use Rattle.journal.proofs.Laws.{lines-length}
 use Rattle.image.specs.declared.Loaded.{Loaded}
 use Rattle.image.specs.Image.{imageOf, loadedOf}
 use Rattle.image.proofs.RoundTrip.{loaded-back, loaded-again}
-use Rattle.serve.specs.LineCall.{Outcome, journalFull, refuseLine, linesFor, replyBy, replyTo, stopped, posted, lineCall}
+use Rattle.serve.specs.LineCall.{Outcome, journalFull, linesFor, replyBy, replyTo, stopped, posted, lineCall}
 use Rattle.serve.proofs.Laws.{call-unsound, call-full, room}
-use Rattle.host.specs.Host.{readImage, hostedBy, hostCall}
+use Rattle.host.specs.Host.{hostedBy, hostCall}
 use Rattle.host.specs.Promises.{LineDoesItsCall, LineRefused, RefusedKeepsBoard, WritesNothing, OtherBytesKept, ReadsBack}
 use Rattle.host.specs.Promises.{AcceptedIsWritten, RefusedKeepsImage}
 use Rattle.host.proofs.Laws.{image-layout, image-unsound, image-sound, image-kept}

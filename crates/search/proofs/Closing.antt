@@ -4,7 +4,7 @@ use mathlib.Core.Bool.{Bool, true, false, not, cond, _&&_, _||_}
 use mathlib.Core.List.{List}
 use Prim.Native.Nat.{ℕ, _+_, _-_, _≤_}
 use native.Mathlib.Omega.{arith}
-use lib.Bits.{bitAnd, bitOr, or-add-and, and-le-l, and-comm}
+use lib.Bits.{bitOr, or-add-and, and-le-l, and-comm}
 use lib.Dec.{eqb}
 use lib.ListN.{getD}
 use borrow.Author.Tests.{eqb-true, eqb-false}
@@ -16,13 +16,13 @@ use Rattle.rules.specs.declared.Board.{Board}
 use Rattle.rules.specs.Lists.{found}
 use Rattle.rules.specs.Boards.{at, isProgram, claims}
 use Rattle.rules.specs.Orders.{holdsBack, carried, safe}
-use Rattle.theory.specs.Reach.{isOther, ReachesOn, ClosedOn, no-back, reaches-direct, reaches-through, given-holds, safe-by-closed, unsafe-by-reach}
+use Rattle.theory.specs.Reach.{isOther, ReachesOn, no-back, reaches-direct, reaches-through, given-holds, safe-by-closed, unsafe-by-reach}
 use Rattle.tables.specs.declared.ProgramSet.{ProgramSet}
 use Rattle.tables.specs.ProgramSets.{noPrograms, hasProgram, withoutProgram, unionOf, commonOf}
 use Rattle.tables.specs.Tables.{packed, SetsOf}
 use Rattle.tables.specs.Claims.{claimsAt, filesIn, holdsAgainst}
 use Rattle.tables.proofs.Laws.{packed-has, union-has, common-has, none-has}
-use Rattle.tables.proofs.Claims.{holdsOne, has-split, has-some, against-split, against-first, against-some}
+use Rattle.tables.proofs.Claims.{holdsOne, has-split, has-some, against-split, against-some}
 use Rattle.search.specs.Rows.{admits, admittedSet}
 
 -- x, among the others, holds back one with the claims v and q, or one that does so in turn

@@ -4,13 +4,13 @@ use mathlib.Core.Logic.{_≢_}
 use mathlib.Core.Bool.{Bool, true, false, not}
 use mathlib.Core.List.{List}
 use mathlib.Core.Option.{Option, none, some, Option·getD}
-use Prim.Native.Nat.{ℕ, zero, suc, _+_, _-_, _^_, _≤_, _<_}
+use Prim.Native.Nat.{ℕ, zero, suc, _+_, _-_, _≤_, _<_}
 use native.Mathlib.Omega.{arith}
 use lib.Dec.{eqb}
 use lib.Pow.{pow-pos}
 use borrow.Author.Tests.{eqb-true, eqb-false}
 use Rattle.files.proofs.Tests.{by-test, never, no-true, and-left, and-right, and-both}
-use Rattle.files.specs.Bits.{hasBit, isNumber, hasNumber}
+use Rattle.files.specs.Bits.{hasBit}
 use Rattle.files.proofs.Bits.{zero-has, has-bit, has-number, without-number-same, without-number-other}
 use Rattle.rules.specs.Lists.{rising, first}
 use Rattle.rules.specs.Boards.{everyone}

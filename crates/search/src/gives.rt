@@ -7,8 +7,6 @@ use tables::ProgramSet;
 ghost use mathlib.Core.Path.{_≡_};
 ghost use Prim.Native.Nat.{_≤_};
 ghost use lib.ListN.{length};
-ghost use Rattle.tables.specs.Tables.{openedFrom};
-ghost use Rattle.search.specs.Rows.{admittedSet};
 ghost use Rattle.search.specs.Gives.{usesOf, UsedFor, usesIn, SafeFor, GivenFor, OrderGiven};
 
 // Who is admitted, and what is open.

@@ -1,18 +1,17 @@
-// The carried order of a board, and whether a file can be given.
+// The carried order of a board.
 use files::FileSet;
 use rules::Board;
 use rules::Program;
-use rules::Standing;
 use tables::ProgramSet;
 ghost use mathlib.Core.Path.{_≡_};
 ghost use mathlib.Core.Bool.{not};
 ghost use Prim.Native.Nat.{_+_, _≤_};
 ghost use lib.ListN.{length};
 ghost use Rattle.rules.specs.Boards.{admitted, awaited, setProgram};
-ghost use Rattle.rules.specs.Orders.{carried, withGiven, inUse};
+ghost use Rattle.rules.specs.Orders.{carried};
 ghost use Rattle.tables.specs.ProgramSets.{programsMeet};
 ghost use Rattle.tables.specs.Tables.{rowOf};
-ghost use Rattle.search.specs.Rows.{admittedSet, lowest, orderFrom, placed, outcome, asOrder, isFound, OrderFor, SafeFor, ConflictsFor};
+ghost use Rattle.search.specs.Rows.{admittedSet, lowest, orderFrom, placed, outcome, asOrder, isFound, OrderFor};
 
 pub mod gives;
 

@@ -1,19 +1,16 @@
 -- Laws of one waiter given its file, on the board and in its arrays. Assumes nothing.
-use mathlib.Core.Path.{_≡_, refl, sym, ap, ap₂, _∙_, subst}
+use mathlib.Core.Path.{_≡_, refl, sym, ap, _∙_, subst}
 use mathlib.Core.Logic.{_≢_}
-use mathlib.Core.Bool.{Bool, true, cond}
+use mathlib.Core.Bool.{true, cond}
 use mathlib.Core.List.{List, [], _∷_, List·Memᴰ·tail, List·Memᴰ·not-nil}
 use Prim.Native.Nat.{ℕ, zero, suc, _+_, _-_, _≤_, _<_}
 use native.Mathlib.Numerals.{add-one}
 use native.Mathlib.Omega.{arith}
 use lib.Dec.{eqb}
-use lib.ListN.{length, getD, set, drop, length-set}
+use lib.ListN.{length, getD, set, drop}
 use lib.Seq.{getD-set-same, getD-set-other}
 use borrow.Author.Tests.{eqb-true, eqb-false}
 use Rattle.files.proofs.Tests.{by-test}
-use Rattle.files.specs.declared.FileSet.{FileSet}
-use Rattle.files.specs.Bits.{withNumber}
-use Rattle.files.specs.Sets.{member}
 use Rattle.rules.specs.declared.Program.{Program}
 use Rattle.rules.specs.declared.Board.{Board}
 use Rattle.rules.specs.declared.Word.{Word}
@@ -34,8 +31,8 @@ use Rattle.search.specs.Rows.{admits, admittedSet}
 use Rattle.search.specs.Gives.{usesOf, usesIn}
 use Rattle.lines.proofs.Laws.{names-on, names-end}
 use Rattle.settling.specs.declared.Written.{Written}
-use Rattle.settling.specs.Writing.{after, Fits, Ready, NextGiven, serve, AskedOf, Asks, NextFor}
-use Rattle.settling.proofs.Laws.{PassAt, pass-start, pass-to, pass-over, pass-range, pass-next, give-fits, give-some}
+use Rattle.settling.specs.Writing.{Fits, Ready, NextGiven, serve, AskedOf, Asks, NextFor}
+use Rattle.settling.proofs.Laws.{PassAt, pass-to, pass-range, pass-next, give-fits, give-some}
 
 -- the board with the waiter p given f
 abbrev pub givenTo : Board → ℕ → ℕ → Board

@@ -10,14 +10,13 @@ use lib.Dec.{eqb}
 use lib.ListN.{length, getD, drop, replicate, drop-of-length-le}
 use lib.Seq.{drop-cons}
 use borrow.Author.Tests.{eq-eqb, eqb-true}
-use Rattle.files.proofs.Tests.{by-test, never, and-left, and-right, and-true, and-false}
+use Rattle.files.proofs.Tests.{by-test, and-left, and-right, and-true, and-false}
 use Rattle.files.specs.Bits.{covers}
 use Rattle.files.specs.Sets.{isEmpty}
 use Rattle.files.proofs.Bits.{or-none, zero-share}
 use Rattle.rules.specs.declared.Standing.{Standing}
 use Rattle.rules.specs.declared.Program.{Program}
-use Rattle.rules.specs.Lists.{all, names, listed, distinct, same, padded}
-use Rattle.rules.specs.Boards.{isProgram, everyone}
+use Rattle.rules.specs.Lists.{all, names, same, padded}
 use Rattle.rules.specs.Soundness.{setsSound, standingSound, lineSound}
 use Rattle.tables.specs.declared.ProgramSet.{ProgramSet}
 use Rattle.tables.specs.ProgramSets.{hasProgram}

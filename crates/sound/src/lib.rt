@@ -14,7 +14,7 @@ ghost use Rattle.files.specs.Sets.{isEmpty};
 ghost use Rattle.rules.specs.Lists.{all, found, keep, names};
 ghost use Rattle.rules.specs.Boards.{everyone};
 ghost use Rattle.rules.specs.Orders.{carried};
-ghost use Rattle.rules.specs.Soundness.{setsSound, standingSound, programSound, lineSound, waiterSound, noneFavoured};
+ghost use Rattle.rules.specs.Soundness.{setsSound, standingSound, programSound, lineSound, noneFavoured};
 ghost use Rattle.rules.specs.Soundness.{someFavoured, sound};
 ghost use Rattle.tables.specs.ProgramSets.{hasProgram};
 ghost use Rattle.tables.specs.Tables.{SetsOf};

@@ -1,9 +1,9 @@
 -- Laws of claims and holding back by the sets alone, and of the sets with a file given. Assumes nothing.
-use mathlib.Core.Path.{_≡_, refl, sym, ap, ap₂, _∙_}
+use mathlib.Core.Path.{_≡_, sym, ap, ap₂, _∙_}
 use mathlib.Core.Logic.{_≢_}
-use mathlib.Core.Bool.{Bool, true, false, cond, _||_}
+use mathlib.Core.Bool.{Bool, true, cond, _||_}
 use mathlib.Core.List.{List}
-use Prim.Native.Nat.{ℕ, zero, suc, _+_, _-_, _≤_, _<_}
+use Prim.Native.Nat.{ℕ, zero, suc, _+_, _-_, _≤_}
 use native.Mathlib.Numerals.{add-one}
 use native.Mathlib.Omega.{arith}
 use lib.Bits.{bitOr}
@@ -15,7 +15,6 @@ use Rattle.files.proofs.Bits.{or-has, zero-has, share-of, of-share, has-number,
 use Rattle.files.proofs.Tests.{by-test, never, or-cases, or-left, or-right, and-both}
 use Rattle.tables.specs.declared.ProgramSet.{ProgramSet}
 use Rattle.tables.specs.ProgramSets.{hasProgram}
-use Rattle.tables.specs.Tables.{holdsBits}
 use Rattle.tables.specs.Claims.{filesIn, holdsAgainst}
 
 module _ (l : List ℕ) (k : ℕ) (s : ProgramSet) where

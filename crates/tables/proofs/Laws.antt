@@ -7,21 +7,21 @@ use mathlib.Core.Option.{none, some}
 use Prim.Native.Nat.{ℕ, zero, suc, _+_, _-_, _≤_, _<_}
 use native.Mathlib.Numerals.{add-one}
 use native.Mathlib.Omega.{arith}
-use lib.Bits.{bitAnd, bitOr, or-add-and, and-le-l, and-comm}
+use lib.Bits.{bitOr, or-add-and, and-le-l, and-comm}
 use lib.Dec.{eqb, ltb}
 use lib.ListN.{length, getD, set, length-set}
 use lib.Seq.{getD-set-same, getD-set-other}
 use borrow.Author.Tests.{eq-eqb, ne-eqb, eqb-true, eqb-false, ltb-true, ltb-false}
-use Rattle.files.proofs.Tests.{by-test, never, no-true, or-cases, or-left, or-right, and-left, and-right, and-both, and-false}
-use Rattle.files.specs.Bits.{hasBit, isNumber, hasNumber, share}
-use Rattle.files.proofs.Bits.{or-has, and-has, zero-share, zero-has, with-only, is-number, least, most, has-number, has-bit, with-number-same, with-number-other}
+use Rattle.files.proofs.Tests.{by-test, never, no-true, and-false}
+use Rattle.files.specs.Bits.{hasBit, isNumber, share}
+use Rattle.files.proofs.Bits.{or-has, and-has, zero-share, zero-has, with-only, is-number, has-bit, with-number-same, with-number-other}
 use Rattle.rules.specs.declared.Program.{Program}
 use Rattle.rules.specs.declared.Board.{Board}
 use Rattle.rules.specs.Lists.{rising, any, all, keep, first}
 use Rattle.rules.specs.Boards.{noProgram, at}
 use Rattle.tables.specs.declared.ProgramSet.{ProgramSet}
 use Rattle.tables.specs.ProgramSets.{noPrograms, hasProgram, unionOf, commonOf}
-use Rattle.tables.specs.Tables.{inPlace, SetsTo, SetsOf, RowsUpTo, joined, packed, stops, holdsBits, HolderAdded, rowOf, holdersOf, Chain, Reached, Cleared, EmptyFrom}
+use Rattle.tables.specs.Tables.{inPlace, SetsTo, SetsOf, RowsUpTo, joined, packed, stops, holdsBits, HolderAdded, Cleared, EmptyFrom}
 
 -- ---- the sets, one program after another
 

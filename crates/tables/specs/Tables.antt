@@ -2,20 +2,19 @@
 -- Assumes nothing.
 use Prim.Native.Nat.{ℕ, zero, suc, _+_, _-_, _≤_, _<_}
 use mathlib.Core.Path.{_≡_}
-use mathlib.Core.Bool.{Bool, true, not, cond, _&&_, _||_}
+use mathlib.Core.Bool.{Bool, not, cond, _&&_, _||_}
 use mathlib.Core.List.{List}
 use lib.Dec.{eqb}
 use lib.Bits.{bitOr}
 use lib.ListN.{length, getD}
 use Rattle.files.specs.declared.FileSet.{FileSet}
 use Rattle.files.specs.Bits.{share}
-use Rattle.files.specs.Sets.{member}
 use Rattle.rules.specs.declared.Program.{Program}
 use Rattle.rules.specs.declared.Board.{Board}
 use Rattle.rules.specs.Boards.{noProgram, at}
 use Rattle.rules.specs.Orders.{holdsBack}
 use Rattle.tables.specs.declared.ProgramSet.{ProgramSet}
-use Rattle.tables.specs.ProgramSets.{noPrograms, hasProgram, withProgram, unionOf}
+use Rattle.tables.specs.ProgramSets.{noPrograms, withProgram}
 
 -- the program at place i
 abbrev pub inPlace : Board → ℕ → Program

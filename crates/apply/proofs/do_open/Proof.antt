@@ -5,7 +5,7 @@ use Rattle.rules.specs.declared.Board.{Board}
 use Rattle.rules.specs.declared.Program.{Program}
 use Rattle.rules.specs.declared.Answer.{Answer}
 use Rattle.rules.specs.declared.Word.{Word}
-use Rattle.rules.specs.Boards.{at, setProgram, opening}
+use Rattle.rules.specs.Boards.{setProgram, opening}
 use Rattle.rules.specs.Orders.{carried, withGiven, inUse}
 use Rattle.rules.specs.Settling.{line}
 use Rattle.rules.specs.Replies.{reply}

@@ -1,6 +1,5 @@
 -- `lowest_free` meets its contract. Assumes nothing.
 use mathlib.Core.Path.{sym, _∙_}
-use native.Mathlib.Omega.{arith}
 use borrow.Author.Needs.{needs}
 use Rattle.search.proofs.Lowest.{Untried, untried-start, untried-more, lowest-at, lowest-no, without-lt}
 use Rattle.search.proofs.lowest_free.Statement.{statement}

@@ -1,6 +1,5 @@
 -- `line` meets its contract. Assumes nothing.
 use mathlib.Core.Path.{_≡_, ap, sym, _∙_}
-use mathlib.Core.Bool.{true}
 use lib.ListN.{length, length-map}
 use Rattle.rules.specs.declared.Reply.{Reply}
 use Rattle.serve.specs.LineCall.{replyTo, posted}

@@ -1,7 +1,7 @@
 -- `is_safe` meets its contract. Assumes nothing.
-use mathlib.Core.Path.{_≡_, sym, ap, ap₂, subst, _∙_}
+use mathlib.Core.Path.{sym, ap, ap₂, subst, _∙_}
 use mathlib.Core.Logic.{_≢_}
-use mathlib.Core.Bool.{Bool, true, false, _&&_, _||_}
+use mathlib.Core.Bool.{_&&_, _||_}
 use Prim.Native.Nat.{ℕ, _+_, _-_, _≤_, _<_}
 use native.Mathlib.Omega.{arith}
 use lib.Bits.{bitOr}
@@ -11,7 +11,7 @@ use Rattle.tables.specs.declared.ProgramSet.{ProgramSet}
 use Rattle.tables.specs.ProgramSets.{noPrograms, withoutProgram, unionOf, commonOf}
 use Rattle.tables.specs.Tables.{packed}
 use Rattle.tables.specs.Claims.{holdsAgainst}
-use Rattle.search.proofs.Closing.{Closing, claimedIn, closing-start, closing-more, closing-unsafe, closing-safe}
+use Rattle.search.proofs.Closing.{Closing, closing-start, closing-more, closing-unsafe, closing-safe}
 use borrow.Author.Needs.{needs}
 use Rattle.search.proofs.gives.is_safe.Statement.{statement}
 use Rattle.search.proofs.gives.is_safe.Tie as tie

@@ -2,7 +2,6 @@
 use mathlib.Core.Path.{_≡_, refl, sym, ap, _∙_, subst}
 use Prim.Native.Nat.{ℕ, _-_}
 use mathlib.Core.List.{List}
-use lib.ListN.{length, set}
 use Rattle.rules.specs.declared.Board.{Board}
 use Rattle.rules.specs.Boards.{at, isAdmitted, opening}
 use Rattle.rules.specs.Orders.{withGiven}
