@@ -14,10 +14,9 @@ order c = let a = c .before .before .before .before .before .before in let f = a
     c .order-in .ensures (f .before .before .before .args .b) (f .fill .ensures .1) (a .admitted-set .ensures)
 
 is-sound-by-requires : tie.Need-is-sound-by-requires
-is-sound-by-requires c κs = let h = c .before .before in let v = h .before in let i = v .before in let o = i .before in let r = o .before .before in let w = r .before .before in
+is-sound-by-requires c κs = let h = c .before in let v = h .before in let i = v .before in let o = i .before in let r = o .before .before in let w = r .before .before in
     let a = w .before .before in let f = a .before in let b = f .before .before .before .args .b in (
       f .fill .ensures .0,
-      f .fill .ensures .1,
       rw (a .admitted-set .ensures, w .opened .ensures, r .opened2 .ensures),
       i .is-found .ensures ∙ ap (λ (z : Order). isFound (z .kind)) (order o) ∙ has-found (carried b),
       v .standing-set .ensures,
@@ -25,7 +24,7 @@ is-sound-by-requires c κs = let h = c .before .before in let v = h .before in l
     )
 
 returns : tie.Need-returns
-returns c = (c .is-sound-by .ensures, order (c .before .before .before .before .before .before))
+returns c = (c .is-sound-by .ensures, order (c .before .before .before .before .before))
 
 pub judge-spec : {M : Type 1} → statement M
 judge-spec =

@@ -28,51 +28,51 @@ loop-holds c = (search needs, c .pre .1, refl, search needs)
 
 returns : tie.Need-returns Inv-loop μ-loop
 returns c = let l = c .before .before .loop in let a = c .before .before .before .args in let m = l .inv .3 in
-    sym (l .inv .2 ∙ all-names-stop (a .t5) (l .k) (waiterAt (a .t1)) (omega arith) (c .if1 .taken))
+    sym (l .inv .2 ∙ all-names-stop (a .t4) (l .k) (waiterAt (a .t1)) (omega arith) (c .if1 .taken))
 
 sub-i : tie.Need-sub-i Inv-loop μ-loop
 sub-i c = let l = c .before .before .loop in let a = c .before .before .before .args in
-    let n = waiter-named (a .t1) (a .t5) (l .k) (omega (arith, l .inv .3)) (c .if1 .left) (l .inv .1) in n .0 .0
+    let n = waiter-named (a .t1) (a .t4) (l .k) (omega (arith, l .inv .3)) (c .if1 .left) (l .inv .1) in n .0 .0
 
 cast-i : tie.Need-cast-i Inv-loop μ-loop
 cast-i c = let l = c .before .before .loop in let a = c .before .before .before .args in
-    let n = waiter-named (a .t1) (a .t5) (l .k) (omega (arith, l .inv .3)) (c .if1 .left) (l .inv .1) in let h = n .0 .1 in omega arith
+    let n = waiter-named (a .t1) (a .t4) (l .k) (omega (arith, l .inv .3)) (c .if1 .left) (l .inv .1) in let h = n .0 .1 in omega arith
 
 mul-q : tie.Need-mul-q Inv-loop μ-loop
 mul-q c = let l = c .before .before .loop in let a = c .before .before .before .args in
-    let n = waiter-named (a .t1) (a .t5) (l .k) (omega (arith, l .inv .3)) (c .if1 .left) (l .inv .1) in let h = n .0 .1 in omega arith
+    let n = waiter-named (a .t1) (a .t4) (l .k) (omega (arith, l .inv .3)) (c .if1 .left) (l .inv .1) in let h = n .0 .1 in omega arith
 
 element-copy-out-q : tie.Need-element-copy-out-q Inv-loop μ-loop
 element-copy-out-q c = let l = c .before .before .loop in let a = c .before .before .before .args in
-    let n = waiter-named (a .t1) (a .t5) (l .k) (omega (arith, l .inv .3)) (c .if1 .left) (l .inv .1) in omega (arith, n .0 .0, n .0 .1)
+    let n = waiter-named (a .t1) (a .t4) (l .k) (omega (arith, l .inv .3)) (c .if1 .left) (l .inv .1) in omega (arith, n .0 .0, n .0 .1)
 
 waiter-sound-requires : tie.Need-waiter-sound-requires Inv-loop μ-loop
 waiter-sound-requires c κs = let e = c .before .before in let l = e .before .before .loop in let a = e .before .before .before .args in
-    waiter-named (a .t1) (a .t5) (l .k) (omega (arith, l .inv .3)) (e .if1 .left) (l .inv .1) .0
+    waiter-named (a .t1) (a .t4) (l .k) (omega (arith, l .inv .3)) (e .if1 .left) (l .inv .1) .0
 
 returns-2 : tie.Need-returns-2 Inv-loop μ-loop
 returns-2 c = let w = c .before in let e = w .before .before .before in let l = e .before .before .loop in let s = e .before .before .before in let a = s .args in
-    let n = waiter-named (a .t1) (a .t5) (l .k) (omega (arith, l .inv .3)) (e .if1 .left) (l .inv .1) in
-    let t : w .waiter-sound .result ≡ waiterAt (a .t1) (getD (a .t5) (l .k) 0) = w .waiter-sound .ensures (a .t1) refl (s .pre .0) (n .1)
-    ∙ ap (waiterSound (a .t1) (getD (a .t5) (l .k) 0)) (w .before .awaited .ensures) in
+    let n = waiter-named (a .t1) (a .t4) (l .k) (omega (arith, l .inv .3)) (e .if1 .left) (l .inv .1) in
+    let t : w .waiter-sound .result ≡ waiterAt (a .t1) (getD (a .t4) (l .k) 0) = w .waiter-sound .ensures (a .t1) refl (s .pre .0) (n .1)
+    ∙ ap (waiterSound (a .t1) (getD (a .t4) (l .k) 0)) (w .before .awaited .ensures) in
     sym (rw (sym t ∙ not-true (w .waiter-sound .result) (c .if2 .taken)) at (l .inv .2
-    ∙ all-names-on (a .t5) (l .k) (waiterAt (a .t1)) (omega (arith, l .inv .3)) (e .if1 .left)))
+    ∙ all-names-on (a .t4) (l .k) (waiterAt (a .t1)) (omega (arith, l .inv .3)) (e .if1 .left)))
 
 loop-again : tie.Need-loop-again Inv-loop μ-loop
 loop-again c = let w = c .before in let e = w .before .before .before in let l = e .before .before .loop in let s = e .before .before .before in let a = s .args in
-    let n = waiter-named (a .t1) (a .t5) (l .k) (omega (arith, l .inv .3)) (e .if1 .left) (l .inv .1) in
-    let t : w .waiter-sound .result ≡ waiterAt (a .t1) (getD (a .t5) (l .k) 0) = w .waiter-sound .ensures (a .t1) refl (s .pre .0) (n .1)
-    ∙ ap (waiterSound (a .t1) (getD (a .t5) (l .k) 0)) (w .before .awaited .ensures) in (
+    let n = waiter-named (a .t1) (a .t4) (l .k) (omega (arith, l .inv .3)) (e .if1 .left) (l .inv .1) in
+    let t : w .waiter-sound .result ≡ waiterAt (a .t1) (getD (a .t4) (l .k) 0) = w .waiter-sound .ensures (a .t1) refl (s .pre .0) (n .1)
+    ∙ ap (waiterSound (a .t1) (getD (a .t4) (l .k) 0)) (w .before .awaited .ensures) in (
       search needs,
-      rw (add-one (l .k)) (names-left (rightName (a .t1) false) (a .t5) (l .k) (omega (arith, l .inv .3)) (e .if1 .left) (l .inv .1)),
+      rw (add-one (l .k)) (names-left (rightName (a .t1) false) (a .t4) (l .k) (omega (arith, l .inv .3)) (e .if1 .left) (l .inv .1)),
       rw (add-one (l .k)) (rw (sym t ∙ not-false (w .waiter-sound .result) (c .if2 .left)) at (l .inv .2
-          ∙ all-names-on (a .t5) (l .k) (waiterAt (a .t1)) (omega (arith, l .inv .3)) (e .if1 .left))),
+          ∙ all-names-on (a .t4) (l .k) (waiterAt (a .t1)) (omega (arith, l .inv .3)) (e .if1 .left))),
       l .inv .3,
     )
 
 returns-3 : tie.Need-returns-3 Inv-loop μ-loop
 returns-3 c = let l = c .before .loop in let a = c .before .before .args in let m = l .inv .3 in
-    sym (l .inv .2 ∙ all-names-end (a .t5) (l .k) (waiterAt (a .t1)) (omega arith))
+    sym (l .inv .2 ∙ all-names-end (a .t4) (l .k) (waiterAt (a .t1)) (omega arith))
 
 pub waiters-sound-spec : {M : Type 1} → statement M
 waiters-sound-spec =
