@@ -11,13 +11,9 @@ static uint8_t image[LOCK_BOARD_IMAGE_LEN];
 static uint8_t journal[65536];
 static uint8_t line[LOCK_BOARD_CUT_LINE];
 
-static int write_journal(uint64_t place)
-{
-    return fwrite(journal, 1, place, stdout) == place;
-}
+static int write_journal(uint64_t place) { return fwrite(journal, 1, place, stdout) == place; }
 
-int main(void)
-{
+int main(void) {
     uint64_t place = 0;
     size_t len = 0;
     int c;
@@ -34,8 +30,7 @@ int main(void)
                 return 1;
             place = 0;
         }
-        place = lock_board_line(image, sizeof image, line, len, journal, sizeof journal,
-                                place);
+        place = lock_board_line(image, sizeof image, line, len, journal, sizeof journal, place);
         if (place > sizeof journal)
             return 1;
         len = 0;
