@@ -105,13 +105,13 @@ fn do_open(b: Board, q: Program, p: u8, f: u8) -> Changed
     ensures { λ r. ⌜ replyOf r ≡ openFile b p f ⌝ }
 {
     let mut sets = [0u64; 128];
-    tables::reach::fill_sets(b, &mut sets);
-    let uses = search::gives::uses_of(b, &sets);
+    tables::take_sets(b, &mut sets);
+    let admitted = search::admitted_set(b);
+    let uses = search::gives::uses_in(admitted, &sets);
     if search::gives::in_use(&sets, uses, p, f) {
         let c = put_waiting(b, p, f);
         return replies::answered(c, Word::Wait, p, f, Answer::Wait);
     }
-    let admitted = uses.admitted;
     let order = search::gives::order_given(&mut sets, admitted, p, f);
     let kind = order.kind;
     let Search::Found(_) = kind else {

@@ -22,7 +22,7 @@ use Rattle.tables.specs.ProgramSets.{noPrograms, hasProgram, withoutProgram, un
 use Rattle.tables.specs.Tables.{packed, SetsOf}
 use Rattle.tables.specs.Claims.{claimsAt, filesIn, holdsAgainst}
 use Rattle.tables.proofs.Laws.{packed-has, union-has, common-has, none-has}
-use Rattle.tables.proofs.Claims.{holdsOne, has-split, has-some, against-split, against-some}
+use Rattle.tables.proofs.Claimed.{holdsOne, has-split, has-some, against-split, against-some}
 use Rattle.search.specs.Rows.{admits, admittedSet}
 
 -- x, among the others, holds back one with the claims v and q, or one that does so in turn

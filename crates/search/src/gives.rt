@@ -9,11 +9,10 @@ ghost use Prim.Native.Nat.{_≤_};
 ghost use lib.ListN.{length};
 ghost use Rattle.search.specs.Gives.{usesOf, UsedFor, usesIn, SafeFor, GivenFor, OrderGiven};
 
-// Who is admitted, and what is open.
-pub fn uses_of(b: Board, sets: &[u64; 128]) -> Uses
-    ensures { λ r. ⌜ r ≡ usesOf b (now (sets .entry)) ⌝ }
+// What is open, by the sets, with these admitted.
+pub fn uses_in(admitted: ProgramSet, sets: &[u64; 128]) -> Uses
+    ensures { λ r. ⌜ r ≡ usesIn admitted (now (sets .entry)) ⌝ }
 {
-    let admitted = crate::admitted_set(b);
     let written = tables::opened(sets, 64);
     let read = tables::opened(sets, 96);
     Uses {
@@ -21,6 +20,14 @@ pub fn uses_of(b: Board, sets: &[u64; 128]) -> Uses
         written,
         read,
     }
+}
+
+// Who is admitted, and what is open.
+pub fn uses_of(b: Board, sets: &[u64; 128]) -> Uses
+    ensures { λ r. ⌜ r ≡ usesOf b (now (sets .entry)) ⌝ }
+{
+    let admitted = crate::admitted_set(b);
+    uses_in(admitted, sets)
 }
 
 // Whether f, which p has not open, is in conflicting use, on a board without conflict.
@@ -41,19 +48,6 @@ pub fn in_use(sets: &[u64; 128], u: Uses, p: u8, f: u8) -> bool
     read.has(f)
 }
 
-// What is open, by the sets, with these admitted.
-pub fn uses_in(admitted: ProgramSet, sets: &[u64; 128]) -> Uses
-    ensures { λ r. ⌜ r ≡ usesIn admitted (now (sets .entry)) ⌝ }
-{
-    let written = tables::opened(sets, 64);
-    let read = tables::opened(sets, 96);
-    Uses {
-        admitted,
-        written,
-        read,
-    }
-}
-
 // On a board that has an order: whether an order comes back with f given to p. Those that hold p back, directly or through
 // others, are gathered round by round, until one claims f so that p would hold it back, or there are no more.
 pub fn is_safe(sets: &[u64; 128], admitted: ProgramSet, p: u8, f: u8) -> bool
@@ -66,17 +60,17 @@ pub fn is_safe(sets: &[u64; 128], admitted: ProgramSet, p: u8, f: u8) -> bool
     let own = FileSet { bits: v };
     let both = own.has(f);
     let others = admitted.without(p);
-    let first = tables::reach::holders_by(sets, v, q);
+    let first = tables::claims::holders_by(sets, v, q);
     let mut seen = ProgramSet::EMPTY;
     let mut next = first.and(others);
     while next.bits != seen.bits {
         seen = next;
-        let w = tables::reach::files_of(sets, 0, seen);
-        let r = tables::reach::files_of(sets, 32, seen);
-        if tables::reach::is_claimed(FileSet { bits: w }, FileSet { bits: r }, f, both) {
+        let w = tables::claims::files_of(sets, 0, seen);
+        let r = tables::claims::files_of(sets, 32, seen);
+        if tables::claims::is_claimed(FileSet { bits: w }, FileSet { bits: r }, f, both) {
             return false;
         }
-        let more = tables::reach::holders_by(sets, v | w, q | r);
+        let more = tables::claims::holders_by(sets, v | w, q | r);
         next = seen.or(more.and(others));
     }
     true
@@ -100,7 +94,7 @@ pub fn order_given(sets: &mut [u64; 128], admitted: ProgramSet, p: u8, f: u8) ->
     ensures { λ r. ⌜ OrderGiven (now (sets .entry)) admitted p f r ⌝ }
 {
     let i = (p - 1) as usize;
-    tables::reach::give(sets, i, f);
+    tables::claims::give(sets, i, f);
     let mut rows = [0u32; 32];
     tables::fill_rows(sets, &mut rows);
     crate::order_in(&rows, admitted)

@@ -97,7 +97,7 @@ fn pass_line(w: Written) -> Written
     let line = c.waiting;
     let mut sets = [0u64; 128];
     let mut asked = [0u8; 32];
-    tables::reach::fill_sets(c, &mut sets);
+    tables::take_sets(c, &mut sets);
     fill_asked(c, &mut asked);
     let mut uses = search::gives::uses_of(c, &sets);
     let mut lines = w.lines;
@@ -124,7 +124,7 @@ fn pass_line(w: Written) -> Written
             refusal: 0,
         };
         n += 1;
-        tables::reach::give(&mut sets, i, f);
+        tables::claims::give(&mut sets, i, f);
         let admitted = uses.admitted;
         uses = search::gives::uses_in(admitted, &sets);
         j = next_given(&sets, &asked, uses, line, j + 1);
@@ -146,7 +146,7 @@ fn oldest_unused(b: Board) -> u8
         return 0;
     }
     let mut sets = [0u64; 128];
-    tables::reach::fill_sets(b, &mut sets);
+    tables::take_sets(b, &mut sets);
     let uses = search::gives::uses_of(b, &sets);
     let mut k: usize = 0;
     while k < 32 {

@@ -348,13 +348,7 @@ pub fn judge(b: Board) -> Judged
     let mut rows = [0u32; 32];
     tables::fill(b, &mut sets, &mut rows);
     let admitted = search::admitted_set(b);
-    let written = tables::opened(&sets, 64);
-    let read = tables::opened(&sets, 96);
-    let uses = Uses {
-        admitted,
-        written,
-        read,
-    };
+    let uses = search::gives::uses_in(admitted, &sets);
     let order = search::order_in(&rows, admitted);
     let ordered = search::is_found(order);
     let waiters = standing_set(b, false);

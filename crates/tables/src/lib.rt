@@ -10,7 +10,7 @@ ghost use lib.ListN.{length};
 ghost use Rattle.files.specs.Bits.{share};
 ghost use Rattle.tables.specs.Tables.{openedFrom, joined, SetsOf, RowsOf, RowsFor, HolderAdded, Cleared, EmptyFrom};
 
-pub mod reach;
+pub mod claims;
 mod sets;
 
 // A set of the programs 1 to 32: bit p - 1 says whether program p is in it.
@@ -19,7 +19,7 @@ pub struct ProgramSet {
 }
 
 // The sets of the board's programs.
-fn take_sets(b: Board, sets: &mut [u64; 128])
+pub fn take_sets(b: Board, sets: &mut [u64; 128])
     requires { ⌜ length (now sets) ≡ 128 ⌝ }
     ensures { λ _. ⌜ SetsOf b (now (sets .exit)) ⌝ }
 {

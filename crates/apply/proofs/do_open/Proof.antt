@@ -12,7 +12,8 @@ use Rattle.rules.specs.Replies.{reply}
 use Rattle.rules.specs.Calls.{openFile}
 use Rattle.theory.specs.Sound.{loose-apart}
 use Rattle.theory.specs.Calls.{open-may}
-use Rattle.search.specs.declared.Uses.{Uses}
+use Rattle.tables.specs.declared.ProgramSet.{ProgramSet}
+use Rattle.search.specs.Gives.{usesIn}
 use Rattle.search.specs.Rows.{asOrder}
 use Rattle.apply.proofs.Laws.{waiting-free, not-safe, is-safe}
 use borrow.Author.Needs.{needs}
@@ -20,21 +21,23 @@ use Rattle.apply.proofs.do_open.Statement.{statement}
 use Rattle.apply.proofs.do_open.Tie as tie
 
 abbrev start : tie.After-in-use → tie.Start
-start u = u .before .before .before .before .before .before
+start u = u .before .before .before .before .before .before .before
 
 -- whether the file is in conflicting use
 used : (u : tie.After-in-use) → u .in-use .result ≡ inUse (start u .args .b) (start u .args .p) (start u .args .f)
-used u = let s = start u in let a = s .args in u .in-use .ensures (a .b) (u .before .before .before .before .fill-sets .ensures)
-    (u .before .before .uses-of .ensures) (loose-apart (a .b) (s .pre .1 .loose)) (open-may (a .b) (a .p) (a .f) (s .pre .2) .asked .shut)
+used u = let s = start u in let a = s .args in let t = u .before .before .before .before .before in
+    u .in-use .ensures (a .b) (t .take-sets .ensures)
+    (u .before .before .uses-in .ensures ∙ ap (λ (x : ProgramSet). usesIn x (t .take-sets .last .1 .0)) (u .before .before .before .before .admitted-set .ensures))
+    (loose-apart (a .b) (s .pre .1 .loose)) (open-may (a .b) (a .p) (a .f) (s .pre .2) .asked .shut)
 
 abbrev tested : tie.After-order-given → tie.After-in-use
-tested o = o .before .before .before .before
+tested o = o .before .before .before
 
 -- the order with the file given
 sought : (o : tie.After-order-given) → let a = start (tested o) .args in o .order-given .result ≡ asOrder (carried (withGiven (a .b) (a .p) (a .f)))
 sought o = let u = tested o in let s = start u in
-    o .order-given .ensures (s .args .b) (s .pre .1 .loose .base .size) (u .before .before .before .before .fill-sets .ensures)
-    (ap (λ (x : Uses). x .admitted) (u .before .before .uses-of .ensures))
+    o .order-given .ensures (s .args .b) (s .pre .1 .loose .base .size) (u .before .before .before .before .before .take-sets .ensures)
+    (u .before .before .before .before .admitted-set .ensures)
 
 put-waiting-requires : tie.Need-put-waiting-requires
 put-waiting-requires c κs = let s = start (c .before) in let a = s .args in
@@ -54,10 +57,13 @@ returns-2 : tie.Need-returns-2
 unfolding openFile
 returns-2 c = let o = c .before .before .before .before in let u = tested o in let a = start u .args in
     rw (
-      sym (used u) ∙ o .before .before .before .if1 .left,
+      sym (used u) ∙ o .before .before .if1 .left,
       not-safe (a .b) (withGiven (a .b) (a .p) (a .f)) (a .p) (a .f) (o .order-given .result) refl (sought o) (c .before .before .enum-told2 .given .1),
     )
     (c .answered2 .ensures ∙ ap (λ (x : Board). reply x Answer.Unsafe (line Word.Unsafe (a .p) (a .f) ∷ [])) (c .before .put-waiting2 .ensures))
+
+put-requires : tie.Need-put-requires
+put-requires c κs = start (tested (c .before .before .before)) .pre .0
 
 -- the board with the file given
 given : (k : tie.After-put) → let a = start (tested (k .before .before .before .before)) .args in k .put .result ≡ withGiven (a .b) (a .p) (a .f)
@@ -69,7 +75,7 @@ returns-3 : tie.Need-returns-3
 unfolding openFile
 returns-3 c = let o = c .before .before .before .before .before in let u = tested o in let a = start u .args in
     rw (
-      sym (used u) ∙ o .before .before .before .if1 .left,
+      sym (used u) ∙ o .before .before .if1 .left,
       is-safe (a .b) (withGiven (a .b) (a .p) (a .f)) (a .p) (a .f) (o .order-given .result) (c .before .before .before .enum-told .given .0 .0)
           refl (sought o) (c .before .before .before .enum-told .given .1),
     )
@@ -79,6 +85,7 @@ pub do-open-spec : {M : Type 1} → statement M
 do-open-spec =
     tie.close
     (tie.spec
+    (λ c κs. search needs)
     (λ c κs. search needs)
     (λ c κs. search needs)
     (λ c κs. search needs)
@@ -92,6 +99,6 @@ do-open-spec =
     (λ c κs. search needs)
     returns-2
     (λ c κs. search needs)
-    (λ c κs. search needs)
+    put-requires
     (λ c κs. search needs)
     returns-3)

@@ -62,8 +62,8 @@ returns-3 : tie.Need-returns-3 Inv-loop μ-loop
 returns-3 c =
     let w = c .before in let a = w .before .before in let i = a .before .before in let l = i .before .before .loop in
     let u = i .before .before .before in let e = u .before .before in let g = e .before .before .before .before .args in let m = l .inv .3 in
-    let t = waiter-used (g .t1) (g .t1 .waiting) (l .k) (omega arith) (i .if2 .left) (l .inv .1) (e .fill-sets .last .1 .0)
-    (u .uses-of .result) (a .awaited .result) (w .in-use .result) (e .fill-sets .ensures) (u .uses-of .ensures) (a .awaited .ensures)
+    let t = waiter-used (g .t1) (g .t1 .waiting) (l .k) (omega arith) (i .if2 .left) (l .inv .1) (e .take-sets .last .1 .0)
+    (u .uses-of .result) (a .awaited .result) (w .in-use .result) (e .take-sets .ensures) (u .uses-of .ensures) (a .awaited .ensures)
     (w .in-use .ensures) in
     sym (rw (sym t ∙ not-true (w .in-use .result) (c .if3 .taken)) at (ap (λ (x : Option ℕ). Option·getD x 0) (l .inv .2
     ∙ first-names-on (unused (g .t1)) (g .t1 .waiting) (l .k) (omega arith) (i .if2 .left))))
@@ -72,8 +72,8 @@ loop-again : tie.Need-loop-again Inv-loop μ-loop
 loop-again c =
     let w = c .before in let a = w .before .before in let i = a .before .before in let l = i .before .before .loop in
     let u = i .before .before .before in let e = u .before .before in let g = e .before .before .before .before .args in let m = l .inv .3 in
-    let t = waiter-used (g .t1) (g .t1 .waiting) (l .k) (omega arith) (i .if2 .left) (l .inv .1) (e .fill-sets .last .1 .0)
-    (u .uses-of .result) (a .awaited .result) (w .in-use .result) (e .fill-sets .ensures) (u .uses-of .ensures) (a .awaited .ensures)
+    let t = waiter-used (g .t1) (g .t1 .waiting) (l .k) (omega arith) (i .if2 .left) (l .inv .1) (e .take-sets .last .1 .0)
+    (u .uses-of .result) (a .awaited .result) (w .in-use .result) (e .take-sets .ensures) (u .uses-of .ensures) (a .awaited .ensures)
     (w .in-use .ensures) in (
       search needs,
       ready-left (g .t1) (g .t1 .waiting) (l .k) (omega arith) (i .if2 .left) (l .inv .1),

@@ -26,7 +26,7 @@ loop-holds c = let a = c .before .before .before .before .before .before .before
   search needs,
   next-found _ _ _ _ _ _ 0 _ (record {
     passed = pass-start w (a .pre .0) (a .pre .1);
-    sets-are = c .before .before .before .before .before .before .before .before .fill-sets .ensures;
+    sets-are = c .before .before .before .before .before .before .before .before .take-sets .ensures;
     uses-are = c .before .before .before .before .uses-of .ensures;
     asks = asks-all (w .board) (c .before .before .before .before .before .before .fill-asked .last .1 .0) (a .pre .0) (c .before .before .before .before .before .before .fill-asked .ensures);
   }) (c .next-given .ensures .2),

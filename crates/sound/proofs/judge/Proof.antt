@@ -1,6 +1,8 @@
 -- `judge` meets its contract. Assumes nothing.
 use mathlib.Core.Path.{_≡_, ap, _∙_}
+use Rattle.tables.specs.declared.ProgramSet.{ProgramSet}
 use Rattle.search.specs.declared.Order.{Order}
+use Rattle.search.specs.Gives.{usesIn}
 use Rattle.search.specs.Rows.{isFound, asOrder}
 use Rattle.rules.specs.Orders.{carried}
 use Rattle.search.proofs.Laws.{has-found}
@@ -9,15 +11,15 @@ use Rattle.sound.proofs.judge.Statement.{statement}
 use Rattle.sound.proofs.judge.Tie as tie
 
 order : (c : tie.After-order-in) → c .order-in .result
-    ≡ asOrder (carried (c .before .before .before .before .before .before .before .before .before .before .args .b))
-order c = let a = c .before .before .before .before .before .before in let f = a .before in
+    ≡ asOrder (carried (c .before .before .before .before .before .before .before .before .args .b))
+order c = let a = c .before .before .before .before in let f = a .before in
     c .order-in .ensures (f .before .before .before .args .b) (f .fill .ensures .1) (a .admitted-set .ensures)
 
 is-sound-by-requires : tie.Need-is-sound-by-requires
-is-sound-by-requires c κs = let h = c .before in let v = h .before in let i = v .before in let o = i .before in let r = o .before .before in let w = r .before .before in
-    let a = w .before .before in let f = a .before in let b = f .before .before .before .args .b in (
+is-sound-by-requires c κs = let h = c .before in let v = h .before in let i = v .before in let o = i .before in let u = o .before .before in
+    let a = u .before .before in let f = a .before in let b = f .before .before .before .args .b in (
       f .fill .ensures .0,
-      rw (a .admitted-set .ensures, w .opened .ensures, r .opened2 .ensures),
+      u .uses-in .ensures ∙ ap (λ (x : ProgramSet). usesIn x (f .fill .last .1 .0)) (a .admitted-set .ensures),
       i .is-found .ensures ∙ ap (λ (z : Order). isFound (z .kind)) (order o) ∙ has-found (carried b),
       v .standing-set .ensures,
       h .standing-set2 .ensures,
@@ -30,7 +32,6 @@ pub judge-spec : {M : Type 1} → statement M
 judge-spec =
     tie.close
     (tie.spec
-    (λ c κs. search needs)
     (λ c κs. search needs)
     (λ c κs. search needs)
     (λ c κs. search needs)

@@ -3,10 +3,10 @@ use mathlib.Core.Path.{_≡_, refl, ap, _∙_}
 use Prim.Native.Nat.{_-_, _≤_}
 use native.Mathlib.Omega.{arith}
 use Rattle.tables.specs.Claims.{filesIn}
-use Rattle.tables.proofs.Claims.{files-more}
+use Rattle.tables.proofs.Claimed.{files-more}
 use borrow.Author.Needs.{needs}
-use Rattle.tables.proofs.reach.files_of.Statement.{statement}
-use Rattle.tables.proofs.reach.files_of.Tie as tie
+use Rattle.tables.proofs.claims.files_of.Statement.{statement}
+use Rattle.tables.proofs.claims.files_of.Tie as tie
 
 abbrev Inv-loop : tie.InvT-loop
 Inv-loop sets k set files₀ i₀ files i = (i ≤ 32) × (files ≡ filesIn sets k set i)

@@ -1,8 +1,8 @@
 -- `is_claimed` meets its contract. Assumes nothing.
 use mathlib.Core.Path.{sym, _∙_}
 use borrow.Author.Needs.{needs}
-use Rattle.tables.proofs.reach.is_claimed.Statement.{statement}
-use Rattle.tables.proofs.reach.is_claimed.Tie as tie
+use Rattle.tables.proofs.claims.is_claimed.Statement.{statement}
+use Rattle.tables.proofs.claims.is_claimed.Tie as tie
 
 returns : tie.Need-returns
 returns c = rw (sym (c .before .has .ensures) ∙ c .if1 .taken)

@@ -1,8 +1,8 @@
 -- `give` meets its contract. Assumes nothing.
 use mathlib.Core.Path.{sym, _∙_}
 use borrow.Author.Needs.{needs}
-use Rattle.tables.proofs.reach.give.Statement.{statement}
-use Rattle.tables.proofs.reach.give.Tie as tie
+use Rattle.tables.proofs.claims.give.Statement.{statement}
+use Rattle.tables.proofs.claims.give.Tie as tie
 
 returns : tie.Need-returns
 returns c = rw (sym (c .before .before .before .has .ensures) ∙ c .before .before .if1 .taken, c .with .ensures)

@@ -6,8 +6,8 @@ use Rattle.tables.specs.Tables.{packed, joined}
 use Rattle.tables.specs.Claims.{holdsAgainst}
 use Rattle.tables.proofs.Laws.{packed-more, packed-all}
 use borrow.Author.Needs.{needs}
-use Rattle.tables.proofs.reach.holders_by.Statement.{statement}
-use Rattle.tables.proofs.reach.holders_by.Tie as tie
+use Rattle.tables.proofs.claims.holders_by.Statement.{statement}
+use Rattle.tables.proofs.claims.holders_by.Tie as tie
 
 abbrev Inv-loop : tie.InvT-loop
 Inv-loop sets v q set₀ p₀ set p = (1 ≤ p) × (p ≤ 33) × (set ≡ packed (holdsAgainst sets v q) (p - 1))

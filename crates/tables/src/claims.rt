@@ -1,13 +1,12 @@
 // Who holds back a program with given claims, what a set of programs claims, and the sets with a file given.
 use crate::ProgramSet;
 use files::FileSet;
-use rules::Board;
 ghost use mathlib.Core.Path.{_≡_};
 ghost use mathlib.Core.Bool.{cond, _&&_, _||_};
 ghost use Prim.Native.Nat.{_+_, _≤_, _<_};
 ghost use lib.ListN.{length};
 ghost use Rattle.files.specs.Sets.{member};
-ghost use Rattle.tables.specs.Tables.{SetsOf, packed};
+ghost use Rattle.tables.specs.Tables.{packed};
 ghost use Rattle.tables.specs.Claims.{filesIn, holdsAgainst, givenAt};
 
 // Whether f is in V or, if both count, in Q.
@@ -21,14 +20,6 @@ pub fn is_claimed(v: FileSet, q: FileSet, f: u8, both: bool) -> bool
         return q.has(f);
     }
     false
-}
-
-// The sets of the board's programs.
-pub fn fill_sets(b: Board, sets: &mut [u64; 128])
-    requires { ⌜ length (now sets) ≡ 128 ⌝ }
-    ensures { λ _. ⌜ SetsOf b (now (sets .exit)) ⌝ }
-{
-    crate::take_sets(b, sets);
 }
 
 // The bits where the test passed, and none otherwise.
