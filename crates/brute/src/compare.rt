@@ -55,10 +55,11 @@ fn right_answer(kind: Search, t: Tried, count: usize, at: [u8; 32]) -> bool {
     }
 }
 
-// Both searches on one board.
+// Both searches on one board; the board's own order is the one that the test of a sound board gives back.
 pub fn compared(b: Board) -> Outcome {
     let a = orders::admitted_programs(b);
-    let o = search::carried_order(b);
+    let j = sound::judge(b);
+    let o = j.order;
     let at = o.at;
     let kind = o.kind;
     let t = orders::all_orders(a, at);
