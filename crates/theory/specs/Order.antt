@@ -130,7 +130,8 @@ abbrev pub orderIn : (ℕ → ℕ → Bool) → List ℕ → Option (List ℕ)
 orderIn h l = search h (length l) l
 
 -- It comes back exactly when an order exists, and then it is one.
-pub orderIn-iff : (h : ℕ → ℕ → Bool) (l : List ℕ) → NoRepeat l → ((o : List ℕ) × (orderIn h l ≡ some o)) ↔ ((o : List ℕ) × IsOrder h l o)
+pub orderIn-iff : (h : ℕ → ℕ → Bool) (l : List ℕ) → NoRepeat l
+    → ((o : List ℕ) × (orderIn h l ≡ some o)) ↔ ((o : List ℕ) × IsOrder h l o)
 orderIn-iff h l n = (
   λ r. (r .0, search-sound h (length l) l (r .0) n refl (r .1)),
   λ r. search-complete h (length l) l
@@ -193,7 +194,8 @@ held-not-clear h o c r = never (r .holds) (Pairs-split (λ a b. h b a ≡ false)
 -- ── Orders under change ──
 
 -- Less holding back between different members keeps an order.
-pub order-below : (h h′ : ℕ → ℕ → Bool) (l o : List ℕ) → ((a b : ℕ) → a ∈ l → b ∈ l → a ≢ b → h′ a b ≡ true → h a b ≡ true)
+pub order-below : (h h′ : ℕ → ℕ → Bool) (l o : List ℕ)
+    → ((a b : ℕ) → a ∈ l → b ∈ l → a ≢ b → h′ a b ≡ true → h a b ≡ true)
     → IsOrder h l o → IsOrder h′ l o
 order-below h h′ l o f c = record {
   all = c .all;
