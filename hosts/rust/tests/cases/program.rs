@@ -41,6 +41,36 @@ fn program_agrees() {
     println!("program: 600 sessions");
 }
 
+/// Read from a file, so that one read brings more lines than the program's
+/// journal buffer of 65,536 bytes holds: it is written in between.
+#[test]
+fn program_agrees_on_a_long_file() {
+    let path = path();
+    if !path.exists() && std::env::var_os("LOCK_BOARD_PROGRAM").is_none() {
+        println!("no program at {}: left out", path.display());
+        return;
+    }
+    let round: &[u8] = b"ENTER   1LONG      1  0  1\nOPEN    1  1\nX\n\nCLOSE   1  1\nLEAVE   1\n";
+    let input = [round.repeat(5000), b"ENTER   2LAST      0  0".to_vec()].concat();
+    let file = std::env::temp_dir().join(format!("lock_board_long_{}", std::process::id()));
+    std::fs::write(&file, &input).expect("a file for the input");
+    let output = Command::new(&path)
+        .stdin(std::fs::File::open(&file).expect("the input"))
+        .output()
+        .unwrap_or_else(|error| panic!("{}: {error}", path.display()));
+    std::fs::remove_file(&file).expect("the file is removed");
+    assert!(
+        output.status.success(),
+        "the program ends with {}",
+        output.status
+    );
+    let expected = program::output(&input);
+    assert_eq!(output.stdout.len(), expected.len(), "bytes of output");
+    let place = (0..expected.len()).find(|&i| output.stdout[i] != expected[i]);
+    assert_eq!(place, None, "the first byte that differs");
+    println!("program: one file of {} bytes", input.len());
+}
+
 /// A session's lines; now and then damaged, long, or without the last byte 10.
 fn input(round: usize, random: &mut Random) -> Vec<u8> {
     let cast = Cast::new(&PROFILES[round % PROFILES.len()], random);
