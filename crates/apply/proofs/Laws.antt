@@ -38,12 +38,13 @@ use Rattle.theory.specs.Worked.{accepted-answer}
 use Rattle.theory.specs.Ready.{Ready, entry-room, waiting-room, close-ready, drop-ready, leave-ready, leaves-room}
 use Rattle.search.specs.declared.Search.{Search}
 use Rattle.search.specs.declared.Order.{Order}
-use Rattle.search.specs.Rows.{asOrder}
+use Rattle.search.specs.Rows.{asOrder, isFound}
 use Rattle.search.proofs.Laws.{drop-replicate}
 use Rattle.lines.proofs.Laws.{program-range}
 use Rattle.settling.specs.declared.Written.{Written}
 use Rattle.settling.specs.Writing.{after, Fits}
-use Rattle.apply.specs.Replies.{wrote, replied, DoneFits, numberIf, entryCheck, claimCheck, useCheck}
+use Rattle.apply.specs.declared.Changed.{Changed}
+use Rattle.apply.specs.Replies.{wrote, replied, DoneFits, numberIf, entryCheck, claimCheck, useCheck, foundBy, ComesTo}
 
 -- ---- a call on a good board
 
@@ -166,10 +167,6 @@ abbrev countOf : Search → ℕ
 countOf (Search.Found n) = n
 countOf Search.Stuck = 0
 
-abbrev pub isFound : Search → Bool
-isFound (Search.Found n) = true
-isFound Search.Stuck = false
-
 pub order-none : (o : Option (List ℕ)) (r : Order) → r ≡ asOrder o → r .kind ≡ Search.Stuck → o ≡ none
 order-none none r e k = refl
 order-none (some l) r e k = never {t = true} refl (ap isFound (sym (ap (λ (x : Order). x .kind) e) ∙ k))
@@ -284,3 +281,26 @@ pub is-safe : (b g : Board) (p f : ℕ) (r : Order) (n : ℕ) → g ≡ withGive
     → r .kind ≡ Search.Found n → safe b p f ≡ true
 unfolding safe
 is-safe b g p f r n e o k = ap (λ (x : Board). found (carried x)) (sym e) ∙ order-found (carried g) r n o k
+
+-- ---- what a call comes to
+
+pub comes : {c : Changed} {r r′ : Reply} → ComesTo c r → r ≡ r′ → ComesTo c r′
+comes {c} k e = subst (ComesTo c) e k
+
+-- the order that was found, by the call's own answer and board
+pub found-is : (c : Changed) {r : Reply} → ComesTo c r → c .found ≡ foundBy (c .answer) (c .written .board)
+found-is c (e, f) = f ∙ ap (λ (x : Reply). foundBy (x .answer) (x .board)) (sym e)
+
+-- an order that was found is that of the board after the call
+pub found-order : (a : Answer) (b : Board) (o : Order) → o ≡ foundBy a b → isFound (o .kind) ≡ true → o ≡ asOrder (carried b)
+found-order Answer.Given b o e h = e
+found-order Answer.Admit b o e h = never h (ap (λ (x : Order). isFound (x .kind)) e)
+found-order Answer.Held b o e h = never h (ap (λ (x : Order). isFound (x .kind)) e)
+found-order Answer.Wait b o e h = never h (ap (λ (x : Order). isFound (x .kind)) e)
+found-order Answer.Unsafe b o e h = never h (ap (λ (x : Order). isFound (x .kind)) e)
+found-order Answer.Done b o e h = never h (ap (λ (x : Order). isFound (x .kind)) e)
+found-order (Answer.Refuse r) b o e h = never h (ap (λ (x : Order). isFound (x .kind)) e)
+
+-- the order as it was found
+pub order-whole : (o : Order) (n : ℕ) → o .kind ≡ Search.Found n → _≡_ {A = Order} (record { kind = Search.Found n; at = o .at }) o
+order-whole o n e = sym (ap {B = Order} (λ (k : Search). record { kind = k; at = o .at }) e)

@@ -1,9 +1,10 @@
 -- A board with the lines written so far, and the reply made of what a call comes to; parts of the checks.
 -- Assumes nothing.
 use Prim.Native.Nat.{ℕ, _≤_, suc}
+use mathlib.Core.Path.{_≡_}
 use mathlib.Core.Bool.{Bool, not, cond}
 use mathlib.Core.List.{List, []}
-use mathlib.Core.Option.{Option·getD}
+use mathlib.Core.Option.{none, Option·getD}
 use lib.ListN.{length}
 use Rattle.files.specs.declared.FileSet.{FileSet}
 use Rattle.files.specs.Sets.{meets}
@@ -20,6 +21,8 @@ use Rattle.rules.specs.Checks.{refuseIf}
 use Rattle.rules.specs.Orders.{carried}
 use Rattle.rules.specs.Settling.{settle}
 use Rattle.rules.specs.Replies.{blank}
+use Rattle.search.specs.declared.Order.{Order}
+use Rattle.search.specs.Rows.{asOrder}
 use Rattle.settling.specs.declared.Written.{Written}
 use Rattle.apply.specs.declared.Changed.{Changed}
 
@@ -42,6 +45,21 @@ replied w a =
 -- the reply to a call: what it comes to, and the order of its board
 abbrev pub replyOf : Changed → Reply
 replyOf c = replied (c .written) (c .answer)
+
+-- the order that a call finds on its way: an open that gives the file has sought the order of the board after it;
+-- no other call seeks one
+abbrev pub foundBy : Answer → Board → Order
+foundBy Answer.Given b = asOrder (carried b)
+foundBy Answer.Admit b = asOrder none
+foundBy Answer.Held b = asOrder none
+foundBy Answer.Wait b = asOrder none
+foundBy Answer.Unsafe b = asOrder none
+foundBy Answer.Done b = asOrder none
+foundBy (Answer.Refuse r) b = asOrder none
+
+-- what the call with this reply comes to: its board, lines and answer, and the order found on the way
+abbrev pub ComesTo : Changed → Reply → Type 0
+ComesTo c r = (replyOf c ≡ r) × (c .found ≡ foundBy (r .answer) (r .board))
 
 -- DONE and the lines of settling fit
 abbrev pub DoneFits : Board → Type 0

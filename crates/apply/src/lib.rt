@@ -9,6 +9,7 @@ use rules::Refusal;
 use rules::Standing;
 use rules::Verb;
 use rules::Word;
+use search::Order;
 use search::Search;
 use settling::Written;
 ghost use mathlib.Core.Path.{_≡_};
@@ -23,15 +24,17 @@ ghost use Rattle.rules.specs.Checks.{enterCheck, openCheck, closeCheck, leaveCh
 ghost use Rattle.rules.specs.Calls.{newcomer, enter, wait, openFile, closeFile, dropFile, countLeave, leave, apply, callOf, Enter, Open};
 ghost use Rattle.rules.specs.Calls.{Close, Drop, Leave};
 ghost use Rattle.theory.specs.Loose.{Good};
-ghost use Rattle.apply.specs.Replies.{replyOf};
+ghost use Rattle.apply.specs.Replies.{ComesTo};
 
 mod checks;
 pub mod replies;
 
-// What a call comes to: the board after it with the lines written, and the answer. The reply has the order besides.
+// What a call comes to: the board after it with the lines written, the answer, and the order that it found on its way:
+// an open that gives the file has sought it, other calls seek none.
 pub struct Changed {
     pub written: Written,
     pub answer: Answer,
+    pub found: Order,
 }
 
 // ---- enter
@@ -53,25 +56,25 @@ fn new_program(writable: FileSet, readable: FileSet, s: Standing) -> Program
 // Enter: with somebody favoured, p is held at the end of the entry line; otherwise running.
 fn do_enter(b: Board, p: u8, writable: FileSet, readable: FileSet) -> Changed
     requires { ⌜ ((1 ≤ p) × (p ≤ 32)) × Good b × (enterCheck b p writable readable ≡ Check.Passed) ⌝ }
-    ensures { λ r. ⌜ replyOf r ≡ enter b p writable readable ⌝ }
+    ensures { λ r. ⌜ ComesTo r (enter b p writable readable) ⌝ }
 {
     let favoured = b.favoured;
     if favoured == 0 {
         let runs = new_program(writable, readable, Standing::Running);
         let c = search::put(b, p, runs);
-        return replies::answered(c, Word::Admit, p, 0, Answer::Admit);
+        return replies::answered(c, Word::Admit, p, 0, Answer::Admit, Order::NONE);
     }
     let held = new_program(writable, readable, Standing::Held);
     let line = b.entry;
     let longer = lines::append(line, p);
     let mut c = search::put(b, p, held);
     c.entry = longer;
-    replies::answered(c, Word::Held, p, 0, Answer::Held)
+    replies::answered(c, Word::Held, p, 0, Answer::Held, Order::NONE)
 }
 
 fn call_enter(b: Board, p: u8, writable: FileSet, readable: FileSet) -> Changed
     requires { ⌜ ((1 ≤ p) × (p ≤ 32)) × Good b ⌝ }
-    ensures { λ r. ⌜ replyOf r ≡ apply b (Enter p writable readable) ⌝ }
+    ensures { λ r. ⌜ ComesTo r (apply b (Enter p writable readable)) ⌝ }
 {
     let i = (p - 1) as usize;
     let q = b.programs[i];
@@ -99,10 +102,11 @@ fn put_waiting(b: Board, p: u8, f: u8) -> Board
     c
 }
 
-// Open: WAIT if another program has f in conflicting use; UNSAFE if no order comes back with f given; otherwise GIVEN.
+// Open: WAIT if another program has f in conflicting use; UNSAFE if no order comes back with f given; otherwise GIVEN,
+// with the order that was found.
 fn do_open(b: Board, q: Program, p: u8, f: u8) -> Changed
     requires { ⌜ ((1 ≤ p) × (p ≤ 32)) × Good b × (openCheck b p f ≡ Check.Passed) × (q ≡ at b p) ⌝ }
-    ensures { λ r. ⌜ replyOf r ≡ openFile b p f ⌝ }
+    ensures { λ r. ⌜ ComesTo r (openFile b p f) ⌝ }
 {
     let mut sets = [0u64; 128];
     tables::take_sets(b, &mut sets);
@@ -110,21 +114,26 @@ fn do_open(b: Board, q: Program, p: u8, f: u8) -> Changed
     let uses = search::gives::uses_in(admitted, &sets);
     if search::gives::in_use(&sets, uses, p, f) {
         let c = put_waiting(b, p, f);
-        return replies::answered(c, Word::Wait, p, f, Answer::Wait);
+        return replies::answered(c, Word::Wait, p, f, Answer::Wait, Order::NONE);
     }
     let order = search::gives::order_given(&mut sets, admitted, p, f);
     let kind = order.kind;
-    let Search::Found(_) = kind else {
+    let Search::Found(n) = kind else {
         let c = put_waiting(b, p, f);
-        return replies::answered(c, Word::Unsafe, p, f, Answer::Unsafe);
+        return replies::answered(c, Word::Unsafe, p, f, Answer::Unsafe, Order::NONE);
+    };
+    let at = order.at;
+    let found = Order {
+        kind: Search::Found(n),
+        at: at,
     };
     let given = search::put(b, p, q.opening(f));
-    replies::answered(given, Word::Given, p, f, Answer::Given)
+    replies::answered(given, Word::Given, p, f, Answer::Given, found)
 }
 
 fn call_open(b: Board, p: u8, file: u64) -> Changed
     requires { ⌜ ((1 ≤ p) × (p ≤ 32)) × Good b ⌝ }
-    ensures { λ r. ⌜ replyOf r ≡ apply b (Open p file) ⌝ }
+    ensures { λ r. ⌜ ComesTo r (apply b (Open p file)) ⌝ }
 {
     let f = checks::file_of(file);
     if f == 0 {
@@ -144,7 +153,7 @@ fn call_open(b: Board, p: u8, file: u64) -> Changed
 // Close: f is open no longer.
 fn do_close(b: Board, q: Program, p: u8, f: u8) -> Changed
     requires { ⌜ ((1 ≤ p) × (p ≤ 32)) × Good b × (closeCheck b p f ≡ Check.Passed) × (q ≡ at b p) ⌝ }
-    ensures { λ r. ⌜ replyOf r ≡ closeFile b p f ⌝ }
+    ensures { λ r. ⌜ ComesTo r (closeFile b p f) ⌝ }
 {
     let c = search::put(b, p, q.closing(f));
     replies::done(c, p, f)
@@ -152,7 +161,7 @@ fn do_close(b: Board, q: Program, p: u8, f: u8) -> Changed
 
 fn call_close(b: Board, p: u8, file: u64) -> Changed
     requires { ⌜ ((1 ≤ p) × (p ≤ 32)) × Good b ⌝ }
-    ensures { λ r. ⌜ replyOf r ≡ apply b (Close p file) ⌝ }
+    ensures { λ r. ⌜ ComesTo r (apply b (Close p file)) ⌝ }
 {
     let f = checks::file_of(file);
     if f == 0 {
@@ -172,7 +181,7 @@ fn call_close(b: Board, p: u8, file: u64) -> Changed
 // Drop: f leaves p's claim.
 fn do_drop(b: Board, q: Program, p: u8, f: u8) -> Changed
     requires { ⌜ ((1 ≤ p) × (p ≤ 32)) × Good b × (openCheck b p f ≡ Check.Passed) × (q ≡ at b p) ⌝ }
-    ensures { λ r. ⌜ replyOf r ≡ dropFile b p f ⌝ }
+    ensures { λ r. ⌜ ComesTo r (dropFile b p f) ⌝ }
 {
     let c = search::put(b, p, q.dropping(f));
     replies::done(c, p, f)
@@ -180,7 +189,7 @@ fn do_drop(b: Board, q: Program, p: u8, f: u8) -> Changed
 
 fn call_drop(b: Board, p: u8, file: u64) -> Changed
     requires { ⌜ ((1 ≤ p) × (p ≤ 32)) × Good b ⌝ }
-    ensures { λ r. ⌜ replyOf r ≡ apply b (Drop p file) ⌝ }
+    ensures { λ r. ⌜ ComesTo r (apply b (Drop p file)) ⌝ }
 {
     let f = checks::file_of(file);
     if f == 0 {
@@ -215,7 +224,7 @@ fn counted(b: Board) -> Board
 // Leave: all its files and claims go.
 fn do_leave(b: Board, p: u8) -> Changed
     requires { ⌜ ((1 ≤ p) × (p ≤ 32)) × Good b × (leaveCheck b p ≡ Check.Passed) ⌝ }
-    ensures { λ r. ⌜ replyOf r ≡ leave b p ⌝ }
+    ensures { λ r. ⌜ ComesTo r (leave b p) ⌝ }
 {
     let gone = Program::ABSENT;
     let c = counted(search::put(b, p, gone));
@@ -224,7 +233,7 @@ fn do_leave(b: Board, p: u8) -> Changed
 
 fn call_leave(b: Board, p: u8) -> Changed
     requires { ⌜ ((1 ≤ p) × (p ≤ 32)) × Good b ⌝ }
-    ensures { λ r. ⌜ replyOf r ≡ apply b (Leave p) ⌝ }
+    ensures { λ r. ⌜ ComesTo r (apply b (Leave p)) ⌝ }
 {
     let i = (p - 1) as usize;
     let q = b.programs[i];
@@ -240,7 +249,7 @@ fn call_leave(b: Board, p: u8) -> Changed
 // The call of a program in range.
 fn call_by(b: Board, p: u8, a: Asked) -> Changed
     requires { ⌜ ((1 ≤ p) × (p ≤ 32)) × (p ≡ a .program) × Good b ⌝ }
-    ensures { λ r. ⌜ replyOf r ≡ apply b (callOf a) ⌝ }
+    ensures { λ r. ⌜ ComesTo r (apply b (callOf a)) ⌝ }
 {
     let file = a.file;
     let writable = a.writable;
@@ -255,10 +264,10 @@ fn call_by(b: Board, p: u8, a: Asked) -> Changed
     }
 }
 
-// The call that is asked for, on a sound board with its order.
+// The call that is asked for, on a sound board.
 pub fn call(b: Board, a: Asked) -> Changed
     requires { ⌜ sound b ≡ true ⌝ }
-    ensures { λ r. ⌜ replyOf r ≡ apply b (callOf a) ⌝ }
+    ensures { λ r. ⌜ ComesTo r (apply b (callOf a)) ⌝ }
 {
     let p = checks::program_of(a.program);
     if p == 0 {

@@ -18,7 +18,7 @@ ghost use Rattle.rules.specs.Replies.{refused, reply, refuse, refuseUnsound};
 ghost use Rattle.rules.specs.Calls.{done};
 ghost use Rattle.theory.specs.Loose.{Loose};
 ghost use Rattle.search.specs.Rows.{asOrder};
-ghost use Rattle.apply.specs.Replies.{wrote, replyOf, DoneFits};
+ghost use Rattle.apply.specs.Replies.{wrote, replyOf, foundBy, ComesTo, DoneFits};
 
 // What stands in the places after the last line.
 const BLANK: Line = Line {
@@ -57,13 +57,15 @@ fn one_line(b: Board, word: Word, p: u8, f: u8) -> Written
     }
 }
 
-// One line is written, and the answer says the same.
-pub fn answered(b: Board, word: Word, p: u8, f: u8, answer: Answer) -> Changed
-    ensures { λ r. ⌜ replyOf r ≡ reply b answer (line word p f ∷ []) ⌝ }
+// One line is written, and the answer says the same; `found` is the order that was sought, if one was.
+pub fn answered(b: Board, word: Word, p: u8, f: u8, answer: Answer, found: Order) -> Changed
+    requires { ⌜ found ≡ foundBy answer b ⌝ }
+    ensures { λ r. ⌜ ComesTo r (reply b answer (line word p f ∷ [])) ⌝ }
 {
     Changed {
         written: one_line(b, word, p, f),
         answer: answer,
+        found: found,
     }
 }
 
@@ -99,14 +101,18 @@ pub fn with_order(c: Changed, order: Order) -> Reply
     }
 }
 
-// The same; `before` is the order of the board before the call, which a refusal leaves as it was.
+// The same, by the order that the call found; `before` is the order of the board before the call, which a refusal leaves as it was.
 pub fn complete(c: Changed, before: Order) -> Reply
-    requires { ⌜ (refused (c .answer) ≡ true → before ≡ asOrder (carried (c .written .board))) ⌝ }
+    requires { ⌜ (refused (c .answer) ≡ true → before ≡ asOrder (carried (c .written .board))) × (c .found ≡ foundBy (c .answer) (c .written .board)) ⌝ }
     ensures { λ r. ⌜ r ≡ replyOf c ⌝ }
 {
     let answer = c.answer;
     if answer.refusal() != 0 {
         return with_order(c, before);
+    }
+    let found = c.found;
+    if search::is_found(found) {
+        return with_order(c, found);
     }
     let w = c.written;
     let b = w.board;
@@ -116,11 +122,12 @@ pub fn complete(c: Changed, before: Order) -> Reply
 
 // A refusal: the board is as it was.
 pub fn refused(b: Board, refusal: Refusal) -> Changed
-    ensures { λ r. ⌜ replyOf r ≡ refuse b refusal ⌝ }
+    ensures { λ r. ⌜ ComesTo r (refuse b refusal) ⌝ }
 {
     Changed {
         written: no_line(b),
         answer: Answer::Refuse(refusal),
+        found: Order::NONE,
     }
 }
 
@@ -141,11 +148,12 @@ pub fn refused_unsound(b: Board) -> Reply
 // DONE, then settle.
 pub fn done(b: Board, p: u8, f: u8) -> Changed
     requires { ⌜ Loose b × DoneFits b ⌝ }
-    ensures { λ r. ⌜ replyOf r ≡ done b p f ⌝ }
+    ensures { λ r. ⌜ ComesTo r (done b p f) ⌝ }
 {
     let w = one_line(b, Word::Done, p, f);
     Changed {
         written: settling::settled(w),
         answer: Answer::Done,
+        found: Order::NONE,
     }
 }

@@ -20,7 +20,7 @@ use Rattle.rules.specs.Settling.{line, unfavour, resume, tryGive, pass, 
 use Rattle.rules.specs.Replies.{reply, refuse, refuseUnsound, wordOf, linesOf, orderOf}
 use Rattle.rules.specs.Checks.{enterCheck, openCheck, closeCheck, leaveCheck}
 use Rattle.rules.specs.Calls.{enter, wait, openFile, done, closeFile, dropFile, countLeave, leave, apply, direct}
-use Rattle.rules.specs.Calls.{Call, Enter, Open, Close, Drop, Leave}
+use Rattle.rules.specs.Calls.{Call, Enter, Open, Close, Drop, Leave, programOf, fileOf}
 use Rattle.rules.proofs.Tables.{set}
 
 -- ---- what a list of direct calls, from the empty board, comes to
@@ -58,24 +58,8 @@ outcome cs = toldFrom emptyBoard (Option·getD (carried emptyBoard) []) cs
 
 -- ---- words for the table
 
--- the program and the file that an answer's line names
-programOf : Call → ℕ
-programOf (Enter p v q) = p
-programOf (Open p f) = p
-programOf (Close p f) = p
-programOf (Drop p f) = p
-programOf (Leave p) = p
-
-fileOf : Call → ℕ
-fileOf (Enter p v q) = 0
-fileOf (Open p f) = f
-fileOf (Close p f) = f
-fileOf (Drop p f) = f
-fileOf (Leave p) = 0
-
 -- the call c is answered with a: the answer's line, then these lines of settling
 yes : Call → Answer → List Line → Told
-unfolding programOf fileOf
 yes c a ls = record { call = c; answer = a; lines = line (wordOf a) (programOf c) (fileOf c) ∷ ls }
 
 -- the call c is refused, and has no lines
@@ -377,9 +361,29 @@ t =
       favoured = nobody;
     }
 
+-- (u) held programs run in line order, not by their numbers: 4 was held before 3
+u : Case
+unfolding nobody yes set writer gets
+u =
+    record {
+      told =
+          writer 1 (1 ∷ 2 ∷ 3 ∷ [])
+          ∷ writer 2 (1 ∷ 2 ∷ [])
+          ∷ gets 1 1
+          ∷ gets 1 3
+          ∷ yes (Open 2 2) Answer.Unsafe []
+          ∷ yes (Close 1 3) Answer.Done (line Word.Favour 2 2 ∷ [])
+          ∷ yes (Enter 4 noFiles (set (2 ∷ []))) Answer.Held []
+          ∷ yes (Enter 3 (set (5 ∷ [])) noFiles) Answer.Held []
+          ∷ yes (Leave 1) Answer.Done (line Word.Given 2 2 ∷ line Word.Admit 4 0 ∷ line Word.Admit 3 0 ∷ [])
+          ∷ [];
+      order = 2 ∷ 3 ∷ 4 ∷ [];
+      favoured = nobody;
+    }
+
 table : List Case
-unfolding a b c d e f g h i j k l m n o p q r s t
-table = a ∷ b ∷ c ∷ d ∷ e ∷ f ∷ g ∷ h ∷ i ∷ j ∷ k ∷ l ∷ m ∷ n ∷ o ∷ p ∷ q ∷ r ∷ s ∷ t ∷ []
+unfolding a b c d e f g h i j k l m n o p q r s t u
+table = a ∷ b ∷ c ∷ d ∷ e ∷ f ∷ g ∷ h ∷ i ∷ j ∷ k ∷ l ∷ m ∷ n ∷ o ∷ p ∷ q ∷ r ∷ s ∷ t ∷ u ∷ []
 
 -- the calls of a case
 calls : Case → List Call

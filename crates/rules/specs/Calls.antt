@@ -90,6 +90,22 @@ callWith Verb.Leave p f v q = Leave p
 abbrev pub callOf : Asked → Call
 callOf a = callWith (a .verb) (a .program) (a .file) (a .writable) (a .readable)
 
+-- the program that a call names
+abbrev pub programOf : Call → ℕ
+programOf (Enter p v q) = p
+programOf (Open p f) = p
+programOf (Close p f) = p
+programOf (Drop p f) = p
+programOf (Leave p) = p
+
+-- the file that it names, and 0 where it names none
+abbrev pub fileOf : Call → ℕ
+fileOf (Enter p v q) = 0
+fileOf (Open p f) = f
+fileOf (Close p f) = f
+fileOf (Drop p f) = f
+fileOf (Leave p) = 0
+
 -- the first of checks 8 to 16 that applies
 abbrev pub checked : Board → Call → Check
 checked b (Enter p v q) = enterCheck b p v q

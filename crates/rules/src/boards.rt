@@ -3,8 +3,6 @@ use crate::Board;
 use crate::Program;
 use crate::Standing;
 use files::FileSet;
-ghost use mathlib.Core.Path.{_≡_};
-ghost use Rattle.rules.specs.Boards.{emptyBoard};
 
 impl Board {
     // The empty board.
@@ -22,11 +20,4 @@ impl Board {
         initial: 0,
         leaves: 0,
     };
-
-    // The constant, with its contract.
-    pub fn empty() -> Board
-        ensures { λ r. ⌜ r ≡ emptyBoard ⌝ }
-    {
-        Board::EMPTY
-    }
 }

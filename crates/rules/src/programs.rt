@@ -1,12 +1,11 @@
-// What the rules ask of a program by itself or against another, and a program with one part changed.
+// What the rules ask of a program by itself, and a program with one part changed.
 use crate::Program;
 use crate::Standing;
 use files::FileSet;
 ghost use mathlib.Core.Path.{_≡_};
 ghost use mathlib.Core.Bool.{_||_};
-ghost use Rattle.files.specs.Sets.{member, meets};
-ghost use Rattle.rules.specs.Boards.{noProgram, claims, hasOpen, setStanding, opening, closing, dropping};
-ghost use Rattle.rules.specs.Orders.{conflict, holdsBack};
+ghost use Rattle.files.specs.Sets.{member};
+ghost use Rattle.rules.specs.Boards.{claims, hasOpen, setStanding, opening, closing, dropping};
 
 // Whether f is in one of the two sets.
 fn in_either(s: FileSet, t: FileSet, f: u8) -> bool
@@ -18,19 +17,6 @@ fn in_either(s: FileSet, t: FileSet, f: u8) -> bool
     t.has(f)
 }
 
-// Whether one of three pairs of sets meets.
-fn some_meet(a: FileSet, b: FileSet, c: FileSet, d: FileSet, e: FileSet, f: FileSet) -> bool
-    ensures { λ r. ⌜ r ≡ meets a b || meets c d || meets e f ⌝ }
-{
-    if a.meets(b) {
-        return true;
-    }
-    if c.meets(d) {
-        return true;
-    }
-    e.meets(f)
-}
-
 impl Program {
     // An absent program, with empty sets.
     pub const ABSENT: Program = Program {
@@ -40,13 +26,6 @@ impl Program {
         reading: FileSet { bits: 0 },
         standing: Standing::Absent,
     };
-
-    // The constant, with its contract.
-    pub fn absent() -> Program
-        ensures { λ r. ⌜ r ≡ noProgram ⌝ }
-    {
-        Program::ABSENT
-    }
 
     // Whether f is in V or Q.
     pub fn claims(self, f: u8) -> bool
@@ -64,28 +43,6 @@ impl Program {
         let w = self.writing;
         let r = self.reading;
         in_either(w, r, f)
-    }
-
-    // Whether the two conflict: W of one meets W or R of the other.
-    pub fn conflicts(self, other: Program) -> bool
-        ensures { λ r. ⌜ r ≡ conflict self other ⌝ }
-    {
-        let w = self.writing;
-        let r = self.reading;
-        let x = other.writing;
-        let s = other.reading;
-        some_meet(w, x, w, s, x, r)
-    }
-
-    // Whether the program holds back the other: its W meets V or Q of the other, or its R meets V of the other.
-    pub fn holds_back(self, other: Program) -> bool
-        ensures { λ r. ⌜ r ≡ holdsBack self other ⌝ }
-    {
-        let w = self.writing;
-        let r = self.reading;
-        let v = other.writable;
-        let q = other.readable;
-        some_meet(w, v, w, q, r, v)
     }
 
     // The program at another standing.

@@ -20,9 +20,9 @@ use Rattle.theory.specs.Reach.{isOther, ReachesOn, no-back, reaches-direct, rea
 use Rattle.tables.specs.declared.ProgramSet.{ProgramSet}
 use Rattle.tables.specs.ProgramSets.{noPrograms, hasProgram, withoutProgram, unionOf, commonOf}
 use Rattle.tables.specs.Tables.{packed, SetsOf}
-use Rattle.tables.specs.Claims.{claimsAt, filesIn, holdsAgainst}
+use Rattle.tables.specs.Claims.{claimsAt, filesIn, holdsAgainst, holdsOne}
 use Rattle.tables.proofs.Laws.{packed-has, union-has, common-has, none-has}
-use Rattle.tables.proofs.Claimed.{holdsOne, has-split, has-some, against-split, against-some}
+use Rattle.tables.proofs.Claimed.{has-split, has-some, against-split, against-some}
 use Rattle.search.specs.Rows.{admits, admittedSet}
 
 -- x, among the others, holds back one with the claims v and q, or one that does so in turn
@@ -38,10 +38,10 @@ pub record Closing (sets : List ℕ) (among : ProgramSet) (v q f : ℕ) (both : 
   pub free : (y : ℕ) → hasProgram seen y ≡ true → claimsAt sets f both y ≡ false
   pub more : seen .bits ≤ next .bits
 
-low : (s : ProgramSet) (x : ℕ) → hasProgram s x ≡ true → 1 ≤ x
+pub low : (s : ProgramSet) (x : ℕ) → hasProgram s x ≡ true → 1 ≤ x
 low s x e = least 32 x (has-number 32 (s .bits) x e)
 
-high : (s : ProgramSet) (x : ℕ) → hasProgram s x ≡ true → x ≤ 32
+pub high : (s : ProgramSet) (x : ℕ) → hasProgram s x ≡ true → x ≤ 32
 high s x e = most 32 x (has-number 32 (s .bits) x e)
 
 union-le : (s t : ProgramSet) → s .bits ≤ unionOf s t .bits
@@ -77,14 +77,14 @@ module _ (sets : List ℕ) (among : ProgramSet) (v q f : ℕ) (both : Bool) wher
       )
 
   -- the claims of all in s are those of somebody in s
-  claims-some : (s : ProgramSet) → claimedIn s ≡ true → (y : ℕ) × (hasProgram s y ≡ true) × (claimsAt sets f both y ≡ true)
+  pub claims-some : (s : ProgramSet) → claimedIn s ≡ true → (y : ℕ) × (hasProgram s y ≡ true) × (claimsAt sets f both y ≡ true)
   claims-some s e = or-cases (member (record { bits = allV s }) f) (both && member (record { bits = allQ s }) f) e
       (λ u. let (y, h, m, t, d) = has-split sets 0 s f u in let z : y - 1 ≡ 0 + (y - 1) = omega arith in
       (y, t, or-left _ (both && member (record { bits = getD sets (32 + (y - 1)) 0 }) f) (ap (λ (j : ℕ). hasNumber 64 (getD sets j 0) f) z ∙ d)))
       (λ u. let (y, h, m, t, d) = has-split sets 32 s f (and-right both (member (record { bits = allQ s }) f) u) in
       (y, t, or-right (member (record { bits = getD sets (y - 1) 0 }) f) _ (and-both both _ (and-left both (member (record { bits = allQ s }) f) u) d)))
 
-  claims-none : (s : ProgramSet) → claimedIn s ≡ false → (y : ℕ) → hasProgram s y ≡ true → claimsAt sets f both y ≡ false
+  pub claims-none : (s : ProgramSet) → claimedIn s ≡ false → (y : ℕ) → hasProgram s y ≡ true → claimsAt sets f both y ≡ false
   claims-none s e y t = no-true (claimsAt sets f both y) (λ d. never
       (or-cases (member (record { bits = getD sets (y - 1) 0 }) f) (both && member (record { bits = getD sets (32 + (y - 1)) 0 }) f) d
       (λ u. let z : 0 + (y - 1) ≡ y - 1 = omega arith in or-left (member (record { bits = allV s }) f) _

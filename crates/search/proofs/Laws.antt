@@ -28,7 +28,7 @@ use Rattle.search.specs.declared.Order.{Order}
 use Rattle.tables.specs.ProgramSets.{hasProgram, withoutProgram, programsMeet}
 use Rattle.tables.specs.Tables.{packed, stops, holders, RowsOf}
 use Rattle.tables.proofs.Laws.{packed-bit, packed-has}
-use Rattle.search.specs.Rows.{isFound, RowsAt, admits, admittedSet, free, lowest, orderFrom, placed, outcome, asOrder}
+use Rattle.search.specs.Rows.{isFound, RowsAt, admits, admittedSet, free, lowest, orderFrom, placed, outcome, asOrder, orderIn, OrderFor}
 
 -- ---- tests over a range of numbers
 
@@ -224,16 +224,21 @@ pub rows-at : (b : Board) (rows : List ℕ) → RowsOf b rows → RowsAt b rows
 unfolding holders
 rows-at b rows f p h k = let z : suc (p - 1) ≡ p = omega arith in f .1 (p - 1) (omega arith) ∙ ap (λ (x : ℕ). packed (stops b x) 32) z
 
--- the search from no place on, of all that are admitted
-pub order-given : (b : Board) (rows at : List ℕ) (left : ProgramSet) (n : ℕ) (r : Bool) → RowsOf b rows → left ≡ admittedSet b
-    → n ≡ length (keep (hasProgram left) everyone) → outcome r (0 + n) at ≡ placed (replicate 32 0) 0 (orderFrom n rows left)
-    → outcome r n at ≡ asOrder (carried b)
-order-given b rows at left n r f e c o =
-    let d : n ≡ length (admitted b) = c ∙ ap (λ (x : ProgramSet). length (keep (hasProgram x) everyone)) e ∙ ap length (sym (admitted-is b)) in
-    ap (λ (m : ℕ). outcome r m at) (sym (zero-add n)) ∙ o
-    ∙ ap (λ (m : ℕ). placed (replicate 32 0) 0 (orderFrom m rows left)) d
-    ∙ ap (λ (x : ProgramSet). placed (replicate 32 0) 0 (orderFrom (length (admitted b)) rows x)) e
-    ∙ ap (placed (replicate 32 0) 0) (carried-is b rows (rows-at b rows f)) ∙ placed-start (carried b)
+-- the search from no place on
+pub order-in-is : (rows at : List ℕ) (left : ProgramSet) (n : ℕ) (r : Bool) → n ≡ length (keep (hasProgram left) everyone)
+    → outcome r (0 + n) at ≡ placed (replicate 32 0) 0 (orderFrom n rows left) → outcome r n at ≡ orderIn rows left
+unfolding orderIn
+order-in-is rows at left n r c o =
+    ap (λ (m : ℕ). outcome r m at) (sym (zero-add n)) ∙ o ∙ placed-start (orderFrom n rows left)
+    ∙ ap (λ (m : ℕ). asOrder (orderFrom m rows left)) c
+
+-- on boards: the carried order of all that are admitted
+pub order-for : (rows : List ℕ) (left : ProgramSet) → OrderFor rows left (orderIn rows left)
+unfolding orderIn
+order-for rows left b f e =
+    ap (λ (x : ProgramSet). asOrder (orderFrom (length (keep (hasProgram x) everyone)) rows x)) e
+    ∙ ap (λ (l : List ℕ). asOrder (orderFrom (length l) rows (admittedSet b))) (sym (admitted-is b))
+    ∙ ap asOrder (carried-is b rows (rows-at b rows f))
 
 -- ---- whether an order was found
 

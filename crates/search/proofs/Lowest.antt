@@ -17,18 +17,10 @@ use Rattle.rules.specs.Boards.{everyone}
 use Rattle.tables.specs.declared.ProgramSet.{ProgramSet}
 use Rattle.tables.specs.ProgramSets.{hasProgram, withoutProgram, programsMeet, IsLowest}
 use Rattle.tables.specs.Tables.{rowOf}
+use Rattle.tables.proofs.Laws.{first-at}
 use Rattle.search.specs.Rows.{free, lowest}
 
 module _ (t : ℕ → Bool) where
-  first-at : (n k p : ℕ) → k ≤ p → p < k + n → t p ≡ true → ((q : ℕ) → k ≤ q → q < p → t q ≡ false) → first t (rising n k) ≡ some p
-  unfolding first rising
-  first-at zero k p l h e f = absurd (omega arith)
-  first-at (suc n) k p l h e f =
-      by-test (eqb k p)
-      (λ z. let w : k ≡ p = eqb-true k p z in rw (ap t w ∙ e) (ap some w))
-      (λ z. let w : k ≢ p = eqb-false k p z in
-      rw (f k (omega arith) (omega arith)) (first-at n (suc k) p (omega arith) (omega arith) e (λ q a b. f q (omega arith) b)))
-
   first-no : (n k : ℕ) → ((q : ℕ) → t q ≡ false) → first t (rising n k) ≡ none
   unfolding first rising
   first-no zero k f = refl

@@ -1,37 +1,78 @@
--- Whether a file can be given, as the code decides it from the arrays of a board.
+-- Whether a file can be given, as the code decides it from the arrays of a board. The statements below, which proofs/ proves,
+-- lead from the arrays to every board that has them.
 -- Assumes nothing.
-use Prim.Native.Nat.{ℕ}
+use Prim.Native.Nat.{ℕ, zero, suc, _+_, _-_, _≤_}
 use mathlib.Core.Path.{_≡_}
-use mathlib.Core.Bool.{Bool, true, false}
+use mathlib.Core.Bool.{Bool, true, false, not, _&&_, _||_}
 use mathlib.Core.List.{List}
-use lib.ListN.{length}
+use lib.ListN.{length, getD}
+use Rattle.files.specs.Sets.{member}
 use Rattle.rules.specs.declared.Board.{Board}
-use Rattle.rules.specs.Lists.{found}
-use Rattle.rules.specs.Boards.{at, hasOpen}
+use Rattle.rules.specs.Lists.{any, found}
+use Rattle.rules.specs.Boards.{everyone, at, hasOpen}
 use Rattle.rules.specs.Orders.{carried, withGiven, inUse, safe, canGive}
 use Rattle.rules.specs.Soundness.{noConflict}
 use Rattle.tables.specs.declared.ProgramSet.{ProgramSet}
-use Rattle.tables.specs.Tables.{SetsOf, openedFrom}
+use Rattle.tables.specs.ProgramSets.{noPrograms, hasProgram, withoutProgram}
+use Rattle.tables.specs.Tables.{SetsOf, openedFrom, packed, rowsOf}
+use Rattle.tables.specs.Claims.{claimsAt, holdsOne, givenAt}
 use Rattle.search.specs.declared.Order.{Order}
 use Rattle.search.specs.declared.Uses.{Uses}
-use Rattle.search.specs.Rows.{admits, admittedSet, asOrder}
+use Rattle.search.specs.Rows.{admits, admittedSet, asOrder, orderIn}
+
+-- ---- by the arrays
+
+-- what is open, with these admitted
+abbrev pub usesIn : ProgramSet → List ℕ → Uses
+usesIn a sets = record { admitted = a; written = openedFrom sets 64; read = openedFrom sets 96 }
+
+-- p may write f
+abbrev pub writes : List ℕ → ℕ → ℕ → Bool
+writes sets p f = member (record { bits = getD sets (p - 1) 0 }) f
+
+-- f is open for writing, or p wants it for writing and it is open for reading
+abbrev pub usedIn : List ℕ → Uses → ℕ → ℕ → Bool
+usedIn sets u p f = member (u .written) f || (writes sets p f && member (u .read) f)
+
+-- x was found before, or is among the others and holds back p or one that was found
+abbrev pub joins : List ℕ → ProgramSet → ℕ → ProgramSet → ℕ → Bool
+joins sets others p seen x = hasProgram seen x
+    || (hasProgram others x && (holdsOne sets p x || any (λ y. hasProgram seen y && holdsOne sets y x) everyone))
+
+-- those of the others that hold back p, directly or through others, found in n rounds
+unfoldable pub backers : List ℕ → ProgramSet → ℕ → ℕ → ProgramSet
+backers sets others p zero = noPrograms
+backers sets others p (suc n) = packed (joins sets others p (backers sets others p n)) 32
+
+-- with f given to p, p would hold back none that holds it back: none of them may write f or, if p writes it, read it;
+-- after 32 rounds all of them are found
+unfoldable pub safeIn : List ℕ → ProgramSet → ℕ → ℕ → Bool
+safeIn sets a p f =
+    not (any (λ x. hasProgram (backers sets (withoutProgram a p) p 32) x && claimsAt sets f (writes sets p f) x) everyone)
+
+-- f is in no conflicting use, and giving it to p is safe
+abbrev pub giveIn : List ℕ → Uses → ℕ → ℕ → Bool
+giveIn sets u p f = not (usedIn sets u p f) && safeIn sets (u .admitted) p f
+
+-- the order of those admitted, with f given to p
+abbrev pub orderGiven : List ℕ → ProgramSet → ℕ → ℕ → Order
+orderGiven sets a p f = orderIn (rowsOf (givenAt sets (p - 1) f)) a
+
+-- ---- from the arrays to boards
 
 -- who is admitted, and what is open
 abbrev pub usesOf : Board → List ℕ → Uses
-usesOf b sets = record { admitted = admittedSet b; written = openedFrom sets 64; read = openedFrom sets 96 }
+usesOf b sets = usesIn (admittedSet b) sets
 
 -- on every board without conflict that has these sets: the test says whether f, which p has not open, is in conflicting use
 abbrev pub UsedFor : List ℕ → Uses → ℕ → ℕ → Bool → Type 0
 UsedFor sets u p f r = (b : Board) → SetsOf b sets → u ≡ usesOf b sets → noConflict b ≡ true → hasOpen (at b p) f ≡ false
     → r ≡ inUse b p f
 
--- what is open, with these admitted
-abbrev pub usesIn : ProgramSet → List ℕ → Uses
-usesIn a sets = record { admitted = a; written = openedFrom sets 64; read = openedFrom sets 96 }
-
 -- on every board with these sets and admitted programs that has an order: the test says whether an order comes back with f given to p
 abbrev pub SafeFor : List ℕ → ProgramSet → ℕ → ℕ → Bool → Type 0
-SafeFor sets a p f r = (b : Board) → SetsOf b sets → a ≡ admittedSet b → admits b p ≡ true → found (carried b) ≡ true → r ≡ safe b p f
+SafeFor sets a p f r = (b : Board) → SetsOf b sets → a ≡ admittedSet b → admits b p ≡ true → found (carried b) ≡ true
+    → r ≡ safe b p f
 
 -- on every board with an order and without conflict that has these sets: the test says whether an open would give f,
 -- which p has not open, to the admitted program p
@@ -41,4 +82,5 @@ GivenFor sets u p f r = (b : Board) → SetsOf b sets → u ≡ usesOf b sets �
 
 -- of every board of 32 programs with these sets and admitted programs: the carried order with f given to p
 abbrev pub OrderGiven : List ℕ → ProgramSet → ℕ → ℕ → Order → Type 0
-OrderGiven sets a p f r = (b : Board) → length (b .programs) ≡ 32 → SetsOf b sets → a ≡ admittedSet b → r ≡ asOrder (carried (withGiven b p f))
+OrderGiven sets a p f r = (b : Board) → length (b .programs) ≡ 32 → SetsOf b sets → a ≡ admittedSet b
+    → r ≡ asOrder (carried (withGiven b p f))

@@ -7,7 +7,7 @@ use mathlib.Core.List.{List, [], _∷_, _++_}
 use mathlib.Core.Option.{Option, none, some, Option·getD}
 use lib.ListN.{length, take, drop, replicate}
 use Rattle.rules.specs.declared.Board.{Board}
-use Rattle.rules.specs.Lists.{first, withFound, padded}
+use Rattle.rules.specs.Lists.{keep, first, withFound, padded}
 use Rattle.rules.specs.Boards.{everyone, at, isAdmitted}
 use Rattle.rules.specs.Orders.{carried}
 use Rattle.tables.specs.declared.ProgramSet.{ProgramSet}
@@ -62,6 +62,10 @@ asOrder none = record { kind = Search.Stuck; at = replicate 32 0 }
 abbrev pub isFound : Search → Bool
 isFound (Search.Found n) = true
 isFound Search.Stuck = false
+
+-- the order of the programs left, by the rows
+unfoldable pub orderIn : List ℕ → ProgramSet → Order
+orderIn rows left = asOrder (orderFrom (length (keep (hasProgram left) everyone)) rows left)
 
 -- the carried order of every board with these rows and admitted programs
 abbrev pub OrderFor : List ℕ → ProgramSet → Order → Type 0

@@ -5,9 +5,10 @@ use files::FileSet;
 use rules::Board;
 use tables::ProgramSet;
 ghost use mathlib.Core.Path.{_≡_};
-ghost use Prim.Native.Nat.{_≤_};
+ghost use Prim.Native.Nat.{_-_, _≤_};
 ghost use lib.ListN.{length};
-ghost use Rattle.search.specs.Gives.{usesOf, UsedFor, usesIn, SafeFor, GivenFor, OrderGiven};
+ghost use Rattle.search.specs.Gives.{usesOf, usesIn, usedIn, safeIn, giveIn, orderGiven};
+ghost use Rattle.tables.specs.Claims.{givenAt};
 
 // What is open, by the sets, with these admitted.
 pub fn uses_in(admitted: ProgramSet, sets: &[u64; 128]) -> Uses
@@ -30,10 +31,11 @@ pub fn uses_of(b: Board, sets: &[u64; 128]) -> Uses
     uses_in(admitted, sets)
 }
 
-// Whether f, which p has not open, is in conflicting use, on a board without conflict.
+// Whether f is open for writing, or p wants it for writing and it is open for reading: on a board without conflict,
+// where p has not f open, that is conflicting use.
 pub fn in_use(sets: &[u64; 128], u: Uses, p: u8, f: u8) -> bool
     requires { ⌜ (1 ≤ p) × (p ≤ 32) ⌝ }
-    ensures { λ r. ⌜ UsedFor (now (sets .entry)) u p f r ⌝ }
+    ensures { λ r. ⌜ r ≡ usedIn (now (sets .entry)) u p f ⌝ }
 {
     let written = u.written;
     if written.has(f) {
@@ -48,11 +50,11 @@ pub fn in_use(sets: &[u64; 128], u: Uses, p: u8, f: u8) -> bool
     read.has(f)
 }
 
-// On a board that has an order: whether an order comes back with f given to p. Those that hold p back, directly or through
+// Whether giving f to p is safe: on a board that has an order, whether one comes back. Those that hold p back, directly or through
 // others, are gathered round by round, until one claims f so that p would hold it back, or there are no more.
 pub fn is_safe(sets: &[u64; 128], admitted: ProgramSet, p: u8, f: u8) -> bool
     requires { ⌜ (1 ≤ p) × (p ≤ 32) ⌝ }
-    ensures { λ r. ⌜ SafeFor (now (sets .entry)) admitted p f r ⌝ }
+    ensures { λ r. ⌜ r ≡ safeIn (now (sets .entry)) admitted p f ⌝ }
 {
     let i = (p - 1) as usize;
     let v = sets[i];
@@ -76,10 +78,10 @@ pub fn is_safe(sets: &[u64; 128], admitted: ProgramSet, p: u8, f: u8) -> bool
     true
 }
 
-// Whether an open would give f, which p has not open, to p, on a board that has an order and no conflict.
+// Whether f can be given to p: on a sound board, where p has not f open, whether an open would give it.
 pub fn can_give(sets: &[u64; 128], u: Uses, p: u8, f: u8) -> bool
     requires { ⌜ (1 ≤ p) × (p ≤ 32) ⌝ }
-    ensures { λ r. ⌜ GivenFor (now (sets .entry)) u p f r ⌝ }
+    ensures { λ r. ⌜ r ≡ giveIn (now (sets .entry)) u p f ⌝ }
 {
     if in_use(sets, u, p, f) {
         return false;
@@ -88,10 +90,11 @@ pub fn can_give(sets: &[u64; 128], u: Uses, p: u8, f: u8) -> bool
     is_safe(sets, admitted, p, f)
 }
 
-// The carried order of the board with f given to p, by its sets, which then are those with f given.
+// The order with f given to p, by the sets, which then are those with f given.
 pub fn order_given(sets: &mut [u64; 128], admitted: ProgramSet, p: u8, f: u8) -> Order
     requires { ⌜ ((1 ≤ p) × (p ≤ 32)) × (length (now sets) ≡ 128) ⌝ }
-    ensures { λ r. ⌜ OrderGiven (now (sets .entry)) admitted p f r ⌝ }
+    ensures { λ r. ⌜ r ≡ orderGiven (now (sets .entry)) admitted p f ⌝ }
+    ensures { λ r. ⌜ now (sets .exit) ≡ givenAt (now (sets .entry)) (p - 1) f ⌝ }
 {
     let i = (p - 1) as usize;
     tables::claims::give(sets, i, f);

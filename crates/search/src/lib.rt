@@ -11,7 +11,7 @@ ghost use Rattle.rules.specs.Boards.{admitted, awaited, setProgram};
 ghost use Rattle.rules.specs.Orders.{carried};
 ghost use Rattle.tables.specs.ProgramSets.{programsMeet};
 ghost use Rattle.tables.specs.Tables.{rowOf};
-ghost use Rattle.search.specs.Rows.{admittedSet, lowest, orderFrom, placed, outcome, asOrder, isFound, OrderFor};
+ghost use Rattle.search.specs.Rows.{admittedSet, lowest, orderFrom, placed, outcome, asOrder, orderIn, isFound};
 
 pub mod gives;
 
@@ -32,6 +32,14 @@ pub enum Search {
 pub struct Order {
     pub kind: Search,
     pub at: [u8; 32],
+}
+
+impl Order {
+    // No order.
+    pub const NONE: Order = Order {
+        kind: Search::Stuck,
+        at: [0u8; 32],
+    };
 }
 
 // ---- programs by their numbers
@@ -139,17 +147,14 @@ fn search_rest(rows: &[u32; 32], left: ProgramSet, n: usize, at: &mut [u8; 32], 
     search_rest(rows, rest, n - 1, at, k + 1)
 }
 
-// The carried order of the programs left, by the rows of their board.
+// The order of the programs left, by the rows: the carried one of every board that has them.
 pub fn order_in(rows: &[u32; 32], left: ProgramSet) -> Order
-    ensures { λ r. ⌜ OrderFor (now (rows .entry)) left r ⌝ }
+    ensures { λ r. ⌜ r ≡ orderIn (now (rows .entry)) left ⌝ }
 {
     let n = left.count() as usize;
     let mut at = [0u8; 32];
     if !search_rest(rows, left, n, &mut at, 0) {
-        return Order {
-            kind: Search::Stuck,
-            at: [0u8; 32],
-        };
+        return Order::NONE;
     }
     Order {
         kind: Search::Found(n),

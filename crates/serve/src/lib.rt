@@ -16,7 +16,7 @@ ghost use Rattle.rules.specs.Soundness.{sound};
 ghost use Rattle.rules.specs.Calls.{direct};
 ghost use Rattle.request.specs.Requests.{requestCall};
 ghost use Rattle.journal.specs.Journal.{written};
-ghost use Rattle.apply.specs.Replies.{replyOf};
+ghost use Rattle.apply.specs.Replies.{replyOf, ComesTo};
 ghost use Rattle.serve.specs.LineCall.{journalFull, refuseLine, linesFor, replyTo, lineCall};
 
 // What the call comes to, and the new place in the journal.
@@ -67,7 +67,7 @@ fn write_lines(journal: &mut [u8], place: usize, q: Request, c: Changed) -> usiz
 // The direct call that a taken line asks for.
 fn call(b: Board, q: Request) -> Changed
     requires { ⌜ sound b ≡ true ⌝ }
-    ensures { λ r. ⌜ replyOf r ≡ direct b (requestCall q) ⌝ }
+    ensures { λ r. ⌜ ComesTo r (direct b (requestCall q)) ⌝ }
 {
     let verb = q.verb;
     let writable = q.writable;
@@ -85,7 +85,7 @@ fn call(b: Board, q: Request) -> Changed
 // What a line comes to: its direct call, or a refusal.
 fn reply_to(b: Board, q: Request) -> Changed
     requires { ⌜ sound b ≡ true ⌝ }
-    ensures { λ r. ⌜ replyOf r ≡ replyTo b q ⌝ }
+    ensures { λ r. ⌜ ComesTo r (replyTo b q) ⌝ }
 {
     let reading = q.reading;
     match reading {
@@ -97,7 +97,7 @@ fn reply_to(b: Board, q: Request) -> Changed
 // The line call on a sound board, but for the order of its reply.
 pub fn line(b: Board, line: &[u8], journal: &mut [u8], place: u64) -> Served
     requires { ⌜ sound b ≡ true ⌝ }
-    ensures { λ r. ⌜ replyOf (r .changed) ≡ lineCall b (now (line .entry)) (now (journal .entry)) place .reply ⌝ }
+    ensures { λ r. ⌜ ComesTo (r .changed) (lineCall b (now (line .entry)) (now (journal .entry)) place .reply) ⌝ }
     ensures { λ r. ⌜ r .place ≡ lineCall b (now (line .entry)) (now (journal .entry)) place .place ⌝ }
     ensures { λ r. ⌜ now (journal .exit) ≡ lineCall b (now (line .entry)) (now (journal .entry)) place .journal ⌝ }
 {

@@ -27,7 +27,8 @@ use Rattle.theory.specs.Settling.{pass-passed}
 use Rattle.theory.specs.Sound.{loose-apart, loose-order, loose-waiter}
 use Rattle.tables.specs.Tables.{inPlace, SetsOf}
 use Rattle.search.specs.declared.Uses.{Uses}
-use Rattle.search.specs.Gives.{usesOf, UsedFor, GivenFor}
+use Rattle.search.specs.Gives.{usesOf, usedIn, giveIn}
+use Rattle.search.proofs.Used.{used-by, give-by}
 use Rattle.lines.proofs.Laws.{names-on, names-stop, names-end}
 use Rattle.lines.proofs.Laws.{names-left}
 use Rattle.settling.specs.declared.Written.{Written}
@@ -173,20 +174,20 @@ module _ (b : Board) (l : List ℕ) (k : ℕ) (h : k < length l) (ne : getD l k 
 
   -- what the arrays say of the waiter is what the rules say
   pub waiter-can : (sets asked : List ℕ) (u : Uses) (t : Bool) → SetsOf b sets → u ≡ usesOf b sets → Asks b (names (drop k l)) asked
-      → GivenFor sets u (getD l k 0) (getD asked (getD l k 0 - 1) 0) t → t ≡ canGive b (getD l k 0) (awaited b (getD l k 0))
+      → t ≡ giveIn sets u (getD l k 0) (getD asked (getD l k 0 - 1) 0) → t ≡ canGive b (getD l k 0) (awaited b (getD l k 0))
   waiter-can sets asked u t x z a g =
       let m = loose-waiter b (getD l k 0) (ready-at .0) (waiter-at .0) (waiter-at .1) in let e = a (getD l k 0) waiter-in in
-      g b x z (loose-apart b (ready-at .0)) (loose-order b (ready-at .0)) (m .0) (ap (hasOpen (at b (getD l k 0))) e ∙ m .1)
+      give-by sets u (getD l k 0) (getD asked (getD l k 0 - 1) 0) t (waiter-range .0) (waiter-range .1) g b x z (loose-apart b (ready-at .0)) (loose-order b (ready-at .0)) (m .0) (ap (hasOpen (at b (getD l k 0))) e ∙ m .1)
       ∙ ap (canGive b (getD l k 0)) e
 
   pub asks-left : (asked : List ℕ) → Asks b (names (drop k l)) asked → Asks b (names (drop (k + 1) l)) asked
   asks-left asked a = rw (add-one k) (λ p m. a p (subst (λ (ps : List ℕ). p ∈ ps) (sym (names-on l k h ne)) (List·Memᴰ·tail m)))
 
   pub waiter-used : (sets : List ℕ) (u : Uses) (f : ℕ) (t : Bool) → SetsOf b sets → u ≡ usesOf b sets
-      → f ≡ awaited b (getD l k 0) → UsedFor sets u (getD l k 0) f t → t ≡ inUse b (getD l k 0) (awaited b (getD l k 0))
+      → f ≡ awaited b (getD l k 0) → t ≡ usedIn sets u (getD l k 0) f → t ≡ inUse b (getD l k 0) (awaited b (getD l k 0))
   waiter-used sets u f t x z e g =
       let m = loose-waiter b (getD l k 0) (ready-at .0) (waiter-at .0) (waiter-at .1) in
-      g b x z (loose-apart b (ready-at .0)) (ap (hasOpen (at b (getD l k 0))) e ∙ m .1) ∙ ap (inUse b (getD l k 0)) e
+      used-by sets u (getD l k 0) f t (waiter-range .0) (waiter-range .1) g b x z (loose-apart b (ready-at .0)) (ap (hasOpen (at b (getD l k 0))) e ∙ m .1) ∙ ap (inUse b (getD l k 0)) e
 
   pub ready-left : Ready b (names (drop (k + 1) l))
   unfolding Pairs

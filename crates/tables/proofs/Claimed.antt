@@ -15,7 +15,7 @@ use Rattle.files.proofs.Bits.{or-has, zero-has, share-of, of-share, has-number,
 use Rattle.files.proofs.Tests.{by-test, never, or-cases, or-left, or-right, and-both}
 use Rattle.tables.specs.declared.ProgramSet.{ProgramSet}
 use Rattle.tables.specs.ProgramSets.{hasProgram}
-use Rattle.tables.specs.Claims.{filesIn, holdsAgainst}
+use Rattle.tables.specs.Claims.{filesIn, holdsAgainst, holdsOne}
 
 module _ (l : List ℕ) (k : ℕ) (s : ProgramSet) where
   -- one set more
@@ -78,10 +78,6 @@ module _ (l : List ℕ) (k : ℕ) (s : ProgramSet) where
       → hasNumber 64 (filesIn l k s 32) f ≡ true
   has-some f y h m t e = and-both _ (hasBit (filesIn l k s 32) (f - 1)) (has-number 64 (getD l (k + (y - 1)) 0) f e)
       (bit-files 32 y (f - 1) h m t (has-bit 64 (getD l (k + (y - 1)) 0) f e))
-
--- x holds back y by its claims
-abbrev pub holdsOne : List ℕ → ℕ → ℕ → Bool
-holdsOne sets y x = holdsAgainst sets (getD sets (y - 1) 0) (getD sets (32 + (y - 1)) 0) x
 
 module _ (sets : List ℕ) (s : ProgramSet) (v q x : ℕ) where
   abbrev w : ℕ

@@ -2,6 +2,7 @@
 use mathlib.Core.Path.{_≡_, sym, ap, _∙_}
 use mathlib.Core.Logic.{_≢_}
 use mathlib.Core.Bool.{true, false}
+use mathlib.Core.Option.{Option, Option·getD}
 use Prim.Native.Nat.{ℕ, zero, suc, _+_, _-_, _/_, _%_, _^_, _<_}
 use native.Mathlib.Nat.{div-div-eq-div-mul, mul-comm, pow-suc, div-one}
 use native.Mathlib.Omega.{arith}
@@ -13,8 +14,10 @@ use Rattle.files.proofs.Tests.{by-test, no-true, never, and-both}
 use Rattle.files.specs.Bits.{hasBit, hasNumber, isNumber}
 use Rattle.files.proofs.Bits.{is-number, least, has-number, has-bit}
 use Rattle.rules.specs.Lists.{keep, rising}
+use Rattle.rules.specs.Boards.{everyone}
 use Rattle.tables.specs.declared.ProgramSet.{ProgramSet}
-use Rattle.tables.specs.ProgramSets.{hasProgram, IsLowest}
+use Rattle.tables.specs.ProgramSets.{hasProgram, lowestOf, IsLowest}
+use Rattle.tables.proofs.Laws.{first-at}
 
 -- a digit of a number's half
 half-bit : (m i : ℕ) → hasBit m (suc i) ≡ hasBit (m / 2) i
@@ -76,6 +79,12 @@ lowest-is s z w =
       λ q l. no-true (hasProgram s q) (λ e. let k = least 32 q (has-number 32 (s .bits) q e) in
           never (has-bit 32 (s .bits) q e) (trailing-none 32 (s .bits) (q - 1) (omega arith))),
     )
+
+-- it is the first that is found
+pub lowest-first : (s : ProgramSet) (p : ℕ) → IsLowest s p → p ≡ lowestOf s
+unfolding lowestOf everyone
+lowest-first s p (h, k, t, f) =
+    sym (ap (λ (o : Option ℕ). Option·getD o 0) (first-at (hasProgram s) 32 1 p h (omega arith) t (λ q l m. f q m)))
 
 -- ---- how many digits are set
 

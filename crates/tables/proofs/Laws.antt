@@ -1,16 +1,17 @@
 -- Laws of the arrays of a board. Assumes nothing.
-use mathlib.Core.Path.{_≡_, sym, ap, ap₂, _∙_}
+use mathlib.Core.Path.{_≡_, refl, sym, ap, ap₂, _∙_}
 use mathlib.Core.Logic.{_≢_}
 use mathlib.Core.Bool.{Bool, true, false, not, cond, _&&_, _||_}
 use mathlib.Core.List.{List, [], _∷_}
 use mathlib.Core.Option.{none, some}
 use Prim.Native.Nat.{ℕ, zero, suc, _+_, _-_, _≤_, _<_}
+use native.Mathlib.Nat.{zero-add, add-zero, add-suc, suc-add}
 use native.Mathlib.Numerals.{add-one}
 use native.Mathlib.Omega.{arith}
 use lib.Bits.{bitOr, or-add-and, and-le-l, and-comm}
 use lib.Dec.{eqb, ltb}
 use lib.ListN.{length, getD, set, length-set}
-use lib.Seq.{getD-set-same, getD-set-other}
+use lib.Seq.{getD-set-same, getD-set-other, ext-getD}
 use borrow.Author.Tests.{eq-eqb, ne-eqb, eqb-true, eqb-false, ltb-true, ltb-false}
 use Rattle.files.proofs.Tests.{by-test, never, no-true, and-false}
 use Rattle.files.specs.Bits.{hasBit, isNumber, share}
@@ -21,7 +22,7 @@ use Rattle.rules.specs.Lists.{rising, any, all, keep, first}
 use Rattle.rules.specs.Boards.{noProgram, at}
 use Rattle.tables.specs.declared.ProgramSet.{ProgramSet}
 use Rattle.tables.specs.ProgramSets.{noPrograms, hasProgram, unionOf, commonOf}
-use Rattle.tables.specs.Tables.{inPlace, SetsTo, SetsOf, RowsUpTo, joined, packed, stops, holdsBits, HolderAdded, Cleared, EmptyFrom}
+use Rattle.tables.specs.Tables.{inPlace, places, SetsTo, stopsIn, rowsOf, RowsUpTo, joined, packed, holdsBits, HolderAdded, Cleared, EmptyFrom}
 
 -- ---- the sets, one program after another
 
@@ -157,20 +158,46 @@ eqb-suc i j = by-test (eqb i j) (λ t. let z : i ≡ j = eqb-true i j t in eq-eq
     (λ t. let z : i ≢ j = eqb-false i j t in ne-eqb (suc i) (suc j) (λ d. z (omega arith)) ∙ sym t)
 
 -- whether one holds back another, by the sets
-pub stops-is : (b : Board) (sets : List ℕ) (i j : ℕ) → i < 32 → j < 32 → SetsOf b sets
-    → stops b (suc j) (suc i) ≡ (not (eqb i j) && holdsAt sets i [] j)
-stops-is b sets i j h k (n, f) =
-    rw (eqb-suc i j, at-place b i, at-place b j, f i h .2, f i h .3, f j k .0, f j k .1)
+pub stops-in-is : (sets : List ℕ) (i j : ℕ) → stopsIn sets (suc j) (suc i) ≡ (not (eqb i j) && holdsAt sets i [] j)
+stops-in-is sets i j = let a : suc i - 1 ≡ i = omega arith in let c : suc j - 1 ≡ j = omega arith in rw (eqb-suc i j, a, c)
 
-module _ (b : Board) (sets : List ℕ) (s : SetsOf b sets) (i : ℕ) (h : i < 32) where
-  pub rows-more : (before after : List ℕ) → RowsUpTo b i before → HolderAdded sets i before after → RowsUpTo b (i + 1) after
-  unfolding packed
-  rows-more before after f (n, g) j k = rw (add-one i) (g j k
-      ∙ ap₂ (λ (x : ProgramSet) (y : Bool). joined x (suc i) y) (f j k) (sym (stops-is b sets i j h k s)))
-
-pub rows-none : (b : Board) (rows : List ℕ) → Cleared rows → RowsUpTo b 0 rows
+pub rows-more : (sets : List ℕ) (i : ℕ) (before after : List ℕ) → RowsUpTo sets i before → HolderAdded sets i before after
+    → RowsUpTo sets (i + 1) after
 unfolding packed
-rows-none b rows c j k = ap {B = ProgramSet} (λ x. record { bits = x }) (c .1 j k)
+rows-more sets i before after f (n, g) j k = rw (add-one i) (g j k
+    ∙ ap₂ (λ (x : ProgramSet) (y : Bool). joined x (suc i) y) (f j k) (sym (stops-in-is sets i j)))
+
+pub rows-none : (sets rows : List ℕ) → Cleared rows → RowsUpTo sets 0 rows
+unfolding packed
+rows-none sets rows c j k = ap {B = ProgramSet} (λ x. record { bits = x }) (c .1 j k)
+
+-- ---- the tables as lists
+
+pub places-length : (f : ℕ → ℕ) (n k : ℕ) → length (places f n k) ≡ n
+unfolding places
+places-length f zero k = refl
+places-length f (suc n) k = ap suc (places-length f n (suc k))
+
+pub places-at : (f : ℕ → ℕ) (n k i : ℕ) → i < n → getD (places f n k) i 0 ≡ f (k + i)
+unfolding places
+places-at f zero k i h = absurd (omega arith)
+places-at f (suc n) k zero h = ap f (sym (add-zero k))
+places-at f (suc n) k (suc i) h = places-at f n (suc k) i (omega arith) ∙ ap f (suc-add k i ∙ sym (add-suc k i))
+
+-- the rows of all programs
+pub rows-all : (sets rows : List ℕ) → length rows ≡ 32 → RowsUpTo sets 32 rows → rows ≡ rowsOf sets
+unfolding rowsOf
+rows-all sets rows n f = ext-getD 0 rows _ (n ∙ sym (places-length _ 32 0))
+    (λ i h. ap (λ (s : ProgramSet). s .bits) (f i (omega arith))
+    ∙ ap (λ (x : ℕ). packed (stopsIn sets (suc x)) 32 .bits) (sym (zero-add i)) ∙ sym (places-at _ 32 0 i (omega arith)))
+
+pub rows-at : (sets : List ℕ) (i : ℕ) → i < 32 → getD (rowsOf sets) i 0 ≡ packed (stopsIn sets (suc i)) 32 .bits
+unfolding rowsOf
+rows-at sets i h = places-at _ 32 0 i h ∙ ap (λ (x : ℕ). packed (stopsIn sets (suc x)) 32 .bits) (zero-add i)
+
+pub rows-length : (sets : List ℕ) → length (rowsOf sets) ≡ 32
+unfolding rowsOf
+rows-length sets = places-length _ 32 0
 
 -- ---- the programs from a place on that have no set
 
@@ -201,15 +228,15 @@ empty-holds sets n i j f k m = let (v, q, w, r) = f j k m in let a = getD sets (
     share-none a b e = ap (λ (x : ℕ). not (eqb x 0)) (and-comm a b) ∙ zero-share b a e
 
 -- the rows of all programs are those of the programs that have sets
-pub rows-rest : (b : Board) (sets rows : List ℕ) → SetsOf b sets → length rows ≡ 32 → (d n : ℕ) → n + d ≡ 32 → EmptyFrom sets n
-    → RowsUpTo b n rows → RowsUpTo b 32 rows
-rows-rest b sets rows s l zero n e f r = let z : n ≡ 32 = omega arith in rw z at r
-rows-rest b sets rows s l (suc d) n e f r =
+pub rows-rest : (sets rows : List ℕ) → length rows ≡ 32 → (d n : ℕ) → n + d ≡ 32 → EmptyFrom sets n
+    → RowsUpTo sets n rows → RowsUpTo sets 32 rows
+rows-rest sets rows l zero n e f r = let z : n ≡ 32 = omega arith in rw z at r
+rows-rest sets rows l (suc d) n e f r =
     let (v, q, w, k) = f n (omega arith) (omega arith) in
     let a = getD sets (64 + n) 0 in let c = getD sets (96 + n) 0 in
     let z : bitOr a c ≡ 0 = omega (arith, or-add-and a c, w, k) in
-    rows-rest b sets rows s l d (n + 1) (omega arith) (λ i h m. f i (omega arith) m)
-    (rows-more b sets s n (omega arith) rows rows r (joined-none sets n rows l z))
+    rows-rest sets rows l d (n + 1) (omega arith) (λ i h m. f i (omega arith) m)
+    (rows-more sets n rows rows r (joined-none sets n rows l z))
 
 -- the first n places are cleared
 abbrev pub ClearedTo : ℕ → List ℕ → Type 0
@@ -284,7 +311,17 @@ common-has s t x = by-test (isNumber 32 x) (λ e. rw e (and-has (s .bits) (t .bi
 pub none-has : (x : ℕ) → hasProgram noPrograms x ≡ false
 none-has x = by-test (isNumber 32 x) (λ e. rw e (zero-has (x - 1))) (λ e. rw e)
 
--- who holds back one of the set is among its holders, and nobody else
+-- ---- the first number that passes a test
+
+pub first-at : (t : ℕ → Bool) (n k p : ℕ) → k ≤ p → p < k + n → t p ≡ true → ((q : ℕ) → k ≤ q → q < p → t q ≡ false)
+    → first t (rising n k) ≡ some p
+unfolding first rising
+first-at t zero k p l h e f = absurd (omega arith)
+first-at t (suc n) k p l h e f =
+    by-test (eqb k p)
+    (λ z. let w : k ≡ p = eqb-true k p z in rw (ap t w ∙ e) (ap some w))
+    (λ z. let w : k ≢ p = eqb-false k p z in
+    rw (f k (omega arith) (omega arith)) (first-at t n (suc k) p (omega arith) (omega arith) e (λ q a b. f q (omega arith) b)))
 
 -- ---- the numbers from p to 32
 

@@ -24,6 +24,10 @@ claimsAt sets f both p = member (record { bits = getD sets (p - 1) 0 }) f || (bo
 abbrev pub holdsAgainst : List ℕ → ℕ → ℕ → ℕ → Bool
 holdsAgainst sets v q x = holdsBits (getD sets (64 + (x - 1)) 0) (getD sets (96 + (x - 1)) 0) v q
 
+-- program x holds back program y
+abbrev pub holdsOne : List ℕ → ℕ → ℕ → Bool
+holdsOne sets y x = holdsAgainst sets (getD sets (y - 1) 0) (getD sets (32 + (y - 1)) 0) x
+
 -- the program at place i is given f: it joins W if it is in V, and R otherwise
 abbrev pub givenAt : List ℕ → ℕ → ℕ → List ℕ
 givenAt sets i f = cond (member (record { bits = getD sets i 0 }) f)

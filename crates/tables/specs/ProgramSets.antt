@@ -3,8 +3,11 @@
 use Prim.Native.Nat.{ℕ, _≤_, _<_}
 use mathlib.Core.Path.{_≡_}
 use mathlib.Core.Bool.{Bool, true, false}
+use mathlib.Core.Option.{Option·getD}
 use lib.Bits.{bitAnd, bitOr}
 use Rattle.files.specs.Bits.{hasNumber, withNumber, withoutNumber, share}
+use Rattle.rules.specs.Lists.{first}
+use Rattle.rules.specs.Boards.{everyone}
 use Rattle.tables.specs.declared.ProgramSet.{ProgramSet}
 
 abbrev pub noPrograms : ProgramSet
@@ -34,6 +37,10 @@ unionOf s t = record { bits = bitOr (s .bits) (t .bits) }
 abbrev pub commonOf : ProgramSet → ProgramSet → ProgramSet
 commonOf s t = record { bits = bitAnd (s .bits) (t .bits) }
 
--- p is the lowest program of s
+-- the lowest program of s, or 0
+unfoldable pub lowestOf : ProgramSet → ℕ
+lowestOf s = Option·getD (first (hasProgram s) everyone) 0
+
+-- p is the lowest program of s: it is in s, and none below it is
 abbrev pub IsLowest : ProgramSet → ℕ → Type 0
 IsLowest s p = (1 ≤ p) × (p ≤ 32) × (hasProgram s p ≡ true) × ((q : ℕ) → q < p → hasProgram s q ≡ false)

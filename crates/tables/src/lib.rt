@@ -8,7 +8,7 @@ ghost use mathlib.Core.Bool.{_||_};
 ghost use Prim.Native.Nat.{_+_, _<_, _≤_};
 ghost use lib.ListN.{length};
 ghost use Rattle.files.specs.Bits.{share};
-ghost use Rattle.tables.specs.Tables.{openedFrom, joined, SetsOf, RowsOf, RowsFor, HolderAdded, Cleared, EmptyFrom};
+ghost use Rattle.tables.specs.Tables.{setsOf, rowsOf, openedFrom, joined, HolderAdded, Cleared, EmptyFrom};
 
 pub mod claims;
 mod sets;
@@ -21,7 +21,7 @@ pub struct ProgramSet {
 // The sets of the board's programs.
 pub fn take_sets(b: Board, sets: &mut [u64; 128])
     requires { ⌜ length (now sets) ≡ 128 ⌝ }
-    ensures { λ _. ⌜ SetsOf b (now (sets .exit)) ⌝ }
+    ensures { λ _. ⌜ now (sets .exit) ≡ setsOf b ⌝ }
 {
     let mut i: usize = 0;
     while i < 32 {
@@ -65,7 +65,7 @@ fn holds(w: u64, r: u64, v: u64, q: u64) -> bool
     (w & v) | (w & q) | (r & v) != 0
 }
 
-// The least place from which on no program has any set.
+// A place from which on no program has any set.
 fn highest(sets: &[u64; 128]) -> usize
     ensures { λ r. ⌜ (r ≤ 32) × EmptyFrom (now (sets .entry)) r ⌝ }
 {
@@ -105,7 +105,7 @@ fn add_holder(sets: &[u64; 128], i: usize, top: usize, rows: &mut [u32; 32])
 // The rows of those that the programs hold back; nobody from place top on has any set.
 fn add_holders(sets: &[u64; 128], top: usize, rows: &mut [u32; 32])
     requires { ⌜ (top ≤ 32) × EmptyFrom (now sets) top × Cleared (now rows) ⌝ }
-    ensures { λ _. ⌜ RowsFor (now (sets .entry)) (now (rows .exit)) ⌝ }
+    ensures { λ _. ⌜ now (rows .exit) ≡ rowsOf (now (sets .entry)) ⌝ }
 {
     let mut i: usize = 0;
     while i < top {
@@ -129,7 +129,7 @@ fn clear(rows: &mut [u32; 32])
 // Who holds back whom, by the sets of the board's programs.
 pub fn fill_rows(sets: &[u64; 128], rows: &mut [u32; 32])
     requires { ⌜ length (now rows) ≡ 32 ⌝ }
-    ensures { λ _. ⌜ RowsFor (now (sets .entry)) (now (rows .exit)) ⌝ }
+    ensures { λ _. ⌜ now (rows .exit) ≡ rowsOf (now (sets .entry)) ⌝ }
 {
     clear(rows);
     let top = highest(sets);
@@ -139,7 +139,7 @@ pub fn fill_rows(sets: &[u64; 128], rows: &mut [u32; 32])
 // The sets of the board's programs, and who holds back whom.
 pub fn fill(b: Board, sets: &mut [u64; 128], rows: &mut [u32; 32])
     requires { ⌜ (length (now sets) ≡ 128) × (length (now rows) ≡ 32) ⌝ }
-    ensures { λ _. ⌜ SetsOf b (now (sets .exit)) × RowsOf b (now (rows .exit)) ⌝ }
+    ensures { λ _. ⌜ (now (sets .exit) ≡ setsOf b) × (now (rows .exit) ≡ rowsOf (setsOf b)) ⌝ }
 {
     take_sets(b, sets);
     fill_rows(sets, rows);

@@ -6,7 +6,7 @@ ghost use Prim.Native.Nat.{_≤_};
 ghost use lib.ListN.{length};
 ghost use Rattle.rules.specs.Lists.{keep};
 ghost use Rattle.rules.specs.Boards.{everyone};
-ghost use Rattle.tables.specs.ProgramSets.{hasProgram, withProgram, withoutProgram, programsMeet, unionOf, commonOf, IsLowest};
+ghost use Rattle.tables.specs.ProgramSets.{hasProgram, withProgram, withoutProgram, programsMeet, unionOf, commonOf, lowestOf, IsLowest};
 
 impl ProgramSet {
     // No program.
@@ -59,7 +59,7 @@ impl ProgramSet {
     // The lowest program of the set, which has some.
     pub fn lowest(self) -> u8
         requires { ⌜ self .bits ≢ 0 ⌝ }
-        ensures { λ r. ⌜ IsLowest self r ⌝ }
+        ensures { λ r. ⌜ (r ≡ lowestOf self) × IsLowest self r ⌝ }
     {
         u32::trailing_zeros(self.bits) as u8 + 1
     }

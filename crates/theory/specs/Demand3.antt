@@ -108,17 +108,15 @@ pub record GetsFile (xs ys : List Call) (p f : ℕ) : Type 0 where
   pub wait-over : isWaiting (at (worked (xs ++ (before ++ (call ∷ [])))) p .standing) ≡ false
 
 pub record Demand3 (cs : List Call) : Type 0 where
-  -- "each answer is the one that 01's rules give when worked through the list": the replies of direct calls, the first handed the empty
-  -- board
-  -- and each later one the board that the call before it gave back, are the worked ones, with their boards, lines and orders
+  -- "each answer is the one that 01's rules give when worked through the list": the replies of direct calls, the first handed the
+  -- empty board and each later one the board that the call before it gave back, are the worked ones, with their boards, lines and orders
   pub answers : directFrom emptyBoard cs ≡ repliesFrom emptyBoard cs
   -- the reply to each call of the list is the one that the sentences below speak of
   pub each : (xs ys : List Call) (c : Call) → cs ≡ xs ++ (c ∷ ys) → StandsAt (length xs) (replyAfter xs c) (directFrom emptyBoard cs)
   -- the sentence on the last answer's order
   pub order : LastOrder cs
-  -- "An accepted open in the list waits exactly when another program has its file in conflicting use or, with the file given, every order
-  -- of
-  -- the admitted programs has one held back by a later one."
+  -- "An accepted open in the list waits exactly when another program has its file in conflicting use or, with the file given,
+  -- every order of the admitted programs has one held back by a later one."
   pub waits : (xs ys : List Call) (p f : ℕ) → cs ≡ xs ++ (Open p f ∷ ys) → Accepted xs (Open p f)
       → Waits (replyAfter xs (Open p f) .answer) ↔ (ConflictingUse (worked xs) p f ⊎ EveryOrderHeld (withGiven (worked xs) p f))
   -- the sentence on the sum, after each call of the list

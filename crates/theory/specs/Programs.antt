@@ -1,5 +1,5 @@
--- The programs of a board: what keeps conflict away and a completion order there. Program p is `prog P p`, which is `at b p` where P is `b
--- .programs`.
+-- The programs of a board: what keeps conflict away and a completion order there.
+-- Program p is `prog P p`, which is `at b p` where P is `b .programs`.
 -- Assumes nothing.
 use Prim.Native.Nat.{ℕ, zero, suc, _≤_, _-_}
 use native.Mathlib.Omega.{arith}

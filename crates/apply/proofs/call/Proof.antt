@@ -2,15 +2,15 @@
 use mathlib.Core.Path.{_≡_, _∙_}
 use lib.ListN.{length, length-map}
 use Rattle.rules.specs.Boards.{isProgram}
-use Rattle.apply.proofs.Laws.{number-same, apply-far, program-none, good-of}
+use Rattle.apply.proofs.Laws.{comes, number-same, apply-far, program-none, good-of}
 use borrow.Author.Needs.{needs}
 use Rattle.apply.proofs.call.Statement.{statement}
 use Rattle.apply.proofs.call.Tie as tie
 
 returns : tie.Need-returns
 returns c = let a = c .before .before .before .args in
-    c .refused .ensures ∙ apply-far (a .b) (a .a) (program-none (a .a .program) (c .before .before .program-of .result)
-    (c .before .before .program-of .ensures .0) (c .before .if1 .taken))
+    comes (c .refused .ensures) (apply-far (a .b) (a .a) (program-none (a .a .program) (c .before .before .program-of .result)
+    (c .before .before .program-of .ensures .0) (c .before .if1 .taken)))
 
 call-by-requires : tie.Need-call-by-requires
 call-by-requires c κs = let s = c .before .before in let a = s .args in let k = c .before .program-of in

@@ -3,7 +3,7 @@ use mathlib.Core.Path.{_≡_, sym, _∙_}
 use Rattle.files.proofs.Bits.{is-number}
 use Rattle.rules.specs.Checks.{enterCheck}
 use Rattle.rules.specs.Calls.{Enter}
-use Rattle.apply.proofs.Laws.{apply-passed, apply-failed, enter-near}
+use Rattle.apply.proofs.Laws.{comes, apply-passed, apply-failed, enter-near}
 use borrow.Author.Needs.{needs}
 use Rattle.apply.proofs.call_enter.Statement.{statement}
 use Rattle.apply.proofs.call_enter.Tie as tie
@@ -19,12 +19,12 @@ do-enter-requires c κs = let k = c .before .before in let s = k .before .before
 
 returns : tie.Need-returns
 returns c = let k = c .before .before .before in let a = k .before .before .args in
-    c .do-enter .ensures ∙ apply-passed (a .t1) (Enter (a .p) (a .writable) (a .readable)) (sym (told k) ∙ c .before .enum-told .given .1)
+    comes (c .do-enter .ensures) (apply-passed (a .t1) (Enter (a .p) (a .writable) (a .readable)) (sym (told k) ∙ c .before .enum-told .given .1))
 
 returns-2 : tie.Need-returns-2
 returns-2 c = let k = c .before .before .before .before in let a = k .before .before .args in
-    c .refused .ensures ∙ apply-failed (a .t1) (Enter (a .p) (a .writable) (a .readable)) (c .before .before .check .given .0 .0)
-    (sym (told k) ∙ c .before .before .check .given .1)
+    comes (c .refused .ensures) (apply-failed (a .t1) (Enter (a .p) (a .writable) (a .readable)) (c .before .before .check .given .0 .0)
+    (sym (told k) ∙ c .before .before .check .given .1))
 
 pub call-enter-spec : {M : Type 1} → statement M
 call-enter-spec =

@@ -4,7 +4,7 @@ use Rattle.rules.specs.declared.Board.{Board}
 use Rattle.rules.specs.declared.Program.{Program}
 use Rattle.rules.specs.Boards.{at, setProgram, closing}
 use Rattle.rules.specs.Calls.{done, closeFile}
-use Rattle.apply.proofs.Laws.{close-settles}
+use Rattle.apply.proofs.Laws.{comes, close-settles}
 use borrow.Author.Needs.{needs}
 use Rattle.apply.proofs.do_close.Statement.{statement}
 use Rattle.apply.proofs.do_close.Tie as tie
@@ -19,7 +19,7 @@ done-requires c κs = let s = c .before .before in let a = s .args in close-sett
 
 returns : tie.Need-returns
 unfolding closeFile
-returns c = let a = c .before .before .before .args in c .done .ensures ∙ ap (λ (x : Board). done x (a .p) (a .f)) (changed (c .before))
+returns c = let a = c .before .before .before .args in comes (c .done .ensures) (ap (λ (x : Board). done x (a .p) (a .f)) (changed (c .before)))
 
 pub do-close-spec : {M : Type 1} → statement M
 do-close-spec = tie.close (tie.spec (λ c κs. search needs) (λ c κs. search needs) done-requires returns)

@@ -9,7 +9,7 @@ use Rattle.rules.specs.Boards.{setProgram}
 use Rattle.rules.specs.Settling.{line}
 use Rattle.rules.specs.Replies.{reply}
 use Rattle.rules.specs.Calls.{enter}
-use Rattle.apply.proofs.Laws.{entry-free}
+use Rattle.apply.proofs.Laws.{comes, entry-free}
 use borrow.Author.Needs.{needs}
 use Rattle.apply.proofs.do_enter.Statement.{statement}
 use Rattle.apply.proofs.do_enter.Tie as tie
@@ -18,8 +18,8 @@ returns : tie.Need-returns
 unfolding enter
 returns c = let a = c .before .before .before .before .args in
     rw (eq-eqb (a .b .favoured) 0 (c .before .before .before .if1 .taken))
-    (c .answered .ensures ∙ ap (λ (x : Board). reply x Answer.Admit (line Word.Admit (a .p) 0 ∷ [])) (c .before .put .ensures
-    ∙ ap (setProgram (a .b) (a .p)) (c .before .before .new-program .ensures)))
+    (comes (c .answered .ensures) (ap (λ (x : Board). reply x Answer.Admit (line Word.Admit (a .p) 0 ∷ [])) (c .before .put .ensures
+    ∙ ap (setProgram (a .b) (a .p)) (c .before .before .new-program .ensures))))
 
 append-requires : tie.Need-append-requires
 append-requires c κs = let s = c .before .before .before in let a = s .args in entry-free (a .b) (a .p) (a .writable)
@@ -29,8 +29,7 @@ returns-2 : tie.Need-returns-2
 unfolding enter
 returns-2 c = let a = c .before .before .before .before .before .before .args in
     rw (ne-eqb (a .b .favoured) 0 (c .before .before .before .before .before .if1 .left))
-    (c .answered2 .ensures
-    ∙ rw (c .before .put2 .ensures, c .before .before .append .ensures, c .before .before .before .before .new-program2 .ensures) refl)
+    (comes (c .answered2 .ensures) (rw (c .before .put2 .ensures, c .before .before .append .ensures, c .before .before .before .before .new-program2 .ensures) refl))
 
 pub do-enter-spec : {M : Type 1} → statement M
 do-enter-spec =

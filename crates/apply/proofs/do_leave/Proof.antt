@@ -2,7 +2,7 @@
 use mathlib.Core.Path.{ap, _∙_}
 use Rattle.rules.specs.declared.Board.{Board}
 use Rattle.rules.specs.Calls.{done, countLeave, leave}
-use Rattle.apply.proofs.Laws.{leave-settles, leaves-few}
+use Rattle.apply.proofs.Laws.{comes, leave-settles, leaves-few}
 use borrow.Author.Needs.{needs}
 use Rattle.apply.proofs.do_leave.Statement.{statement}
 use Rattle.apply.proofs.do_leave.Tie as tie
@@ -16,8 +16,8 @@ done-requires c κs = let s = c .before .before in let a = s .args in leave-sett
 
 returns : tie.Need-returns
 unfolding leave
-returns c = let a = c .before .before .before .args in c .done .ensures ∙ ap (λ (x : Board). done x (a .p) 0)
-    (c .before .counted .ensures ∙ ap countLeave (c .before .before .put .ensures))
+returns c = let a = c .before .before .before .args in comes (c .done .ensures) (ap (λ (x : Board). done x (a .p) 0)
+    (c .before .counted .ensures ∙ ap countLeave (c .before .before .put .ensures)))
 
 pub do-leave-spec : {M : Type 1} → statement M
 do-leave-spec = tie.close (tie.spec (λ c κs. search needs) counted-requires done-requires returns)

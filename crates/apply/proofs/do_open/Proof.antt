@@ -1,6 +1,7 @@
 -- `do_open` meets its contract. Assumes nothing.
 use mathlib.Core.Path.{_≡_, refl, sym, ap, _∙_}
 use mathlib.Core.List.{[], _∷_}
+use lib.ListN.{length}
 use Rattle.rules.specs.declared.Board.{Board}
 use Rattle.rules.specs.declared.Program.{Program}
 use Rattle.rules.specs.declared.Answer.{Answer}
@@ -15,7 +16,10 @@ use Rattle.theory.specs.Calls.{open-may}
 use Rattle.tables.specs.declared.ProgramSet.{ProgramSet}
 use Rattle.search.specs.Gives.{usesIn}
 use Rattle.search.specs.Rows.{asOrder}
-use Rattle.apply.proofs.Laws.{waiting-free, not-safe, is-safe}
+use Rattle.apply.proofs.Laws.{comes, waiting-free, not-safe, is-safe, order-whole}
+use Rattle.tables.proofs.Whole.{sets-in, sets-length}
+use Rattle.search.proofs.Used.{used-by}
+use Rattle.search.proofs.Ordered.{given-for}
 use borrow.Author.Needs.{needs}
 use Rattle.apply.proofs.do_open.Statement.{statement}
 use Rattle.apply.proofs.do_open.Tie as tie
@@ -26,7 +30,7 @@ start u = u .before .before .before .before .before .before .before
 -- whether the file is in conflicting use
 used : (u : tie.After-in-use) → u .in-use .result ≡ inUse (start u .args .b) (start u .args .p) (start u .args .f)
 used u = let s = start u in let a = s .args in let t = u .before .before .before .before .before in
-    u .in-use .ensures (a .b) (t .take-sets .ensures)
+    used-by _ _ _ _ _ (s .pre .0 .0) (s .pre .0 .1) (u .in-use .ensures) (a .b) (sets-in (a .b) _ (t .take-sets .ensures))
     (u .before .before .uses-in .ensures ∙ ap (λ (x : ProgramSet). usesIn x (t .take-sets .last .1 .0)) (u .before .before .before .before .admitted-set .ensures))
     (loose-apart (a .b) (s .pre .1 .loose)) (open-may (a .b) (a .p) (a .f) (s .pre .2) .asked .shut)
 
@@ -36,7 +40,9 @@ tested o = o .before .before .before
 -- the order with the file given
 sought : (o : tie.After-order-given) → let a = start (tested o) .args in o .order-given .result ≡ asOrder (carried (withGiven (a .b) (a .p) (a .f)))
 sought o = let u = tested o in let s = start u in
-    o .order-given .ensures (s .args .b) (s .pre .1 .loose .base .size) (u .before .before .before .before .before .take-sets .ensures)
+    o .order-given .ensures .0
+    ∙ given-for (u .before .before .before .before .before .take-sets .last .1 .0) _ (s .args .p) (s .args .f) (record { least = s .pre .0 .0; most = s .pre .0 .1 }) (s .args .b)
+    (s .pre .1 .loose .base .size) (sets-in (s .args .b) _ (u .before .before .before .before .before .take-sets .ensures))
     (u .before .before .before .before .admitted-set .ensures)
 
 put-waiting-requires : tie.Need-put-waiting-requires
@@ -47,7 +53,7 @@ returns : tie.Need-returns
 unfolding openFile
 returns c = let u = c .before .before .before in let a = start u .args in
     rw (sym (used u) ∙ c .before .before .if1 .taken)
-    (c .answered .ensures ∙ ap (λ (x : Board). reply x Answer.Wait (line Word.Wait (a .p) (a .f) ∷ [])) (c .before .put-waiting .ensures))
+    (comes (c .answered .ensures) (ap (λ (x : Board). reply x Answer.Wait (line Word.Wait (a .p) (a .f) ∷ [])) (c .before .put-waiting .ensures)))
 
 put-waiting-requires-2 : tie.Need-put-waiting-requires-2
 put-waiting-requires-2 c κs = let s = start (tested (c .before .before)) in let a = s .args in
@@ -58,28 +64,37 @@ unfolding openFile
 returns-2 c = let o = c .before .before .before .before in let u = tested o in let a = start u .args in
     rw (
       sym (used u) ∙ o .before .before .if1 .left,
-      not-safe (a .b) (withGiven (a .b) (a .p) (a .f)) (a .p) (a .f) (o .order-given .result) refl (sought o) (c .before .before .enum-told2 .given .1),
+      not-safe (a .b) (withGiven (a .b) (a .p) (a .f)) (a .p) (a .f) (o .order-given .result) refl (sought o) (c .before .before .enum-told .given .1),
     )
-    (c .answered2 .ensures ∙ ap (λ (x : Board). reply x Answer.Unsafe (line Word.Unsafe (a .p) (a .f) ∷ [])) (c .before .put-waiting2 .ensures))
+    (comes (c .answered2 .ensures) (ap (λ (x : Board). reply x Answer.Unsafe (line Word.Unsafe (a .p) (a .f) ∷ [])) (c .before .put-waiting2 .ensures)))
 
 put-requires : tie.Need-put-requires
-put-requires c κs = start (tested (c .before .before .before)) .pre .0
+put-requires c κs = start (tested (c .before .before .before .before .before)) .pre .0
 
 -- the board with the file given
-given : (k : tie.After-put) → let a = start (tested (k .before .before .before .before)) .args in k .put .result ≡ withGiven (a .b) (a .p) (a .f)
+given : (k : tie.After-put) → let a = start (tested (k .before .before .before .before .before .before)) .args in k .put .result ≡ withGiven (a .b) (a .p) (a .f)
 unfolding withGiven
-given k = let s = start (tested (k .before .before .before .before)) in let a = s .args in k .put .ensures
+given k = let s = start (tested (k .before .before .before .before .before .before)) in let a = s .args in k .put .ensures
     ∙ ap (setProgram (a .b) (a .p)) (k .before .opening .ensures ∙ ap (λ (x : Program). opening x (a .f)) (s .pre .3))
 
 returns-3 : tie.Need-returns-3
 unfolding openFile
-returns-3 c = let o = c .before .before .before .before .before in let u = tested o in let a = start u .args in
+returns-3 c = let o = c .before .before .before .before .before .before .before in let u = tested o in let a = start u .args in
     rw (
       sym (used u) ∙ o .before .before .if1 .left,
-      is-safe (a .b) (withGiven (a .b) (a .p) (a .f)) (a .p) (a .f) (o .order-given .result) (c .before .before .before .enum-told .given .0 .0)
-          refl (sought o) (c .before .before .before .enum-told .given .1),
+      is-safe (a .b) (withGiven (a .b) (a .p) (a .f)) (a .p) (a .f) (o .order-given .result) (c .before .before .before .before .before .kind .given .0 .0)
+          refl (sought o) (c .before .before .before .before .before .kind .given .1),
     )
-    (c .answered3 .ensures ∙ ap (λ (x : Board). reply x Answer.Given (line Word.Given (a .p) (a .f) ∷ [])) (given (c .before)))
+    (comes (c .answered3 .ensures) (ap (λ (x : Board). reply x Answer.Given (line Word.Given (a .p) (a .f) ∷ [])) (given (c .before))))
+
+order-given-requires : tie.Need-order-given-requires
+order-given-requires c κs = let s = c .before .before .before .before .before .before .before .before .before in
+    (s .pre .0, ap length (c .before .before .before .before .before .before .before .take-sets .ensures) ∙ sets-length (s .args .b))
+
+answered-requires-3 : tie.Need-answered-requires-3
+answered-requires-3 c κs = let k = c .before .before .before .before in let o = c .before .before .before .before .before .before in
+    order-whole (o .order-given .result) (k .kind .given .0 .0) (k .kind .given .1) ∙ sought o
+    ∙ sym (ap (λ (x : Board). asOrder (carried x)) (given c))
 
 pub do-open-spec : {M : Type 1} → statement M
 do-open-spec =
@@ -92,7 +107,7 @@ do-open-spec =
     put-waiting-requires
     (λ c κs. search needs)
     returns
-    (λ c κs. search needs)
+    order-given-requires
     (λ c. search needs)
     (λ c. search needs)
     put-waiting-requires-2
@@ -100,5 +115,5 @@ do-open-spec =
     returns-2
     (λ c κs. search needs)
     put-requires
-    (λ c κs. search needs)
+    answered-requires-3
     returns-3)

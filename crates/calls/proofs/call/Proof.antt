@@ -7,7 +7,7 @@ use Rattle.rules.specs.Orders.{carried}
 use Rattle.rules.specs.Replies.{refused}
 use Rattle.rules.specs.Calls.{direct, callOf}
 use Rattle.search.specs.Rows.{asOrder}
-use Rattle.apply.proofs.Laws.{apply-same}
+use Rattle.apply.proofs.Laws.{apply-same, found-is}
 use borrow.Author.Needs.{needs}
 use Rattle.calls.proofs.call.Statement.{statement}
 use Rattle.calls.proofs.call.Tie as tie
@@ -21,14 +21,16 @@ call-requires : tie.Need-call-requires
 call-requires c κs = let j = c .before .before .judge in sym (j .ensures .0) ∙ not-false (j .result .sound) (c .if1 .left)
 
 complete-requires : tie.Need-complete-requires
-complete-requires c κs h = let k = c .before .call .ensures in let i = c .before .before in let j = i .before .before in let a = j .before .args in
-    let n = sym (ap (λ (x : Reply). refused (x .answer)) k) ∙ h in
-    j .judge .ensures .1 ∙ sym (ap (λ (x : Board). asOrder (carried x)) (ap (λ (x : Reply). x .board) k ∙ apply-same (a .b) (callOf (a .a)) n))
+complete-requires c κs = let k = c .before .call .ensures in let i = c .before .before in let j = i .before .before in let a = j .before .args in (
+  λ h. let n = sym (ap (λ (x : Reply). refused (x .answer)) (k .0)) ∙ h in
+      j .judge .ensures .1 ∙ sym (ap (λ (x : Board). asOrder (carried x)) (ap (λ (x : Reply). x .board) (k .0) ∙ apply-same (a .b) (callOf (a .a)) n)),
+  found-is (c .before .call .result) k,
+)
 
 returns-2 : tie.Need-returns-2
 unfolding direct
 returns-2 c = let k = c .before .before in let i = k .before in let j = i .before .before .judge in
-    rw (sym (j .ensures .0) ∙ not-false (j .result .sound) (i .if1 .left)) (c .complete .ensures ∙ k .call .ensures)
+    rw (sym (j .ensures .0) ∙ not-false (j .result .sound) (i .if1 .left)) (c .complete .ensures ∙ k .call .ensures .0)
 
 pub call-spec : {M : Type 1} → statement M
 call-spec =

@@ -1,11 +1,13 @@
 -- `carried_order` meets its contract. Assumes nothing.
+use mathlib.Core.Path.{_∙_}
+use Rattle.search.proofs.Ordered.{order-of}
 use borrow.Author.Needs.{needs}
 use Rattle.search.proofs.carried_order.Statement.{statement}
 use Rattle.search.proofs.carried_order.Tie as tie
 
 returns : tie.Need-returns
 returns c = let f = c .before .before .before in
-    c .order-in .ensures (f .before .before .before .args .b) (f .fill .ensures .1) (c .before .before .admitted-set .ensures)
+    c .order-in .ensures ∙ order-of (f .before .before .before .args .b) _ _ (f .fill .ensures .1) (c .before .before .admitted-set .ensures)
 
 pub carried-order-spec : {M : Type 1} → statement M
 carried-order-spec =

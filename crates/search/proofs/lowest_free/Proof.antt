@@ -18,17 +18,17 @@ lowest-requires : tie.Need-lowest-requires Inv-loop μ-loop
 lowest-requires c κs = c .if1 .taken
 
 is-free-requires : tie.Need-is-free-requires Inv-loop μ-loop
-is-free-requires c κs = (c .lowest .ensures .0, c .lowest .ensures .1)
+is-free-requires c κs = (c .lowest .ensures .1 .0, c .lowest .ensures .1 .1)
 
 returns : tie.Need-returns Inv-loop μ-loop
 returns c = let l = c .before .before .lowest in let s = c .before .before .before .before .before in let a = s .before .args in (
-  lowest-at (a .rows .now) (a .left) (s .loop .rest) (l .result) (s .loop .inv) (l .ensures) (sym (c .before .is-free .ensures) ∙ c .if2 .taken),
-  l .ensures .1,
+  lowest-at (a .rows .now) (a .left) (s .loop .rest) (l .result) (s .loop .inv) (l .ensures .1) (sym (c .before .is-free .ensures) ∙ c .if2 .taken),
+  l .ensures .1 .1,
 )
 
 loop-less : tie.Need-loop-less Inv-loop μ-loop
 loop-less c = let l = c .before .before .before .lowest in let s = c .before .before .before .before in
-    rw (c .without .ensures) (without-lt (s .before .before .loop .rest) (l .result) (s .if1 .taken) (l .ensures .2))
+    rw (c .without .ensures) (without-lt (s .before .before .loop .rest) (l .result) (s .if1 .taken) (l .ensures .1 .2))
 
 loop-again : tie.Need-loop-again Inv-loop μ-loop
 loop-again c = let l = c .before .before .before .lowest in let s = c .before .before .before .before .before .before in let a = s .before .args in

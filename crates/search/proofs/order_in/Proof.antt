@@ -4,19 +4,19 @@ use mathlib.Core.Bool.{Bool}
 use borrow.Author.Tests.{not-true, not-false}
 use borrow.Author.Needs.{needs}
 use Rattle.search.specs.Rows.{outcome}
-use Rattle.search.proofs.Laws.{order-given}
+use Rattle.search.proofs.Laws.{order-in-is}
 use Rattle.search.proofs.order_in.Statement.{statement}
 use Rattle.search.proofs.order_in.Tie as tie
 
 returns : tie.Need-returns
-returns c = λ b f e. let a = c .before .before .before .before .args in let n = c .before .before .before .count in let s = c .before .search-rest in
+returns c = let a = c .before .before .before .before .args in let n = c .before .before .before .count in let s = c .before .search-rest in
     ap (λ (x : Bool). outcome x (n .result) (s .last .1 .1 .1 .0)) (sym (not-true (s .result) (c .if1 .taken)))
-    ∙ order-given b (a .rows .now) (s .last .1 .1 .1 .0) (a .left) (n .result) (s .result) f e (n .ensures .0) (s .ensures)
+    ∙ order-in-is (a .rows .now) (s .last .1 .1 .1 .0) (a .left) (n .result) (s .result) (n .ensures .0) (s .ensures)
 
 returns-2 : tie.Need-returns-2
-returns-2 c = λ b f e. let a = c .before .before .before .before .args in let n = c .before .before .before .count in let s = c .before .search-rest in
+returns-2 c = let a = c .before .before .before .before .args in let n = c .before .before .before .count in let s = c .before .search-rest in
     ap (λ (x : Bool). outcome x (n .result) (s .last .1 .1 .1 .0)) (sym (not-false (s .result) (c .if1 .left)))
-    ∙ order-given b (a .rows .now) (s .last .1 .1 .1 .0) (a .left) (n .result) (s .result) f e (n .ensures .0) (s .ensures)
+    ∙ order-in-is (a .rows .now) (s .last .1 .1 .1 .0) (a .left) (n .result) (s .result) (n .ensures .0) (s .ensures)
 
 pub order-in-spec : {M : Type 1} → statement M
 order-in-spec = tie.close (tie.spec (λ c κs. search needs) (λ c. search needs) (λ c κs. search needs) returns returns-2)

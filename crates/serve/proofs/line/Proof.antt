@@ -2,6 +2,7 @@
 use mathlib.Core.Path.{_≡_, ap, sym, _∙_}
 use lib.ListN.{length, length-map}
 use Rattle.rules.specs.declared.Reply.{Reply}
+use Rattle.apply.proofs.Laws.{comes}
 use Rattle.serve.specs.LineCall.{replyTo, posted}
 use Rattle.serve.proofs.Laws
 use borrow.Author.Needs.{needs}
@@ -20,7 +21,7 @@ returns c = let f = c .before .before in let s = f .before .before .before in le
 write-lines-requires : tie.Need-write-lines-requires
 write-lines-requires c κs = let r = c .before .before in let k = r .before in let f = k .before in let s = f .before .before .before in
     let e : c .before .reply-to .result .written .count ≡ replyTo (s .args .b) (r .read .result) .count =
-    ap (λ (x : Reply). x .count) (c .before .reply-to .ensures) in (
+    ap (λ (x : Reply). x .count) (c .before .reply-to .ensures .0) in (
       Laws.room _ _ (sym (f .is-full .ensures) ∙ k .if1 .left) .1,
       rw e (Laws.reply-fits (s .args .b) (r .read .result) (programs s) (s .pre)),
     )
@@ -30,11 +31,11 @@ unfolding posted
 returns-2 c = let w = c .before .before in let p = w .before .before in let d = p .before in let k = d .before in let f = k .before in
     let s = f .before .before .before in let a = s .args in
     let e = Laws.call-posted (a .b) (a .line .now) (a .journal .now) (a .place) (s .pre) (sym (f .is-full .ensures) ∙ k .if1 .left) in
-    let r = p .reply-to .ensures ∙ ap (replyTo (a .b)) (d .read .ensures) in (
+    let r = comes (p .reply-to .ensures) (ap (replyTo (a .b)) (d .read .ensures)) in (
       rw e r,
       (
-        rw (e, ← r, ← d .read .ensures) (w .write-lines .ensures .0),
-        rw (e, ← r, ← d .read .ensures) (w .write-lines .ensures .1),
+        rw (e, ← r .0, ← d .read .ensures) (w .write-lines .ensures .0),
+        rw (e, ← r .0, ← d .read .ensures) (w .write-lines .ensures .1),
       ),
     )
 

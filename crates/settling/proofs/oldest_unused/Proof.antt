@@ -11,6 +11,7 @@ use Rattle.rules.specs.Settling.{candidate}
 use Rattle.lines.proofs.Laws.{names-stop, names-end}
 use Rattle.settling.specs.Writing.{Ready, unused}
 use Rattle.settling.proofs.Laws.{waiter-range, waiter-used, ready-all, ready-left, first-names-on, first-none-left}
+use Rattle.tables.proofs.Whole.{sets-in}
 use borrow.Author.Needs.{needs}
 use Rattle.settling.proofs.oldest_unused.Statement.{statement}
 use Rattle.settling.proofs.oldest_unused.Tie as tie
@@ -63,7 +64,7 @@ returns-3 c =
     let w = c .before in let a = w .before .before in let i = a .before .before in let l = i .before .before .loop in
     let u = i .before .before .before in let e = u .before .before in let g = e .before .before .before .before .args in let m = l .inv .3 in
     let t = waiter-used (g .t1) (g .t1 .waiting) (l .k) (omega arith) (i .if2 .left) (l .inv .1) (e .take-sets .last .1 .0)
-    (u .uses-of .result) (a .awaited .result) (w .in-use .result) (e .take-sets .ensures) (u .uses-of .ensures) (a .awaited .ensures)
+    (u .uses-of .result) (a .awaited .result) (w .in-use .result) (sets-in (g .t1) _ (e .take-sets .ensures)) (u .uses-of .ensures) (a .awaited .ensures)
     (w .in-use .ensures) in
     sym (rw (sym t ∙ not-true (w .in-use .result) (c .if3 .taken)) at (ap (λ (x : Option ℕ). Option·getD x 0) (l .inv .2
     ∙ first-names-on (unused (g .t1)) (g .t1 .waiting) (l .k) (omega arith) (i .if2 .left))))
@@ -73,7 +74,7 @@ loop-again c =
     let w = c .before in let a = w .before .before in let i = a .before .before in let l = i .before .before .loop in
     let u = i .before .before .before in let e = u .before .before in let g = e .before .before .before .before .args in let m = l .inv .3 in
     let t = waiter-used (g .t1) (g .t1 .waiting) (l .k) (omega arith) (i .if2 .left) (l .inv .1) (e .take-sets .last .1 .0)
-    (u .uses-of .result) (a .awaited .result) (w .in-use .result) (e .take-sets .ensures) (u .uses-of .ensures) (a .awaited .ensures)
+    (u .uses-of .result) (a .awaited .result) (w .in-use .result) (sets-in (g .t1) _ (e .take-sets .ensures)) (u .uses-of .ensures) (a .awaited .ensures)
     (w .in-use .ensures) in (
       search needs,
       ready-left (g .t1) (g .t1 .waiting) (l .k) (omega arith) (i .if2 .left) (l .inv .1),

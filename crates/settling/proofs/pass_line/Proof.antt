@@ -7,6 +7,7 @@ use Rattle.search.specs.Gives.{usesIn}
 use Rattle.lines.proofs.Laws.{names-end}
 use Rattle.settling.proofs.Laws.{ready-all, pass-start, pass-over}
 use Rattle.settling.proofs.Giving.{Found, stateOf, asks-all, ready-programs, next-found, give-range, give-next}
+use Rattle.tables.proofs.Whole.{sets-in}
 use borrow.Author.Needs.{needs}
 use Rattle.settling.proofs.pass_line.Statement.{statement}
 use Rattle.settling.proofs.pass_line.Tie as tie
@@ -26,7 +27,7 @@ loop-holds c = let a = c .before .before .before .before .before .before .before
   search needs,
   next-found _ _ _ _ _ _ 0 _ (record {
     passed = pass-start w (a .pre .0) (a .pre .1);
-    sets-are = c .before .before .before .before .before .before .before .before .take-sets .ensures;
+    sets-are = sets-in (w .board) _ (c .before .before .before .before .before .before .before .before .take-sets .ensures);
     uses-are = c .before .before .before .before .uses-of .ensures;
     asks = asks-all (w .board) (c .before .before .before .before .before .before .fill-asked .last .1 .0) (a .pre .0) (c .before .before .before .before .before .before .fill-asked .ensures);
   }) (c .next-given .ensures .2),

@@ -5,7 +5,9 @@ use Rattle.search.specs.declared.Order.{Order}
 use Rattle.search.specs.Gives.{usesIn}
 use Rattle.search.specs.Rows.{isFound, asOrder}
 use Rattle.rules.specs.Orders.{carried}
+use Rattle.tables.proofs.Whole.{sets-in}
 use Rattle.search.proofs.Laws.{has-found}
+use Rattle.search.proofs.Ordered.{order-of}
 use borrow.Author.Needs.{needs}
 use Rattle.sound.proofs.judge.Statement.{statement}
 use Rattle.sound.proofs.judge.Tie as tie
@@ -13,12 +15,12 @@ use Rattle.sound.proofs.judge.Tie as tie
 order : (c : tie.After-order-in) → c .order-in .result
     ≡ asOrder (carried (c .before .before .before .before .before .before .before .before .args .b))
 order c = let a = c .before .before .before .before in let f = a .before in
-    c .order-in .ensures (f .before .before .before .args .b) (f .fill .ensures .1) (a .admitted-set .ensures)
+    c .order-in .ensures ∙ order-of (f .before .before .before .args .b) _ _ (f .fill .ensures .1) (a .admitted-set .ensures)
 
 is-sound-by-requires : tie.Need-is-sound-by-requires
 is-sound-by-requires c κs = let h = c .before in let v = h .before in let i = v .before in let o = i .before in let u = o .before .before in
     let a = u .before .before in let f = a .before in let b = f .before .before .before .args .b in (
-      f .fill .ensures .0,
+      sets-in b _ (f .fill .ensures .0),
       u .uses-in .ensures ∙ ap (λ (x : ProgramSet). usesIn x (f .fill .last .1 .0)) (a .admitted-set .ensures),
       i .is-found .ensures ∙ ap (λ (z : Order). isFound (z .kind)) (order o) ∙ has-found (carried b),
       v .standing-set .ensures,

@@ -1,11 +1,13 @@
 -- `fill` meets its contract. Assumes nothing.
+use mathlib.Core.Path.{ap, _∙_}
+use Rattle.tables.specs.Tables.{rowsOf}
 use borrow.Author.Needs.{needs}
 use Rattle.tables.proofs.fill.Statement.{statement}
 use Rattle.tables.proofs.fill.Tie as tie
 
 returns : tie.Need-returns
 returns c = let t = c .before .before .before in
-    (t .take-sets .ensures, c .fill-rows .ensures (t .before .before .args .b) (t .take-sets .ensures))
+    (t .take-sets .ensures, c .fill-rows .ensures ∙ ap rowsOf (t .take-sets .ensures))
 
 pub fill-spec : {M : Type 1} → statement M
 fill-spec = tie.close (tie.spec (λ c κs. search needs) (λ c κs. search needs) returns)

@@ -6,6 +6,7 @@ use lib.ListN.{length}
 use borrow.Author.Needs.{needs}
 use Rattle.tables.specs.Tables.{SetsTo, inPlace}
 use Rattle.tables.proofs.Laws.{sets-more, sets-length}
+use Rattle.tables.proofs.Whole.{sets-all}
 use Rattle.tables.proofs.take_sets.Statement.{statement}
 use Rattle.tables.proofs.take_sets.Tie as tie
 
@@ -26,7 +27,8 @@ loop-again c = let l = c .before .before .loop in let b = c .before .before .bef
 )
 
 returns : tie.Need-returns Inv-loop μ-loop
-returns c = let l = c .before .loop in (l .inv .1, λ k m. l .inv .2 k (omega arith))
+returns c = let l = c .before .loop in
+    sets-all (c .before .before .args .t1) (l .sets) (l .inv .1, λ k m. l .inv .2 k (omega arith))
 
 pub take-sets-spec : {M : Type 1} → statement M
 take-sets-spec =

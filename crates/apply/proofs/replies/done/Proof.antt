@@ -1,6 +1,9 @@
 -- `done` meets its contract. Assumes nothing.
+use mathlib.Core.Path.{refl}
 use Rattle.rules.specs.declared.Word.{Word}
 use Rattle.rules.specs.Settling.{line}
+use Rattle.rules.specs.Replies.{reply}
+use Rattle.rules.specs.Calls.{done}
 use Rattle.apply.proofs.Laws.{done-ready, done-is}
 use borrow.Author.Needs.{needs}
 use Rattle.apply.proofs.replies.done.Statement.{statement}
@@ -11,9 +14,12 @@ settled-requires c κs = let s = c .before in let a = s .args in done-ready (c .
     (line Word.Done (a .p) (a .f)) (c .one-line .ensures) (s .pre .0) (s .pre .1)
 
 returns : tie.Need-returns
-returns c = let s = c .before .before in let a = s .args in
-    done-is (c .before .one-line .result) (c .settled .result) (a .b) (a .p) (a .f)
-    (c .before .one-line .ensures) (c .settled .ensures) (s .pre .1)
+unfolding done reply
+returns c = let s = c .before .before in let a = s .args in (
+  done-is (c .before .one-line .result) (c .settled .result) (a .b) (a .p) (a .f)
+      (c .before .one-line .ensures) (c .settled .ensures) (s .pre .1),
+  refl,
+)
 
 pub done-spec : {M : Type 1} → statement M
 done-spec =

@@ -6,31 +6,28 @@ use lib.ListN.{getD}
 use borrow.Author.Tests.{not-true, not-false}
 use Rattle.files.specs.Sets.{member}
 use Rattle.files.proofs.Tests.{or-left}
-use Rattle.search.proofs.Used.{used-by}
 use borrow.Author.Needs.{needs}
 use Rattle.search.proofs.gives.in_use.Statement.{statement}
 use Rattle.search.proofs.gives.in_use.Tie as tie
 
 returns : tie.Need-returns
-returns c = λ b s e n o. let g = c .before .before .before .args in
+returns c = let g = c .before .before .before .args in
     let w : member (g .u .written) (g .f) ≡ true = sym (c .before .has .ensures) ∙ c .if1 .taken in
-    sym (or-left (member (g .u .written) (g .f)) _ w) ∙ used-by b (g .sets .now) (g .u) (g .p) (g .f) (search needs) (search needs) s e n o
+    sym (or-left (member (g .u .written) (g .f)) _ w)
 
 returns-2 : tie.Need-returns-2
-returns-2 c = λ b s e n o. let i = c .before .before .before in let g = i .before .before .before .args in
+returns-2 c = let i = c .before .before .before in let g = i .before .before .before .args in
     let w : member (g .u .written) (g .f) ≡ false = sym (i .before .has .ensures) ∙ i .if1 .left in
     let v : member (record { bits = getD (g .sets .now) (g .p - 1) 0 }) (g .f) ≡ false = sym (c .before .has2 .ensures)
     ∙ not-true (c .before .has2 .result) (c .if2 .taken) in
     sym (ap₂ (λ (x y : Bool). x || (y && member (g .u .read) (g .f))) w v)
-    ∙ used-by b (g .sets .now) (g .u) (g .p) (g .f) (search needs) (search needs) s e n o
 
 returns-3 : tie.Need-returns-3
-returns-3 c = λ b s e n o. let j = c .before .before in let i = j .before .before .before in let g = i .before .before .before .args in
+returns-3 c = let j = c .before .before in let i = j .before .before .before in let g = i .before .before .before .args in
     let w : member (g .u .written) (g .f) ≡ false = sym (i .before .has .ensures) ∙ i .if1 .left in
     let v : member (record { bits = getD (g .sets .now) (g .p - 1) 0 }) (g .f) ≡ true = sym (j .before .has2 .ensures)
     ∙ not-false (j .before .has2 .result) (j .if2 .left) in
     c .has3 .ensures ∙ sym (ap₂ (λ (x y : Bool). x || (y && member (g .u .read) (g .f))) w v)
-    ∙ used-by b (g .sets .now) (g .u) (g .p) (g .f) (search needs) (search needs) s e n o
 
 pub in-use-spec : {M : Type 1} → statement M
 in-use-spec =

@@ -11,7 +11,8 @@ use Rattle.tables.specs.declared.ProgramSet.{ProgramSet}
 use Rattle.tables.specs.ProgramSets.{noPrograms, withoutProgram, unionOf, commonOf}
 use Rattle.tables.specs.Tables.{packed}
 use Rattle.tables.specs.Claims.{holdsAgainst}
-use Rattle.search.proofs.Closing.{Closing, closing-start, closing-more, closing-unsafe, closing-safe}
+use Rattle.search.proofs.Closing.{Closing, closing-start, closing-more}
+use Rattle.search.proofs.Backers.{unsafe-in, safe-in}
 use borrow.Author.Needs.{needs}
 use Rattle.search.proofs.gives.is_safe.Statement.{statement}
 use Rattle.search.proofs.gives.is_safe.Tie as tie
@@ -30,11 +31,10 @@ loop-holds c = (
 )
 
 returns : tie.Need-returns Inv-loop μ-loop
-returns c = λ b s e a o.
+returns c =
     let l = c .before .before .before .before .before .before .before .loop in let g = c .before .before .before .before .before .before .before .before .before .before .before .before .before .before .args in
-    let h : 1 ≤ g .p = search needs in let k : g .p ≤ 32 = search needs in
-    sym (closing-unsafe b (g .sets .now) (g .p) (g .f) s h k a o (l .seen) (l .next) (c .before .before .before .before .before .before .before .before .before .before .without .result) (c .before .before .before .before .before .before .before .before .before .before .before .has .result)
-    (c .before .before .before .before .before .before .before .before .before .before .without .ensures ∙ ap (λ (x : ProgramSet). withoutProgram x (g .p)) e) (c .before .before .before .before .before .before .before .before .before .before .before .has .ensures) (l .inv .0)
+    sym (unsafe-in (g .sets .now) (g .admitted) (g .p) (g .f) (l .seen) (l .next) (c .before .before .before .before .before .before .before .before .before .before .without .result) (c .before .before .before .before .before .before .before .before .before .before .before .has .result)
+    (c .before .before .before .before .before .before .before .before .before .before .without .ensures) (c .before .before .before .before .before .before .before .before .before .before .before .has .ensures) (l .inv .0)
     (sym (ap₂ (λ (x y : ℕ). member (record { bits = x }) (g .f) || (c .before .before .before .before .before .before .before .before .before .before .before .has .result && member (record { bits = y }) (g .f)))
     (c .before .before .before .files-of .ensures) (c .before .before .files-of2 .ensures)) ∙ sym (c .before .is-claimed .ensures) ∙ c .if2 .taken))
 
@@ -58,11 +58,10 @@ loop-again c =
     )
 
 returns-2 : tie.Need-returns-2 Inv-loop μ-loop
-returns-2 c = λ b s e a o.
+returns-2 c =
     let l = c .before .before .before .loop in let g = c .before .before .before .before .before .before .before .before .before .before .args in
-    let h : 1 ≤ g .p = search needs in let k : g .p ≤ 32 = search needs in
-    sym (closing-safe b (g .sets .now) (g .p) (g .f) s h k a o (l .seen) (l .next) (c .before .before .before .before .before .before .without .result) (c .before .before .before .before .before .before .before .has .result)
-    (c .before .before .before .before .before .before .without .ensures ∙ ap (λ (x : ProgramSet). withoutProgram x (g .p)) e) (c .before .before .before .before .before .before .before .has .ensures) (l .inv .0) (c .if1 .left))
+    sym (safe-in (g .sets .now) (g .admitted) (g .p) (g .f) (l .seen) (l .next) (c .before .before .before .before .before .before .without .result) (c .before .before .before .before .before .before .before .has .result)
+    (c .before .before .before .before .before .before .without .ensures) (c .before .before .before .before .before .before .before .has .ensures) (l .inv .0) (c .if1 .left))
 
 pub is-safe-spec : {M : Type 1} → statement M
 is-safe-spec =
