@@ -2,13 +2,14 @@
 use Prim.Native.Nat.{ℕ, zero, suc, _+_, _-_, _*_, _≤_, _<_}
 use mathlib.Core.Path.{_≡_, refl, ap, sym, _∙_}
 use mathlib.Core.Logic.{_≢_}
-use mathlib.Core.Bool.{false}
+use mathlib.Core.Bool.{true, false}
 use mathlib.Core.List.{List, [], _∷_, _++_, append-assoc, append-nil}
 use lib.Dec.{eqb}
-use lib.ListN.{length, take, drop, set, getD, replicate, length-append, length-take, length-drop, drop-of-length-le}
-use lib.Seq.{drop-cons, drop-drop, take-suc, take-suc-set, take-append-add, take-all, take-at, take-length}
+use lib.ListN.{length, take, drop, set, getD, replicate, length-append, length-take, length-drop, drop-of-length-le, take-append-drop}
+use lib.Seq.{drop-cons, take-add, take-suc, take-suc-set, take-append-add, take-append-le, take-take, take-all, take-at, take-length}
 use native.Mathlib.Numerals.{add-one}
 use native.Mathlib.Omega.{arith}
+use borrow.Rule.Slice.PartMut.{putMid}
 use borrow.Author.Tests.{eq-eqb, ne-eqb, le-ltb}
 use Rattle.files.proofs.Tests.{by-test}
 use Rattle.rules.specs.declared.Board.{Board}
@@ -17,9 +18,15 @@ use Rattle.rules.specs.Lists.{names}
 use Rattle.columns.specs.Columns.{columnsOf, flat}
 use Rattle.columns.proofs.Rows.{flat-length}
 use Rattle.lines.proofs.Laws.{names-on}
-use Rattle.serve.specs.LineCall.{Outcome, journalFull, posted, lineCall}
-use Rattle.serve.proofs.Laws.{call-posted, call-unsound}
-use Rattle.board.specs.Input.{firstLine, boardAfter, Fed, held, feed, fed, lastBoard, orderWord, orderLine}
+use Rattle.rules.specs.declared.Reply.{Reply}
+use Rattle.request.specs.declared.Request.{Request}
+use Rattle.request.specs.Requests.{requestOf}
+use Rattle.journal.specs.Journal.{linesBytes, written}
+use Rattle.journal.proofs.Laws.{lines-length}
+use Rattle.serve.specs.LineCall.{Outcome, journalFull, replyTo, linesFor, posted, lineCall}
+use Rattle.serve.proofs.Laws.{call-posted}
+use Rattle.board.specs.Input.{firstLine, called, boardAfter, bytesAfter, Fed, held, served, feed, fed, finished, flushed, orderOf, ending, orderWord, orderLine}
+use Rattle.board.specs.Parts.{fed-append, fed-flushed}
 
 -- ---- where a line ends
 
@@ -52,22 +59,42 @@ pub keep-all : (p part : List ℕ) (i : ℕ) → length p + i ≤ 408 → i ≡ 
 keep-all p part i h e =
     rw (e, take-length part) (sym (take-all 408 (p ++ part) (omega (arith, length-append p part))))
 
--- ---- the board after lines
+-- ---- lines with room in the journal
 
--- a line call with room in the journal
-pub with-room : (b : Board) (line journal : List ℕ) (place : ℕ) → length journal ≡ 65536 → place ≤ 65024
-    → lineCall b line journal place .reply .board ≡ boardAfter b line
-unfolding boardAfter posted
-with-room b line journal place long h =
-    by-test (sound b)
-    (λ s. after (call-posted b line journal place s (free (length journal) long)) ∙ sym (after (call-posted b line (replicate 512 0) 0 s refl)))
-    (λ s. after (call-unsound b line journal place s) ∙ sym (after (call-unsound b line (replicate 512 0) 0 s)))
-  where
-    after : {o p : Outcome} → o ≡ p → o .reply .board ≡ p .reply .board
-    after e = ap (λ (o : Outcome). o .reply .board) e
+-- the journal up to the new place
+posted-bytes : (q : Request) (r : Reply) (journal : List ℕ) (place : ℕ) → place ≤ length journal
+    → take (posted q r journal place .place) (posted q r journal place .journal) ≡ take place journal ++ linesBytes (linesFor q r)
+unfolding posted written
+posted-bytes q r journal place h =
+    let l : length (take place journal ++ linesBytes (linesFor q r)) ≡ place + 16 * length (linesFor q r) =
+    omega (arith, length-append (take place journal) (linesBytes (linesFor q r)), length-take place journal, lines-length (linesFor q r)) in
+    take-at (take place journal ++ linesBytes (linesFor q r)) _ (place + 16 * length (linesFor q r)) l
 
-    free : (n : ℕ) → n ≡ 65536 → journalFull n place ≡ false
-    free n e = rw (le-ltb 1000000000 place (omega arith), le-ltb n (place + 512) (omega arith))
+module _ (b : Board) (line journal : List ℕ) (place : ℕ) (s : sound b ≡ true) (h : place ≤ 65024) (long : length journal ≡ 65536) where
+  free : (n : ℕ) → n ≡ 65536 → journalFull n place ≡ false
+  free n e = rw (le-ltb 1000000000 place (omega arith), le-ltb n (place + 512) (omega arith))
+
+  here : lineCall b line journal place ≡ posted (requestOf line) (replyTo b (requestOf line)) journal place
+  here = call-posted b line journal place s (free (length journal) long)
+
+  there : called b line ≡ posted (requestOf line) (replyTo b (requestOf line)) (replicate 512 0) 0
+  there = call-posted b line (replicate 512 0) 0 s refl
+
+  -- the board and the journal after a line call are those of the line that has ended
+  pub call-served : (b′ : Board) (place′ : ℕ) (journal′ : List ℕ) → b′ ≡ lineCall b line journal place .reply .board
+      → place′ ≡ lineCall b line journal place .place → journal′ ≡ lineCall b line journal place .journal
+      → held b′ [] (take place′ journal′) ≡ served (held b line (take place journal))
+  unfolding served boardAfter bytesAfter posted
+  call-served b′ place′ journal′ eb ep ej =
+      let q = requestOf line in
+      let r = replyTo b q in
+      let j = take place journal in
+      rw (eb, ep, ej) (ap (λ (o : Outcome). held (o .reply .board) [] (take (o .place) (o .journal))) here
+      ∙ ap (held (r .board) []) (posted-bytes q r journal place (omega arith))
+      ∙ sym (ap (λ (o : Outcome). held (o .reply .board) [] (j ++ take (o .place) (o .journal))) there
+      ∙ ap (λ (l : List ℕ). held (r .board) [] (j ++ l)) (posted-bytes q r (replicate 512 0) 0 (omega arith))))
+
+-- ---- bytes
 
 -- bytes that are cut twice
 cut-twice : (n : ℕ) (a b : List ℕ) → take n (take n a ++ b) ≡ take n (a ++ b)
@@ -76,65 +103,100 @@ cut-twice (suc n) [] b = refl
 cut-twice (suc n) (x ∷ a) b = ap (λ (l : List ℕ). x ∷ l) (cut-twice n a b)
 
 -- the bytes of a line that does not end
-pub fed-part : (b : Board) (line l : List ℕ) → length line ≤ 408 → length (firstLine l) ≡ length l
-    → fed (held b line) l ≡ held b (take 408 (line ++ l))
+pub fed-part : (b : Board) (line j l : List ℕ) → length line ≤ 408 → length (firstLine l) ≡ length l
+    → fed (held b line j) l ≡ held b (take 408 (line ++ l)) j
 unfolding fed feed firstLine
-fed-part b line [] h e = rw (append-nil line, take-all 408 line h)
-fed-part b line (x ∷ l) h e =
+fed-part b line j [] h e = rw (append-nil line, take-all 408 line h)
+fed-part b line j (x ∷ l) h e =
     by-test (eqb x 10)
     (λ t.
     let z : 0 ≡ suc (length l) = rw t at e in
     absurd (omega arith))
     (λ t.
     let z : suc (length (firstLine l)) ≡ suc (length l) = rw t at e in
-    rw t (fed-part b (take 408 (line ++ (x ∷ []))) l (omega (arith, length-take 408 (line ++ (x ∷ [])))) (omega arith)
+    rw t (fed-part b (take 408 (line ++ (x ∷ []))) j l (omega (arith, length-take 408 (line ++ (x ∷ [])))) (omega arith)
     ∙ rw (cut-twice 408 (line ++ (x ∷ [])) l, append-assoc line (x ∷ []) l)))
 
--- the bytes of a line, byte 10, and the bytes after it
-pub fed-line : (b : Board) (line l : List ℕ) (n : ℕ) → length line ≤ 408 → n ≡ length (firstLine l) → n < length l
-    → fed (held b line) l ≡ fed (held (boardAfter b (take 408 (line ++ take n l))) []) (drop (suc n) l)
+-- the bytes of a line, and byte 10
+pub fed-line : (b : Board) (line j l : List ℕ) (n : ℕ) → length line ≤ 408 → n ≡ length (firstLine l) → n < length l
+    → fed (held b line j) (take (suc n) l) ≡ served (held b (take 408 (line ++ take n l)) j)
 unfolding fed feed firstLine
-fed-line b line [] n h e k = absurd (omega arith)
-fed-line b line (x ∷ l) n h e k =
+fed-line b line j [] n h e k = absurd (omega arith)
+fed-line b line j (x ∷ l) n h e k =
     by-test (eqb x 10)
     (λ t.
     let z : n ≡ 0 = rw t at e in
-    rw (t, z, append-nil line, take-all 408 line h))
+    rw (z, t, append-nil line, take-all 408 line h))
     (λ t.
     let z : n ≡ suc (length (firstLine l)) = rw t at e in
-    rw (t, z) (fed-line b (take 408 (line ++ (x ∷ []))) l (length (firstLine l)) (omega (arith, length-take 408 (line ++ (x ∷ [])))) refl (omega arith)
+    rw (z, t) (fed-line b (take 408 (line ++ (x ∷ []))) j l (length (firstLine l)) (omega (arith, length-take 408 (line ++ (x ∷ [])))) refl (omega arith)
     ∙ rw (cut-twice 408 (line ++ (x ∷ [])) (take (length (firstLine l)) l), append-assoc line (x ∷ []) (take (length (firstLine l)) l))))
 
--- no byte is left
-pub chunk-done : (s : Fed) (chunk : List ℕ) (at : ℕ) → length chunk ≤ at → fed s (drop at chunk) ≡ s
+-- the same in a part of the input, where the line begins at one place and ends at another
+module _ (s : Fed) (b : Board) (line j part : List ℕ) (at end : ℕ)
+    (short : length line ≤ 408) (ends : end ≡ at + length (firstLine (drop at part))) (so : held b line j ≡ fed s (take at part)) where
+  pub part-ends : end ≡ length part → held b (take 408 (line ++ take (end - at) (drop at part))) j ≡ fed s (take end part)
+  part-ends e =
+      let n = length-drop at part in
+      rw (take-all (end - at) (drop at part) (omega arith)) (sym (fed-part b line j (drop at part) short (omega arith))
+      ∙ ap (λ (t : Fed). fed t (drop at part)) so
+      ∙ sym (fed-append s (take at part) (drop at part))
+      ∙ ap (fed s) (take-append-drop at part ∙ sym (take-all end part (omega arith))))
+
+  pub part-line : end < length part → served (held b (take 408 (line ++ take (end - at) (drop at part))) j) ≡ fed s (take (end + 1) part)
+  part-line h =
+      let n = length-drop at part in
+      let a : at + suc (end - at) ≡ end + 1 = omega arith in
+      sym (fed-line b line j (drop at part) (end - at) short (omega arith) (omega arith))
+      ∙ ap (λ (t : Fed). fed t (take (suc (end - at)) (drop at part))) so
+      ∙ sym (fed-append s (take at part) (take (suc (end - at)) (drop at part)))
+      ∙ ap (fed s) (sym (take-add at (suc (end - at)) part))
+      ∙ ap (λ (m : ℕ). fed s (take m part)) a
+
+-- no byte is taken yet, and none was written
+pub part-begins : (b : Board) (line journal part : List ℕ) (place : ℕ) → place ≡ 0 → held b line (take place journal) ≡ fed (held b line []) (take 0 part)
 unfolding fed
-chunk-done s chunk at h = rw (drop-of-length-le chunk {i = at} h)
+part-begins b line journal part place e = rw e
 
--- the same in a chunk of bytes, where the line begins at one place and ends at another
-module _ (b : Board) (line chunk : List ℕ) (at end : ℕ) (short : length line ≤ 408) (ends : end ≡ at + length (firstLine (drop at chunk))) where
-  pub chunk-part : end ≡ length chunk → held b (take 408 (line ++ take (end - at) (drop at chunk))) ≡ fed (held b line) (drop at chunk)
-  chunk-part e =
-      let n = length-drop at chunk in
-      rw (take-all (end - at) (drop at chunk) (omega arith)) (sym (fed-part b line (drop at chunk) short (omega arith)))
+-- a part of a read is taken, and the journal is written
+pub chunk-begins : (s : Fed) (chunk : List ℕ) → flushed s ≡ flushed (fed s (take 0 chunk))
+unfolding fed
+chunk-begins s chunk = refl
 
-  pub chunk-line : end < length chunk → fed (held b line) (drop at chunk)
-      ≡ fed (held (boardAfter b (take 408 (line ++ take (end - at) (drop at chunk)))) []) (drop (end + 1) chunk)
-  chunk-line h =
-      let n = length-drop at chunk in
-      let e : at + suc (end - at) ≡ end + 1 = omega arith in
-      fed-line b line (drop at chunk) (end - at) short (omega arith) (omega arith) ∙ rw (drop-drop (suc (end - at)) at chunk, e)
+pub chunk-more : (s t u : Fed) (chunk : List ℕ) (at n : ℕ) → n ≤ length chunk - at → t ≡ flushed (fed s (take at chunk))
+    → u ≡ fed t (take n (take (length chunk - at) (drop at chunk))) → flushed u ≡ flushed (fed s (take (at + n) chunk))
+chunk-more s t u chunk at n h et eu =
+    let f = fed s (take at chunk) in
+    let x = take n (drop at chunk) in
+    let e : u ≡ fed (flushed f) x = eu ∙ rw (take-take n (length chunk - at) (drop at chunk) h, et) in
+    ap flushed e
+    ∙ ap flushed (sym (fed-flushed f x))
+    ∙ ap flushed (sym (fed-append s (take at chunk) x) ∙ ap (fed s) (sym (take-add at n chunk)))
 
--- a last line that lacks byte 10
-pub last-none : (b : Board) (kept : List ℕ) (n : ℕ) → n ≡ 0 → b ≡ lastBoard (held b (take n kept))
-unfolding lastBoard
-last-none b kept n e = rw e
+-- ---- the end of the input
 
-pub last-some : (b : Board) (kept : List ℕ) (n : ℕ) → n ≢ 0 → n ≤ 408 → n ≤ length kept
-    → boardAfter b (take 408 (take n kept ++ [])) ≡ lastBoard (held b (take n kept))
-unfolding lastBoard
-last-some b kept n ne h k =
+pub last-none : (b : Board) (kept journal : List ℕ) (n place : ℕ) → n ≡ 0 → place ≡ 0
+    → held b [] (take place journal) ≡ finished (held b (take n kept) [])
+unfolding finished
+last-none b kept journal n place e p = rw (e, p)
+
+pub last-some : (b : Board) (kept journal : List ℕ) (n place : ℕ) → n ≢ 0 → n ≤ 408 → n ≤ length kept → place ≡ 0
+    → served (held b (take 408 (take n kept ++ [])) (take place journal)) ≡ finished (held b (take n kept) [])
+unfolding finished
+last-some b kept journal n place ne h k p =
     let e : length (take n kept) ≡ n = omega (arith, length-take n kept) in
-    rw (append-nil (take n kept), take-all 408 (take n kept) (omega arith), ne-eqb (length (take n kept)) 0 (λ z. ne (sym e ∙ z)))
+    rw (p, append-nil (take n kept), take-all 408 (take n kept) (omega arith), ne-eqb (length (take n kept)) 0 (λ z. ne (sym e ∙ z)))
+
+-- the order after the journal
+pub close-is : (s : Fed) (b : Board) (journal last : List ℕ) (place n : ℕ) → place ≤ length journal → n ≤ length last
+    → held b [] (take place journal) ≡ finished s → take n last ≡ orderOf b
+    → take (place + n) (putMid place (length journal - place) journal last) ≡ ending s
+unfolding ending
+close-is s b journal last place n h k e o =
+    let l : length (take place journal) ≡ place = omega (arith, length-take place journal) in
+    ap (λ (m : ℕ). take (m + n) (putMid place (length journal - place) journal last)) (sym l)
+    ∙ take-append-add (take place journal) (last ++ _) n
+    ∙ rw (take-append-le n last _ k, o, ← e)
 
 -- ---- the order
 

@@ -1,2 +1,3 @@
--- Laws for the functions of the program.
+-- Laws for the functions of the program, and an example of its output.
 pub mod Laws
+pub mod Example

@@ -1,50 +1,69 @@
--- What bytes of input do to the board: a line that byte 10 ends is a line call. Last the ORDER line. Assumes nothing.
+-- What bytes of input do: a line that byte 10 ends is a line call, with a board and journal lines after it. Last the ORDER line.
+-- Assumes nothing.
 use Prim.Native.Nat.{ℕ}
-use mathlib.Core.Path.{_≡_, refl}
 use mathlib.Core.Bool.{cond}
 use mathlib.Core.List.{List, [], _∷_, _++_}
 use lib.Dec.{eqb}
 use lib.ListN.{length, take, replicate}
 use Rattle.rules.specs.declared.Board.{Board}
+use Rattle.rules.specs.Boards.{emptyBoard}
 use Rattle.rules.specs.Lists.{names}
+use Rattle.rules.specs.Orders.{carried}
+use Rattle.search.specs.Rows.{asOrder}
 use Rattle.columns.specs.Columns.{columnsOf, flat}
-use Rattle.serve.specs.LineCall.{lineCall}
+use Rattle.serve.specs.LineCall.{Outcome, lineCall}
 
 -- the bytes before the first byte 10
 unfoldable pub firstLine : List ℕ → List ℕ
 firstLine [] = []
 firstLine (x ∷ xs) = cond (eqb x 10) [] (x ∷ firstLine xs)
 
--- the board after a line call with room in the journal
-unfoldable pub boardAfter : Board → List ℕ → Board
-boardAfter b line = lineCall b line (replicate 512 0) 0 .reply .board
+-- ---- a line
 
--- a board, and the bytes so far of a line that has not ended
+-- the line call with room in an empty journal
+abbrev pub called : Board → List ℕ → Outcome
+called b line = lineCall b line (replicate 512 0) 0
+
+-- the board after it, and the bytes of its journal lines
+unfoldable pub boardAfter : Board → List ℕ → Board
+boardAfter b line = called b line .reply .board
+
+unfoldable pub bytesAfter : Board → List ℕ → List ℕ
+bytesAfter b line = take (called b line .place) (called b line .journal)
+
+-- ---- bytes one after another
+
+-- a board, the bytes so far of a line that has not ended, and the journal that is not written yet
 pub record Fed : Type 0 where
   pub board : Board
   pub line : List ℕ
+  pub journal : List ℕ
 
-abbrev pub held : Board → List ℕ → Fed
-held b line = record { board = b; line = line }
+abbrev pub held : Board → List ℕ → List ℕ → Fed
+held b line journal = record { board = b; line = line; journal = journal }
+
+-- the journal has been written
+abbrev pub flushed : Fed → Fed
+flushed s = held (s .board) (s .line) []
+
+-- the line has ended
+unfoldable pub served : Fed → Fed
+served s = held (boardAfter (s .board) (s .line)) [] (s .journal ++ bytesAfter (s .board) (s .line))
 
 -- one byte; "A line over 407 bytes is handed on as its first 408."
 unfoldable pub feed : Fed → ℕ → Fed
-feed s x = cond (eqb x 10) (held (boardAfter (s .board) (s .line)) []) (held (s .board) (take 408 (s .line ++ (x ∷ []))))
+feed s x = cond (eqb x 10) (served s) (held (s .board) (take 408 (s .line ++ (x ∷ []))) (s .journal))
 
 -- bytes one after another
 unfoldable pub fed : Fed → List ℕ → Fed
 fed s [] = s
 fed s (x ∷ xs) = fed (feed s x) xs
 
--- bytes do the same however they are cut into reads
-pub fed-append : (s : Fed) (a b : List ℕ) → fed s (a ++ b) ≡ fed (fed s a) b
-unfolding fed
-fed-append s [] b = refl
-fed-append s (x ∷ a) b = fed-append (feed s x) a b
+-- the end of the input: "a last line may lack" byte 10
+unfoldable pub finished : Fed → Fed
+finished s = cond (eqb (length (s .line)) 0) s (served s)
 
--- the board at the end of the input: "a last line may lack" byte 10
-unfoldable pub lastBoard : Fed → Board
-lastBoard s = cond (eqb (length (s .line)) 0) (s .board) (boardAfter (s .board) (s .line))
+-- ---- the output
 
 -- "a line of ORDER, one blank and three columns per program of the order"
 abbrev pub orderWord : List ℕ
@@ -52,3 +71,15 @@ orderWord = 79 ∷ 82 ∷ 68 ∷ 69 ∷ 82 ∷ 32 ∷ []
 
 unfoldable pub orderLine : List ℕ → List ℕ
 orderLine order = orderWord ++ (flat columnsOf (names order) ++ (10 ∷ []))
+
+-- the ORDER line of a board
+unfoldable pub orderOf : Board → List ℕ
+orderOf b = orderLine (asOrder (carried b) .at)
+
+-- what is still to be written at the end of the input
+unfoldable pub ending : Fed → List ℕ
+ending s = finished s .journal ++ orderOf (finished s .board)
+
+-- "starts empty, writes the journal and last a line of ORDER": all of the output
+unfoldable pub output : List ℕ → List ℕ
+output input = ending (fed (held emptyBoard [] []) input)

@@ -1,2 +1,3 @@
--- What the program's input does, and the last line of its output.
+-- What the program's input does, and its output.
 pub mod Input
+pub mod Parts

@@ -1,25 +1,26 @@
 -- `end_line` meets its contract. Assumes nothing.
+use Prim.Native.Nat.{ℕ}
 use mathlib.Core.Path.{_≡_, ap, sym, _∙_}
-use mathlib.Core.List.{_++_}
+use mathlib.Core.List.{List, _++_}
 use native.Mathlib.Omega.{arith}
 use lib.ListN.{take}
 use lib.Seq.{length-take-le}
-use Rattle.board.specs.Input.{boardAfter}
-use Rattle.board.proofs.Laws.{with-room}
+use Rattle.board.specs.Input.{held, served}
+use Rattle.board.proofs.Laws.{call-served}
 use borrow.Author.Needs.{needs}
 use Rattle.board.proofs.end_line.Statement.{statement}
 use Rattle.board.proofs.end_line.Tie as tie
 
 returns : tie.Need-returns
 returns c =
-    let s = c .before .before .before .before .before .before .before .before .before .before .before in
+    let s = c .before .before .before .before .before .before .before .before .before in
     let a = s .args in
-    let k = c .before .before .before .before .serve-line .ensures in
-    let m = c .make-room .ensures in
-    let e : take 408 (a .part .now) ≡ take 408 (take (a .s .kept) (a .kept .now) ++ a .part .now) = rw (c .before .before .before .before .before .before .before .if1 .taken) in (
-      k .0 ∙ with-room (a .s .board) _ (a .journal .now) (a .s .out .place) (s .pre .1 .1) (s .pre .1 .0)
-          ∙ ap (boardAfter (a .s .board)) (c .before .before .before .before .before .before .cut .ensures ∙ e),
-      (k .1 .1 .1 .0, k .1 .1 .1 .1, m),
+    let k = c .before .before .serve-line in
+    let e : take 408 (a .part .now) ≡ take 408 (take (a .s .kept) (a .kept .now) ++ a .part .now) = rw (c .before .before .before .before .before .if1 .taken) in (
+      call-served (a .s .board) _ (a .journal .now) (a .s .out .place) (s .pre .0 .0) (s .pre .1 .0) (s .pre .1 .1)
+          _ _ _ (k .ensures .0) (k .ensures .1 .0) (k .ensures .1 .1 .0)
+          ∙ ap (λ (l : List ℕ). served (held (a .s .board) l (take (a .s .out .place) (a .journal .now)))) (c .before .before .before .before .cut .ensures ∙ e),
+      k .ensures .1 .1 .1,
     )
 
 slice-aggregate-serve-line : tie.Need-slice-aggregate-serve-line
@@ -29,13 +30,13 @@ slice-aggregate-serve-line c =
 
 returns-2 : tie.Need-returns-2
 returns-2 c =
-    let s = c .before .before .before .before .before .before .before .before .before .before .before .before .before .before .before in
+    let s = c .before .before .before .before .before .before .before .before .before .before .before .before .before in
     let a = s .args in
-    let k = c .before .before .before .before .serve-line2 .ensures in
-    let m = c .make-room2 .ensures in (
-      k .0 ∙ with-room (a .s .board) _ (a .journal .now) (a .s .out .place) (s .pre .1 .1) (s .pre .1 .0)
-          ∙ ap (boardAfter (a .s .board)) (c .before .before .before .before .before .before .before .before .before .keep .ensures .0),
-      (k .1 .1 .1 .0, k .1 .1 .1 .1, m),
+    let k = c .before .before .serve-line2 in (
+      call-served (a .s .board) _ (a .journal .now) (a .s .out .place) (s .pre .0 .0) (s .pre .1 .0) (s .pre .1 .1)
+          _ _ _ (k .ensures .0) (k .ensures .1 .0) (k .ensures .1 .1 .0)
+          ∙ ap (λ (l : List ℕ). served (held (a .s .board) l (take (a .s .out .place) (a .journal .now)))) (c .before .before .before .before .before .before .before .keep .ensures .0),
+      k .ensures .1 .1 .1,
     )
 
 pub end-line-spec : {M : Type 1} → statement M
@@ -44,13 +45,11 @@ end-line-spec =
     (tie.spec
     (λ c κs. search needs)
     (λ c κs. search needs)
-    (λ c κs. search needs)
     (λ c. search needs)
     returns
     (λ c κs. search needs)
     (λ c. search needs)
     slice-aggregate-serve-line
-    (λ c κs. search needs)
     (λ c κs. search needs)
     (λ c. search needs)
     (λ c. search needs)

@@ -1,14 +1,13 @@
 -- `flush` meets its contract. Assumes nothing.
-use mathlib.Core.Path.{sym}
-use native.Mathlib.Omega.{arith}
-use lib.Seq.{length-take-le}
+use mathlib.Core.Path.{refl}
+use Rattle.files.proofs.Tests.{never}
 use borrow.Author.Needs.{needs}
 use Rattle.board.proofs.flush.Statement.{statement}
 use Rattle.board.proofs.flush.Tie as tie
 
-slice-aggregate-write-out : tie.Need-slice-aggregate-write-out
-slice-aggregate-write-out c = sym (length-take-le _ _ (omega arith))
+returns-2 : tie.Need-returns-2
+returns-2 c = (refl, (λ f. never f (c .before .before .if1 .left)))
 
 pub flush-spec : {M : Type 1} → statement M
 flush-spec =
-    tie.close (tie.spec (λ c. search needs) slice-aggregate-write-out (λ c κs. search needs) (λ c. search needs))
+    tie.close (tie.spec (λ c. search needs) (λ c κs. search needs) (λ c κs. search needs) returns-2)

@@ -1,5 +1,5 @@
 -- `last_line` meets its contract. Assumes nothing.
-use mathlib.Core.Path.{_∙_}
+use mathlib.Core.Path.{refl, _∙_}
 use native.Mathlib.Omega.{arith}
 use Rattle.board.proofs.Laws.{last-none, last-some}
 use borrow.Author.Needs.{needs}
@@ -8,15 +8,20 @@ use Rattle.board.proofs.last_line.Tie as tie
 
 returns : tie.Need-returns
 returns c =
-    let a = c .before .before .before .before .args in
-    last-none (a .s .board) (a .kept .now) (a .s .kept) (c .if1 .taken)
+    let s = c .before .before .before .before in
+    let a = s .args in
+    (last-none (a .s .board) (a .kept .now) (a .journal .now) (a .s .kept) (a .s .out .place) (c .if1 .taken) (s .pre .1 .0), (omega (arith, s .pre .1 .0), refl))
 
 returns-2 : tie.Need-returns-2
 returns-2 c =
-    let s = c .before .before .before .before .before .before .before .before .before .before .before .before .before .before in
+    let s = c .before .before .before .before .before .before .before .before .before .before .before .before in
     let a = s .args in
-    c .before .before .before .before .before .before .end-line .ensures .0
-    ∙ last-some (a .s .board) (a .kept .now) (a .s .kept) (c .before .before .before .before .before .before .before .before .before .before .if1 .left) (s .pre .0 .1) (omega (arith, s .pre .0 .1, s .pre .0 .2))
+    let k = c .before .before .before .before .end-line in (
+      k .ensures .0
+          ∙ last-some (a .s .board) (a .kept .now) (a .journal .now) (a .s .kept) (a .s .out .place) (c .before .before .before .before .before .before .before .before .if1 .left)
+          (s .pre .0 .1) (omega (arith, s .pre .0 .1, s .pre .0 .2)) (s .pre .1 .0),
+      (omega (arith, k .ensures .1 .2, s .pre .1 .0), k .ensures .1 .3),
+    )
 
 pub last-line-spec : {M : Type 1} → statement M
 last-line-spec =
@@ -24,7 +29,6 @@ last-line-spec =
     (tie.spec
     returns
     (λ c. search needs)
-    (λ c κs. search needs)
     (λ c κs. search needs)
     (λ c. search needs)
     (λ c. search needs)

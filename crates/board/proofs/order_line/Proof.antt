@@ -3,7 +3,7 @@ use mathlib.Core.Path.{ap, _∙_}
 use native.Mathlib.Omega.{arith}
 use lib.ListN.{length-set}
 use Rattle.search.specs.declared.Order.{Order}
-use Rattle.board.specs.Input.{orderLine}
+use Rattle.board.specs.Input.{orderLine, orderOf}
 use Rattle.board.proofs.Laws.{order-is}
 use borrow.Author.Needs.{needs}
 use Rattle.board.proofs.order_line.Statement.{statement}
@@ -15,6 +15,7 @@ same-length c =
     length-set (k .last .0) (k .result) 10 ∙ k .kept .0 ∙ c .before .before .before .before .before .before .before .before .copy .kept .1 .0
 
 returns : tie.Need-returns
+unfolding orderOf
 returns c =
     let a = c .before .before .before .before .before .before .before .before .before .before .before .before .args in
     let w = c .before .before .before .before .before .before .before .before .copy in

@@ -18,10 +18,10 @@ returns c =
     let k = c .before .before .before .before .before in
     let s = k .before .before .before .before .before in
     let a = s .args in
-    let e = ap (λ (r : Reply). r .board) (k .line .ensures .0) in
+    let e = ap (λ (r : Reply). r .board) (k .line .ensures .0 .0) in
     let h = place-fits (a .s .board) (a .line .now) (a .journal .now) (a .s .out .place) (programs s) in
     let t = line-sound (a .s .board) (a .line .now) (a .journal .now) (a .s .out .place) (programs s) (s .pre .0) in
-    (e, (k .line .ensures .1 .0, (k .line .ensures .1 .1, (ap sound e ∙ t, refl, omega (arith, h, k .line .ensures .1 .0)))))
+    (e, (k .line .ensures .1 .0, (k .line .ensures .1 .1, (ap sound e ∙ t, refl, omega (arith, h, k .line .ensures .1 .0), refl))))
 
 pub serve-line-spec : {M : Type 1} → statement M
 serve-line-spec =

@@ -1,69 +1,82 @@
 -- `take_chunk` meets its contract. Assumes nothing.
-use Prim.Native.Nat.{_-_, _≤_}
-use mathlib.Core.Path.{_≡_, refl, ap, sym, _∙_}
-use mathlib.Core.Logic.{_≢_}
+use Prim.Native.Nat.{_+_, _-_, _≤_, _<_}
+use mathlib.Core.Path.{_≡_, _∙_}
+use mathlib.Core.List.{[]}
 use mathlib.Core.Bool.{true}
 use native.Mathlib.Omega.{arith}
-use lib.ListN.{length, take, drop, length-take}
+use lib.ListN.{length, take, drop, length-take, length-drop}
+use lib.Seq.{take-all}
 use Rattle.rules.specs.Soundness.{sound}
-use Rattle.board.specs.Input.{held, fed}
-use Rattle.board.proofs.Laws.{chunk-part, chunk-line, chunk-done}
+use Rattle.board.specs.Input.{held, flushed, fed}
+use Rattle.board.proofs.Laws.{chunk-begins, chunk-more}
 use borrow.Author.Needs.{needs}
 use Rattle.board.proofs.take_chunk.Statement.{statement}
 use Rattle.board.proofs.take_chunk.Tie as tie
 
 abbrev Inv-loop : tie.InvT-loop
 Inv-loop chunk kept₀ journal₀ s₀ at₀ kept journal s at =
-    (at ≤ length chunk) × (s .kept ≤ 408) × (s .out .place ≤ 65024) × (length kept ≡ 408) × (length journal ≡ 65536)
-    × (fed (held (s₀ .board) (take (s₀ .kept) kept₀)) chunk ≡ fed (held (s .board) (take (s .kept) kept)) (drop at chunk))
-    × (sound (s .board) ≡ true)
+    (at ≤ length chunk) × (s .kept ≤ 408) × (s .out .place ≡ 0) × (length kept ≡ 408) × (length journal ≡ 65536)
+    × (held (s .board) (take (s .kept) kept) [] ≡ flushed (fed (held (s₀ .board) (take (s₀ .kept) kept₀) []) (take at chunk)))
+    × (sound (s .board) ≡ true) × (s₀ .out .failed ≡ true → s .out .failed ≡ true)
 
 abbrev μ-loop : tie.MeasureT-loop
 μ-loop chunk kept₀ journal₀ s₀ at₀ kept journal s at = length chunk - at
 
 loop-holds : tie.Need-loop-holds Inv-loop μ-loop
 loop-holds c =
-    let p = c .before .before .before .pre in
-    (omega arith, p .0 .1, p .1 .0, p .0 .2, p .1 .1, refl, p .0 .0)
+    let s = c .before .before .before in
+    let a = s .args in
+    let p = s .pre in
+    (omega arith, p .0 .1, p .1 .0, p .0 .2, p .1 .1, chunk-begins (held (a .start .board) (take (a .start .kept) (a .kept .now)) []) (a .chunk .now), p .0 .0, (λ f. f))
 
-returns : tie.Need-returns Inv-loop μ-loop
-returns c =
-    let a = c .before .before .before .before .before .before .before .before .before .before .before .before .args in
-    let l = c .before .before .before .before .before .before .before .before .loop in
-    let e = c .before .before .before .before .before .before .line-end in
-    let k = c .before .before .keep in (
-      ap (held (l .s .board)) (k .ensures .0)
-          ∙ chunk-part (l .s .board) (take (l .s .kept) (l .kept)) (a .chunk .now) (l .at) (e .result)
-          (omega (arith, length-take (l .s .kept) (l .kept))) (e .ensures .0) (c .before .before .before .before .before .if1 .taken)
-          ∙ sym (l .inv .5),
-      (l .inv .6, k .ensures .1, l .inv .2),
-    )
+take-part-requires : tie.Need-take-part-requires Inv-loop μ-loop
+take-part-requires c κs =
+    let l = c .before .before .before .before .loop in
+    ((l .inv .6, l .inv .1, l .inv .3), (l .inv .2, l .inv .4, simp (length-take, length-drop) (omega arith)))
+
+-- what was taken lies within the read
+within : (c : tie.After-slice-known4 Inv-loop μ-loop)
+    → c .before .before .before .before .take-part .result .taken ≤ length (c .before .before .before .before .before .before .before .before .before .before .before .before .before .args .chunk .now) - c .before .before .before .before .before .before .before .before .before .loop .at
+within c =
+    let a = c .before .before .before .before .before .before .before .before .before .before .before .before .before .args in
+    let l = c .before .before .before .before .before .before .before .before .before .loop in
+    omega (arith, c .before .before .before .before .take-part .ensures .1 .1 .1, length-take (length (a .chunk .now) - l .at) (drop (l .at) (a .chunk .now)), length-drop (l .at) (a .chunk .now))
+
+-- the length of a read is a number of 64 bits
+fits : (s : tie.Start Inv-loop μ-loop) → length (s .args .chunk .now) < 18446744073709551616
+fits s = omega arith
+
+add-at : tie.Need-add-at Inv-loop μ-loop
+add-at c =
+    let l = c .before .before .before .before .before .before .before .before .before .before .loop in
+    let h : l .at + c .before .before .before .before .before .take-part .result .taken < 18446744073709551616 = omega (arith, within (c .before), fits (c .before .before .before .before .before .before .before .before .before .before .before .before .before .before)) in
+    record { fits = h }
+
+loop-less : tie.Need-loop-less Inv-loop μ-loop
+loop-less c =
+    omega (arith, within (c .before .before .before), c .before .before .before .before .before .before .before .take-part .ensures .1 .1 .0)
 
 loop-again : tie.Need-loop-again Inv-loop μ-loop
 loop-again c =
-    let a = c .before .before .before .before .before .before .before .before .before .before .before .before .before .before .before .args in
-    let l = c .before .before .before .before .before .before .before .before .before .before .before .loop in
-    let e = c .before .before .before .before .before .before .before .before .before .line-end in
-    let k = c .before .before .before .before .end-line in
-    let ne : e .result ≢ length (a .chunk .now) = c .before .before .before .before .before .before .before .before .if1 .left in
-    let h = e .ensures .1 in (
-      omega arith,
-      omega (arith, k .ensures .1 .1),
-      k .ensures .1 .2,
-      search needs,
-      search needs,
-      l .inv .5
-          ∙ chunk-line (l .s .board) (take (l .s .kept) (l .kept)) (a .chunk .now) (l .at) (e .result)
-          (omega (arith, length-take (l .s .kept) (l .kept))) (e .ensures .0) (omega arith)
-          ∙ rw (k .ensures .0, k .ensures .1 .1),
-      k .ensures .1 .0,
+    let a = c .before .before .before .before .before .before .before .before .before .before .before .before .before .before .before .before .args in
+    let l = c .before .before .before .before .before .before .before .before .before .before .before .before .loop in
+    let k = c .before .before .before .before .before .before .before .take-part in
+    let n = within (c .before .before .before) in (
+      omega (arith, n, l .inv .0),
+      k .ensures .1 .0 .1,
+      c .flush .ensures .0,
+      k .kept .1 .1 .0 ∙ l .inv .3,
+      k .kept .1 .1 .1 .0 ∙ l .inv .4,
+      chunk-more _ (held (l .s .board) (take (l .s .kept) (l .kept)) []) _ (a .chunk .now) (l .at) (k .result .taken) n (l .inv .5) (k .ensures .0),
+      k .ensures .1 .0 .0,
+      (λ f. c .flush .ensures .1 (k .ensures .1 .0 .3 ∙ l .inv .7 f)),
     )
 
-returns-2 : tie.Need-returns-2 Inv-loop μ-loop
-returns-2 c =
+returns : tie.Need-returns Inv-loop μ-loop
+returns c =
     let a = c .before .before .before .before .before .args in
     let l = c .before .loop in
-    (sym (l .inv .5 ∙ chunk-done _ (a .chunk .now) (l .at) (omega arith)), (l .inv .6, l .inv .1, l .inv .2))
+    (l .inv .5 ∙ rw (take-all (l .at) (a .chunk .now) (omega arith)), (l .inv .6, l .inv .1, l .inv .2, l .inv .7))
 
 pub take-chunk-spec : {M : Type 1} → statement M
 take-chunk-spec =
@@ -72,21 +85,14 @@ take-chunk-spec =
     Inv-loop
     μ-loop
     loop-holds
+    (λ c. search needs)
+    (λ c. search needs)
+    (λ c. search needs)
+    take-part-requires
+    add-at
     (λ c κs. search needs)
-    (λ c. search needs)
-    (λ c. search needs)
-    (λ c. search needs)
-    (λ c κs. search needs)
-    (λ c. search needs)
-    (λ c. search needs)
-    returns
-    (λ c. search needs)
-    (λ c. search needs)
-    (λ c. search needs)
-    (λ c κs. search needs)
-    (λ c. search needs)
-    (λ c. search needs)
+    loop-less
     loop-again
     (λ c. search needs)
     (λ c. search needs)
-    returns-2)
+    returns)

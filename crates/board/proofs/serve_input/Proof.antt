@@ -1,4 +1,4 @@
--- `main` meets its contract. Assumes nothing.
+-- `serve_input` meets its contract. Assumes nothing.
 use mathlib.Core.Path.{_≡_, ap, _∙_}
 use mathlib.Core.List.{[]}
 use mathlib.Core.Bool.{true}
@@ -11,12 +11,12 @@ use Rattle.rules.specs.Worked.{worked, workedFrom}
 use Rattle.theory.specs.Sound.{sound-iff, good-sound}
 use Rattle.theory.specs.Worked.{worked-good}
 use borrow.Author.Needs.{needs}
-use Rattle.board.proofs.main.Statement.{statement}
-use Rattle.board.proofs.main.Tie as tie
+use Rattle.board.proofs.serve_input.Statement.{statement}
+use Rattle.board.proofs.serve_input.Tie as tie
 
 abbrev Inv-loop : tie.InvT-loop
 Inv-loop input₀ journal₀ kept₀ s₀ turns₀ input journal kept s turns =
-    (s .kept ≤ 408) × (s .out .place ≤ 65024) × (length input ≡ 65536) × (length kept ≡ 408) × (length journal ≡ 65536)
+    (s .kept ≤ 408) × (s .out .place ≡ 0) × (length input ≡ 65536) × (length kept ≡ 408) × (length journal ≡ 65536)
     × (sound (s .board) ≡ true)
 
 abbrev μ-loop : tie.MeasureT-loop
@@ -27,23 +27,17 @@ unfolding worked workedFrom
 empty-sound = sound-iff emptyBoard .1 (good-sound emptyBoard (worked-good []))
 
 loop-holds : tie.Need-loop-holds Inv-loop μ-loop
-loop-holds c = let s = c .start .ensures in
-    (omega (arith, s .1), omega (arith, s .2), search needs, search needs, search needs, ap sound (s .0) ∙ empty-sound)
-
-sub-turns : tie.Need-sub-turns Inv-loop μ-loop
-sub-turns c =
-    omega (arith, c .before .before .before .before .before .before .before .before .before .before .before .before .before .before .before .before .loop-test .taken)
-
-loop-less : tie.Need-loop-less Inv-loop μ-loop
-loop-less c =
-    omega (arith, c .before .before .before .before .before .before .before .before .before .before .before .before .before .before .before .before .loop-test .taken)
+loop-holds c =
+    let s = c .start .ensures in
+    (omega (arith, s .1), s .2, search needs, search needs, search needs, ap sound (s .0) ∙ empty-sound)
 
 loop-again : tie.Need-loop-again Inv-loop μ-loop
-loop-again c = let k = c .before .before .before .before .before .take-chunk .ensures .1 in
-    (k .1, omega (arith, c .before .flush .ensures), search needs, search needs, search needs, k .0)
+loop-again c =
+    let k = c .before .before .before .before .take-chunk .ensures .1 in
+    (k .1, k .2, search needs, search needs, search needs, k .0)
 
-pub main-spec : {M : Type 1} → statement M
-main-spec =
+pub serve-input-spec : {M : Type 1} → statement M
+serve-input-spec =
     tie.close
     (tie.spec
     Inv-loop
@@ -64,12 +58,12 @@ main-spec =
     (λ c. search needs)
     (λ c κs. search needs)
     (λ c. search needs)
-    (λ c κs. search needs)
     (λ c. search needs)
-    sub-turns
-    loop-less
+    (λ c. search needs)
     loop-again
     (λ c. search needs)
+    (λ c. search needs)
+    (λ c κs. search needs)
     (λ c. search needs)
     (λ c κs. search needs)
     (λ c. search needs))

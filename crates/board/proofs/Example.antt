@@ -1,0 +1,41 @@
+-- A small input, whose last line lacks byte 10, and all of its output: antt computes it from the definitions. Assumes nothing.
+use Prim.Native.Nat.{ℕ}
+use mathlib.Core.Path.{_≡_, refl}
+use mathlib.Core.List.{List, [], _∷_}
+use Rattle.columns.specs.Columns.{columnsOf, flat, digitOf, field3, fieldOf, numberOf}
+use Rattle.rules.specs.Lists.{any, all, keep, first, padded, rising, listed, distinct, without, same, names}
+use Rattle.rules.specs.Boards.{everyone, admitted, opening, closing, dropping}
+use Rattle.rules.specs.Orders.{heldBack, carriedFrom, carried, withGiven, inUse, safe, canGive}
+use Rattle.rules.specs.Soundness.{setsSound, standingSound, programSound, noConflict, lineSound, waiterSound, noneFavoured, someFavoured, sound}
+use Rattle.rules.specs.Replies.{reply, refuse, refuseUnsound}
+use Rattle.rules.specs.Checks.{enterCheck}
+use Rattle.rules.specs.Calls.{enter, apply, direct}
+use Rattle.request.specs.Requests.{begins, numberAt, programAt, labelPart, filesIn, risesFrom, addingAll}
+use Rattle.request.specs.Requests.{enterFiles, enterCounts, enterOf, fileOf, leaveOf, requestOf}
+use Rattle.journal.specs.Journal.{lineBytes, written}
+use Rattle.serve.specs.LineCall.{replyTo, linesFor, posted, lineCall}
+use Rattle.board.specs.Input.{boardAfter, bytesAfter, served, feed, fed, finished, orderLine, orderOf, ending, output}
+
+-- ENTER 2 with an empty claim, and a line that is no request
+input : List ℕ
+input =
+    69 ∷ 78 ∷ 84 ∷ 69 ∷ 82 ∷ 32 ∷ 32 ∷ 32 ∷ 50 ∷ 65 ∷ 32 ∷ 32 ∷ 32 ∷ 32 ∷ 32 ∷ 32 ∷ 32 ∷ 32 ∷ 32 ∷ 48 ∷ 32 ∷ 32 ∷ 48 ∷ 10 ∷ 88 ∷ []
+
+-- ADMIT, REFUSE with 3, and the order
+expected : List ℕ
+expected =
+    65 ∷ 68 ∷ 77 ∷ 73 ∷ 84 ∷ 32 ∷ 32 ∷ 32 ∷ 50 ∷ 32 ∷ 32 ∷ 48 ∷ 32 ∷ 32 ∷ 48 ∷ 10 ∷ 82 ∷ 69 ∷ 70 ∷ 85 ∷ 83 ∷ 69 ∷ 32 ∷ 32 ∷ 48 ∷ 32 ∷ 32 ∷ 48 ∷ 32 ∷ 32 ∷ 51 ∷ 10 ∷ 79 ∷ 82 ∷ 68 ∷ 69 ∷ 82 ∷ 32 ∷ 32 ∷ 32 ∷ 50 ∷ 10 ∷ []
+
+example : output input ≡ expected
+unfolding input expected boardAfter bytesAfter served feed fed finished orderLine orderOf ending output
+    columnsOf flat digitOf field3 fieldOf numberOf
+    begins numberAt programAt labelPart filesIn risesFrom addingAll
+    enterFiles enterCounts enterOf fileOf leaveOf requestOf
+    lineBytes written replyTo linesFor posted lineCall
+    any all keep first padded rising listed distinct without same names
+    everyone admitted opening closing dropping
+    heldBack carriedFrom carried withGiven inUse safe canGive
+    setsSound standingSound programSound noConflict lineSound waiterSound noneFavoured someFavoured sound
+    reply refuse refuseUnsound enterCheck
+    enter apply direct
+example = refl

@@ -1,0 +1,36 @@
+-- `close_journal` meets its contract. Assumes nothing.
+use Prim.Native.Nat.{_≤_}
+use native.Mathlib.Omega.{arith}
+use lib.ListN.{length, length-take, length-drop}
+use Rattle.board.proofs.Laws.{close-is}
+use borrow.Author.Needs.{needs}
+use Rattle.board.proofs.close_journal.Statement.{statement}
+use Rattle.board.proofs.close_journal.Tie as tie
+
+returns : tie.Need-returns
+returns c =
+    let s = c .before .before .before .before .before .before .before .before .before .before .before .before .before .before .before in
+    let l = c .before .before .before .before .before .before .before .before .before .before .last-line in
+    let o = c .before .before .order-line in
+    let h = l .ensures .1 .0 in
+    let j = l .kept .1 .1 .0 in
+    let m : 103 ≤ length (o .last .1 .0) = rw (o .kept .1 .0) (simp (length-take, length-drop) (omega (arith, h, j, s .pre .1 .1))) in (
+      close-is _ (l .result .board) (l .last .1 .1 .0) (o .last .1 .0) (l .result .out .place) (o .result)
+          (omega (arith, h, j, s .pre .1 .1)) (omega (arith, o .ensures .1, m))
+          (l .ensures .0) (o .ensures .0),
+      (omega (arith, h, o .ensures .1), l .ensures .1 .1),
+    )
+
+pub close-journal-spec : {M : Type 1} → statement M
+close-journal-spec =
+    tie.close
+    (tie.spec
+    (λ c κs. search needs)
+    (λ c. search needs)
+    (λ c. search needs)
+    (λ c. search needs)
+    (λ c κs. search needs)
+    (λ c. search needs)
+    (λ c. search needs)
+    (λ c. search needs)
+    returns)

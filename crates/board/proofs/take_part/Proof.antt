@@ -1,0 +1,157 @@
+-- `take_part` meets its contract. Assumes nothing.
+use Prim.Native.Nat.{ℕ, _+_, _-_, _≤_}
+use mathlib.Core.Path.{_≡_, refl, ap, sym, _∙_}
+use mathlib.Core.Logic.{_≢_}
+use mathlib.Core.List.{List, []}
+use mathlib.Core.Bool.{true}
+use native.Mathlib.Omega.{arith}
+use lib.ListN.{length, take, length-take}
+use Rattle.rules.specs.Soundness.{sound}
+use Rattle.board.specs.Input.{held, fed}
+use Rattle.board.proofs.Laws.{part-begins, part-ends, part-line}
+use borrow.Author.Needs.{needs}
+use Rattle.board.proofs.take_part.Statement.{statement}
+use Rattle.board.proofs.take_part.Tie as tie
+
+abbrev Inv-loop : tie.InvT-loop
+Inv-loop part kept₀ journal₀ s₀ at₀ kept journal s at =
+    (at ≤ length part) × (s .kept ≤ 408) × (s .out .place ≤ 65024) × (length kept ≡ 408) × (length journal ≡ 65536)
+    × (held (s .board) (take (s .kept) kept) (take (s .out .place) journal) ≡ fed (held (s₀ .board) (take (s₀ .kept) kept₀) []) (take at part))
+    × (sound (s .board) ≡ true) × (s .out .failed ≡ s₀ .out .failed)
+
+abbrev μ-loop : tie.MeasureT-loop
+μ-loop part kept₀ journal₀ s₀ at₀ kept journal s at = length part - at
+
+loop-holds : tie.Need-loop-holds Inv-loop μ-loop
+loop-holds c =
+    let s = c .before .before .before in
+    let a = s .args in
+    let p = s .pre in (
+      omega arith,
+      p .0 .1,
+      omega (arith, p .1 .0),
+      p .0 .2,
+      p .1 .1,
+      part-begins (a .start .board) (take (a .start .kept) (a .kept .now)) (a .journal .now) (a .part .now) (a .start .out .place) (p .1 .0),
+      p .0 .0,
+      refl,
+    )
+
+-- the part ends within a line
+returns : tie.Need-returns Inv-loop μ-loop
+returns c =
+    let s = c .before .before .before .before .before .before .before .before .before .before .before .before in
+    let a = s .args in
+    let l = c .before .before .before .before .before .before .before .before .loop in
+    let e = c .before .before .before .before .before .before .line-end in
+    let k = c .before .before .keep in
+    let j = take (l .s .out .place) (l .journal) in
+    let z : e .result ≡ length (a .part .now) = c .before .before .before .before .before .if1 .taken in (
+      ap (λ (x : List ℕ). held (l .s .board) x j) (k .ensures .0)
+          ∙ part-ends _ (l .s .board) (take (l .s .kept) (l .kept)) j (a .part .now) (l .at) (e .result)
+          (omega (arith, length-take (l .s .kept) (l .kept))) (e .ensures .0) (l .inv .5) z,
+      (
+        (l .inv .6, k .ensures .1, omega (arith, l .inv .2), l .inv .7),
+        (omega (arith, z, s .pre .1 .2), omega (arith, z), (λ h. absurd (omega (arith, z, h)))),
+      ),
+    )
+
+-- a line was served
+line-taken : (c : tie.After-struct-known Inv-loop μ-loop)
+    → let l = c .before .before .before .before .before .before .before .before .before .before .before .before .loop in
+    let a = c .before .before .before .before .before .before .before .before .before .before .before .before .before .before .before .before .args in
+    let e = c .before .before .before .before .before .before .before .before .before .before .line-end in
+    let k = c .before .before .before .before .before .end-line in
+    held (k .result .board) (take (k .result .kept) (k .last .1 .1 .0)) (take (k .result .out .place) (k .last .1 .1 .1 .0))
+    ≡ fed (held (a .start .board) (take (a .start .kept) (a .kept .now)) []) (take (e .result + 1) (a .part .now))
+line-taken c =
+    let a = c .before .before .before .before .before .before .before .before .before .before .before .before .before .before .before .before .args in
+    let l = c .before .before .before .before .before .before .before .before .before .before .before .before .loop in
+    let e = c .before .before .before .before .before .before .before .before .before .before .line-end in
+    let k = c .before .before .before .before .before .end-line in
+    let ne : e .result ≢ length (a .part .now) = c .before .before .before .before .before .before .before .before .before .if1 .left in
+    let h = e .ensures .1 in
+    rw (k .ensures .1 .1) (k .ensures .0
+    ∙ part-line _ (l .s .board) (take (l .s .kept) (l .kept)) (take (l .s .out .place) (l .journal)) (a .part .now) (l .at) (e .result)
+    (omega (arith, length-take (l .s .kept) (l .kept))) (e .ensures .0) (l .inv .5) (omega arith))
+
+same-length-3 : tie.Need-same-length-3 Inv-loop μ-loop
+same-length-3 c = c .before .before .before .before .before .before .end-line .kept .1 .1 .0 ∙ c .before .before .before .before .before .before .before .before .before .before .before .before .before .loop .inv .3 ∙ sym (c .before .before .before .before .before .before .before .before .before .before .before .before .before .before .before .before .before .pre .0 .2)
+
+same-length-4 : tie.Need-same-length-4 Inv-loop μ-loop
+same-length-4 c = c .before .before .before .before .before .before .end-line .kept .1 .1 .1 .0 ∙ c .before .before .before .before .before .before .before .before .before .before .before .before .before .loop .inv .4 ∙ sym (c .before .before .before .before .before .before .before .before .before .before .before .before .before .before .before .before .before .pre .1 .1)
+
+-- the journal has no room for another call
+returns-2 : tie.Need-returns-2 Inv-loop μ-loop
+returns-2 c =
+    let a = c .before .before .before .before .before .before .before .before .before .before .before .before .before .before .before .before .before .args in
+    let l = c .before .before .before .before .before .before .before .before .before .before .before .before .before .loop in
+    let e = c .before .before .before .before .before .before .before .before .before .before .before .line-end in
+    let k = c .before .before .before .before .before .before .end-line in
+    let ne : e .result ≢ length (a .part .now) = c .before .before .before .before .before .before .before .before .before .before .if1 .left in
+    let h = e .ensures .1 in (
+      line-taken (c .before),
+      (
+        (k .ensures .1 .0, omega (arith, k .ensures .1 .1), omega (arith, k .ensures .1 .2, l .inv .2), k .ensures .1 .3 ∙ l .inv .7),
+        (omega arith, omega arith, (λ _. omega (arith, c .if2 .taken))),
+      ),
+    )
+
+loop-again : tie.Need-loop-again Inv-loop μ-loop
+loop-again c =
+    let a = c .before .before .before .before .before .before .before .before .before .before .before .before .before .before .before .before .before .args in
+    let l = c .before .before .before .before .before .before .before .before .before .before .before .before .before .loop in
+    let e = c .before .before .before .before .before .before .before .before .before .before .before .line-end in
+    let k = c .before .before .before .before .before .before .end-line in
+    let ne : e .result ≢ length (a .part .now) = c .before .before .before .before .before .before .before .before .before .before .if1 .left in
+    let h = e .ensures .1 in (
+      omega arith,
+      omega (arith, k .ensures .1 .1),
+      omega (arith, c .if2 .left),
+      k .kept .1 .1 .0 ∙ l .inv .3,
+      k .kept .1 .1 .1 .0 ∙ l .inv .4,
+      line-taken (c .before),
+      k .ensures .1 .0,
+      k .ensures .1 .3 ∙ l .inv .7,
+    )
+
+-- the part ends with a line
+returns-3 : tie.Need-returns-3 Inv-loop μ-loop
+returns-3 c =
+    let s = c .before .before .before .before .before in
+    let l = c .before .loop in (
+      l .inv .5,
+      (
+        (l .inv .6, l .inv .1, omega (arith, l .inv .2), l .inv .7),
+        (omega (arith, s .pre .1 .2), omega arith, (λ h. absurd (omega (arith, h)))),
+      ),
+    )
+
+pub take-part-spec : {M : Type 1} → statement M
+take-part-spec =
+    tie.close
+    (tie.spec
+    Inv-loop
+    μ-loop
+    loop-holds
+    (λ c κs. search needs)
+    (λ c. search needs)
+    (λ c. search needs)
+    (λ c. search needs)
+    (λ c κs. search needs)
+    (λ c. search needs)
+    (λ c. search needs)
+    returns
+    (λ c. search needs)
+    (λ c. search needs)
+    (λ c. search needs)
+    (λ c κs. search needs)
+    (λ c. search needs)
+    same-length-3
+    same-length-4
+    returns-2
+    (λ c. search needs)
+    loop-again
+    (λ c. search needs)
+    (λ c. search needs)
+    returns-3)
