@@ -1,20 +1,55 @@
 -- Laws of a host's call, for its functions. Assumes nothing.
-use Prim.Native.Nat.{ℕ}
+use Prim.Native.Nat.{ℕ, _≤_, _<_}
 use mathlib.Core.Path.{_≡_, refl, ap, sym, _∙_}
-use mathlib.Core.List.{List}
+use mathlib.Core.List.{List, [], _++_}
 use mathlib.Core.Bool.{true, false}
-use lib.ListN.{length}
-use borrow.Author.Tests.{ne-eqb}
+use mathlib.Core.Option.{Option·getD}
+use lib.Dec.{eqb}
+use lib.ListN.{length, take, drop}
+use lib.Seq.{length-take-le, take-length}
+use borrow.Author.Tests.{ne-eqb, lt-ltb, le-ltb}
 use Rattle.files.proofs.Tests.{by-test, never}
 use Rattle.rules.specs.declared.Reply.{Reply}
 use Rattle.rules.specs.declared.Board.{Board}
+use Rattle.rules.specs.declared.Refusal.{Refusal}
+use Rattle.rules.specs.Lists.{found}
+use Rattle.rules.specs.Orders.{carried}
 use Rattle.rules.specs.Soundness.{sound}
-use Rattle.rules.specs.Replies.{refusalOf, refuseUnsound}
+use Rattle.rules.specs.Replies.{number, refusalOf, refuseUnsound}
+use Rattle.theory.specs.Calls.{take-padded}
+use Rattle.theory.specs.Carried.{of-order}
+use Rattle.theory.specs.Sound.{sound-iff}
+use Rattle.search.specs.declared.Search.{Search}
+use Rattle.search.specs.declared.Order.{Order}
+use Rattle.search.specs.Rows.{asOrder}
+use Rattle.apply.proofs.Laws.{order-count, order-at}
 use Rattle.image.specs.Image.{imageOf, loadedOf, refusedImage}
 use Rattle.image.specs.declared.Loaded.{Loaded}
 use Rattle.image.proofs.RoundTrip.{accepted}
 use Rattle.serve.specs.LineCall.{lineCall}
-use Rattle.host.specs.Host.{hostAnswer, hostImage, hostedBy, hostCall, readImage}
+use Rattle.host.specs.Host.{refusalAnswer, hostAnswer, hostImage, hostedBy, hostCall, readImage}
+use Rattle.host.specs.Host.{placedAnswer, placedIn, orderAnswer, orderBuffer}
+
+-- ---- refusals
+
+-- every refusal has a number
+pub number-some : (r : Refusal) → eqb (number r) 0 ≡ false
+number-some Refusal.NotSound = refl
+number-some Refusal.JournalFull = refl
+number-some Refusal.NoVerb = refl
+number-some Refusal.BadLength = refl
+number-some Refusal.BadNumber = refl
+number-some Refusal.BadLabel = refl
+number-some Refusal.NotRising = refl
+number-some Refusal.OutOfRange = refl
+number-some Refusal.NotAbsent = refl
+number-some Refusal.ClaimsMeet = refl
+number-some Refusal.IsAbsent = refl
+number-some Refusal.IsHeld = refl
+number-some Refusal.IsWaiting = refl
+number-some Refusal.NotClaimed = refl
+number-some Refusal.IsOpen = refl
+number-some Refusal.NotOpen = refl
 
 -- ---- reading an image, check by check
 
@@ -60,10 +95,10 @@ module _ (image line journal : List ℕ) (place : ℕ) where
 pub answer-done : (n place : ℕ) → n ≡ 0 → hostAnswer n place ≡ place
 answer-done n place e = rw e
 
-pub answer-one : (n place : ℕ) → n ≡ 1 → hostAnswer n place ≡ 18446744073709551615
+pub answer-one : (n place : ℕ) → n ≡ 1 → hostAnswer n place ≡ refusalAnswer 1
 answer-one n place e = rw e
 
-pub answer-two : (n place : ℕ) → n ≡ 2 → hostAnswer n place ≡ 18446744073709551614
+pub answer-two : (n place : ℕ) → n ≡ 2 → hostAnswer n place ≡ refusalAnswer 2
 answer-two n place e = rw e
 
 pub answer-more : (n place : ℕ) → (n ≡ 1 → ⊥) → (n ≡ 2 → ⊥) → hostAnswer n place ≡ place
@@ -96,3 +131,39 @@ host-by image line journal place n p r j k ek ok er ep ej en =
 
 pub accepted-long : (image : List ℕ) (k : Loaded) → k ≡ loadedOf image → k .ok ≡ true → length image ≡ 1155
 accepted-long image k ek ok = accepted image (ap (λ (x : Loaded). x .ok) (sym ek) ∙ ok) .long
+
+-- ---- the order of an image's board
+
+pub order-refused : (image buffer : List ℕ) → readImage image .ok ≡ false
+    → (orderAnswer image buffer ≡ refusalAnswer 1) × (orderBuffer image buffer ≡ buffer)
+unfolding orderAnswer orderBuffer
+order-refused image buffer h = (rw h, rw h)
+
+-- a sound board has an order
+pub sound-ordered : (b : Board) → sound b ≡ true → found (carried b) ≡ true
+sound-ordered b s = let (o, c) = sound-iff b .0 s .order-exists in of-order b o c
+
+-- the first n numbers of 32 are placed, or the buffer is too short for them
+pub placed-short : (at : List ℕ) (n : ℕ) (buffer : List ℕ) → n ≤ length at → length buffer < n
+    → (placedAnswer (take n at) buffer ≡ refusalAnswer 17) × (placedIn (take n at) buffer ≡ buffer)
+placed-short at n buffer h k = let e = length-take-le n at h in
+    let t = lt-ltb (length buffer) n k in (rw (e, t), rw (e, t))
+
+-- what copying the part of the order leaves
+pub placed-all : (at : List ℕ) (n : ℕ) (buffer after : List ℕ) → n ≤ length at → n ≤ length buffer
+    → after ≡ take (length (take n at)) (take n at) ++ drop (length (take n at)) buffer
+    → (n ≡ placedAnswer (take n at) buffer) × (after ≡ placedIn (take n at) buffer)
+placed-all at n buffer after h k g = let e = length-take-le n at h in let t = le-ltb (length buffer) n k in
+    (rw (e, t), rw (e, t) (g ∙ rw (take-length (take n at), e)))
+
+-- the order that was found beside a sound board
+pub order-read : (image buffer at : List ℕ) (n : ℕ) (r : Order) (k : Loaded) → k ≡ loadedOf image → k .ok ≡ true → sound (k .board) ≡ true
+    → r ≡ asOrder (carried (k .board)) → r .kind ≡ Search.Found n → r .at ≡ at
+    → (orderAnswer image buffer ≡ placedAnswer (take n at) buffer) × (orderBuffer image buffer ≡ placedIn (take n at) buffer)
+unfolding orderAnswer orderBuffer
+order-read image buffer at n r k ek ok s er en ea =
+    let e = image-sound image k ek ok s in
+    let o = Option·getD (carried (k .board)) [] in
+    let c : length o ≡ n = order-count (carried (k .board)) r n er en in
+    let t : o ≡ take n at = sym (take-padded 0 o) ∙ rw (c, order-at (carried (k .board)) r n er en, ea) in
+    (rw (e, ok, t), rw (e, ok, t))

@@ -3,28 +3,35 @@
 use Prim.Native.Nat.{ℕ, _+_, _-_, _*_, _≤_, _<_}
 use native.Mathlib.Omega.{arith}
 use mathlib.Core.Path.{_≡_, refl, sym, ap, _∙_}
-use mathlib.Core.Logic.{_⊎_, ⊎-elim}
+use mathlib.Core.Logic.{_⊎_, ⊎-elim, _≢_}
 use mathlib.Core.Bool.{true, false}
-use mathlib.Core.List.{List, _++_}
-use lib.Dec.{eqb}
+use mathlib.Core.List.{List, [], _++_}
+use lib.Dec.{eqb, leb}
 use lib.ListN.{length, getD, take, drop, length-append, List·getD-append}
 use lib.Seq.{getD-append-add, getD-take, getD-drop, length-take-le}
-use borrow.Author.Tests.{eq-eqb}
-use Rattle.files.proofs.Tests.{by-test, never}
+use borrow.Author.Tests.{eq-eqb, leb-true}
+use Rattle.files.proofs.Tests.{by-test, never, and-right, not-true}
+use Rattle.files.specs.Sets.{noFiles}
 use Rattle.rules.specs.declared.Board.{Board}
 use Rattle.rules.specs.declared.Refusal.{Refusal}
+use Rattle.rules.specs.declared.Check.{Check}
 use Rattle.rules.specs.declared.Answer.{Answer}
 use Rattle.rules.specs.declared.Line.{Line}
 use Rattle.rules.specs.declared.Reply.{Reply}
+use Rattle.rules.specs.Boards.{emptyBoard}
 use Rattle.rules.specs.Soundness.{sound}
-use Rattle.rules.specs.Replies.{number, refusalOf, refused, reply, refuse, refuseUnsound}
-use Rattle.rules.specs.Calls.{Call, Enter, Open, Close, Drop, Leave, direct}
-use Rattle.theory.specs.Worked.{direct-is-apply}
+use Rattle.rules.specs.Replies.{number, refusalOf, refused, reply, refuse, refuseUnsound, orderOf}
+use Rattle.rules.specs.Checks.{enterCheck, openCheck, leaveCheck}
+use Rattle.rules.specs.Worked.{workedFrom, worked}
+use Rattle.rules.specs.Calls.{Call, Enter, Open, Close, Drop, Leave, checked, accepted, apply, direct}
+use Rattle.theory.specs.Calls.{take-padded, by-check, apply-accepted, apply-refused}
+use Rattle.theory.specs.Worked.{worked-sound, direct-is-apply, apply-reply}
+use Rattle.theory.specs.Answers.{accepted-answered}
 use Rattle.apply.proofs.Laws.{apply-same}
 use Rattle.request.specs.declared.Reading.{Reading}
 use Rattle.request.specs.Requests.{requestOf, requestCall}
-use Rattle.request.specs.Law.{saying}
-use Rattle.request.proofs.Lines.{line-read}
+use Rattle.request.specs.Law.{InRange, saying}
+use Rattle.request.proofs.Lines.{line-read, read-line}
 use Rattle.journal.specs.Journal.{linesBytes, written}
 use Rattle.journal.proofs.Laws.{lines-length}
 use Rattle.image.specs.declared.Loaded.{Loaded}
@@ -32,10 +39,13 @@ use Rattle.image.specs.Image.{imageOf, loadedOf}
 use Rattle.image.proofs.RoundTrip.{loaded-back, loaded-again}
 use Rattle.serve.specs.LineCall.{Outcome, journalFull, linesFor, replyBy, replyTo, stopped, posted, lineCall}
 use Rattle.serve.proofs.Laws.{call-unsound, call-full, room}
-use Rattle.host.specs.Host.{hostedBy, hostCall}
+use Rattle.host.specs.Host.{hostedBy, hostCall, orderNow}
 use Rattle.host.specs.Promises.{LineDoesItsCall, LineRefused, RefusedKeepsBoard, WritesNothing, OtherBytesKept, ReadsBack}
-use Rattle.host.specs.Promises.{AcceptedIsWritten, RefusedKeepsImage}
-use Rattle.host.proofs.Laws.{image-layout, image-unsound, image-sound, image-kept}
+use Rattle.host.specs.Promises.{AcceptedIsWritten, RefusedKeepsImage, LineNeverOutOfRange, DirectOutOfRange}
+use Rattle.host.specs.Promises.{AnswerWrittenFirst, OrderCarried}
+use Rattle.host.proofs.Laws.{number-some, image-layout, image-unsound, image-sound, image-kept}
+use Rattle.host.proofs.Range.{ofLine, line-reads, notEight, range-checked}
+use Rattle.host.proofs.Answers.{by-reading, accepted-number, first-line, written-first}
 
 -- ══ Lines ══
 
@@ -53,25 +63,6 @@ line-does-its-call b c label journal place r l free =
     by-test (sound b)
     (λ s. rw (s, free, line-read c label r l) (says-reply b c ∙ direct-is-apply b c s))
     (λ s. rw s)
-
--- every refusal has a number
-number-some : (r : Refusal) → eqb (number r) 0 ≡ false
-number-some Refusal.NotSound = refl
-number-some Refusal.JournalFull = refl
-number-some Refusal.NoVerb = refl
-number-some Refusal.BadLength = refl
-number-some Refusal.BadNumber = refl
-number-some Refusal.BadLabel = refl
-number-some Refusal.NotRising = refl
-number-some Refusal.OutOfRange = refl
-number-some Refusal.NotAbsent = refl
-number-some Refusal.ClaimsMeet = refl
-number-some Refusal.IsAbsent = refl
-number-some Refusal.IsHeld = refl
-number-some Refusal.IsWaiting = refl
-number-some Refusal.NotClaimed = refl
-number-some Refusal.IsOpen = refl
-number-some Refusal.NotOpen = refl
 
 pub line-refused : LineRefused
 unfolding lineCall posted replyTo linesFor refuse reply
@@ -107,7 +98,51 @@ writes-nothing b line journal place k = by-test (sound b)
         → (lineCall b line journal place .journal ≡ journal) × (lineCall b line journal place .place ≡ place)
     same r e = (ap (λ (o : Outcome). o .journal) e, ap (λ (o : Outcome). o .place) e)
 
+-- ══ Refusal 8 ══
+
+not-eight : (r : Refusal) → notEight (Check.Failed r) ≡ true → number r ≢ 8
+not-eight r h e = never (eq-eqb (number r) 8 e) (not-true (eqb (number r) 8) h)
+
+of-line : (r : Refusal) → ofLine (Reading.Refused r) ≡ true → number r ≢ 8
+of-line r h e = let k = leb-true (number r) 7 (and-right (leb 3 (number r)) (leb (number r) 7) h) in omega (arith, k, e)
+
+direct-range : (b : Board) (c : Call) → InRange c → refusalOf (direct b c .answer) ≢ 8
+unfolding direct refuseUnsound refuse reply
+direct-range b c i e =
+    by-test (sound b)
+    (λ s. let d : refusalOf (apply b c .answer) ≡ 8 = rw s at e in by-check (checked b c)
+    (λ u. let z : 0 ≡ 8 = sym (accepted-number (accepted b c .answer) (accepted-answered b c .accepted-it))
+    ∙ sym (ap (λ (q : Reply). refusalOf (q .answer)) (apply-accepted b c u)) ∙ d in omega (arith, z))
+    (λ r u. not-eight r (ap notEight (sym u) ∙ range-checked b c i) (sym (ap (λ (q : Reply). refusalOf (q .answer)) (apply-refused b c r u)) ∙ d)))
+    (λ s. let z : 1 ≡ 8 = rw s at e in omega (arith, z))
+
+pub line-never-out-of-range : LineNeverOutOfRange
+unfolding lineCall posted replyTo refuse reply refuseUnsound
+line-never-out-of-range b line journal place e =
+    by-test (sound b)
+    (λ s. by-test (journalFull (length journal) place) (λ f. let z : 2 ≡ 8 = rw (s, f) at e in omega (arith, z))
+    (λ f. by-reading (requestOf line .reading)
+    (λ t. direct-range b (requestCall (requestOf line)) (read-line line t .range) (rw (s, f, t) at e))
+    (λ r t. of-line r (ap ofLine (sym t) ∙ line-reads line) (rw (s, f, t) at e))))
+    (λ s. let z : 1 ≡ 8 = rw s at e in omega (arith, z))
+
+empty-out : (c : Call) → checked emptyBoard c ≡ Check.Failed Refusal.OutOfRange → refusalOf (direct emptyBoard c .answer) ≡ 8
+unfolding worked workedFrom refuse reply
+empty-out c h = ap (λ (q : Reply). refusalOf (q .answer)) (direct-is-apply emptyBoard c (worked-sound [])
+    ∙ apply-refused emptyBoard c Refusal.OutOfRange h)
+
+pub direct-out-of-range : DirectOutOfRange
+unfolding leaveCheck enterCheck openCheck
+direct-out-of-range = (empty-out (Leave 0) refl, empty-out (Enter 33 noFiles noFiles) refl, empty-out (Open 1 65) refl)
+
 -- ══ The journal ══
+
+pub answer-written-first : AnswerWrittenFirst
+unfolding lineCall posted
+answer-written-first b line journal place s free =
+    let f = first-line b line in
+    rw (s, free) (ap (λ (ls : List Line). take 16 (drop place (written journal place ls))) (f .1)
+    ∙ written-first journal place _ (f .0) (let q = room (length journal) place free .1 in omega arith))
 
 written-other : (j : List ℕ) (place i : ℕ) (ls : List Line) → place ≤ length j → (i < place) ⊎ (place + 16 * length ls ≤ i)
     → getD (written j place ls) i 0 ≡ getD j i 0
@@ -139,6 +174,23 @@ other-bytes-kept b line journal place i k =
     (λ f. rw (s, f) (let q = room (length journal) place f .1 in
     written-other journal place i (linesFor (requestOf line) (replyTo b (requestOf line))) (omega arith) (rw (s, f) at k))))
     (λ s. rw s)
+
+-- ══ The order ══
+
+reply-order : (b : Board) (a : Answer) (ls : List Line) → orderOf (reply b a ls) ≡ orderNow b
+unfolding reply
+reply-order b a ls = take-padded 0 (orderNow b)
+
+apply-order : (b : Board) (c : Call) → orderOf (apply b c) ≡ orderNow (apply b c .board)
+apply-order b c = let k = apply-reply b c in ap orderOf (k .is) ∙ reply-order (apply b c .board) (apply b c .answer) (k .its-lines)
+
+pub order-carried : OrderCarried
+unfolding lineCall posted replyTo refuse reply
+order-carried b line journal place s =
+    by-test (journalFull (length journal) place) (λ f. rw (s, f) (reply-order b (Answer.Refuse Refusal.JournalFull) []))
+    (λ f. rw (s, f) (by-reading (requestOf line .reading)
+    (λ t. rw (t, direct-is-apply b (requestCall (requestOf line)) s) (apply-order b (requestCall (requestOf line))))
+    (λ r t. rw t (reply-order b (Answer.Refuse r) []))))
 
 -- ══ The image ══
 

@@ -2,23 +2,28 @@
 -- Assumes nothing.
 use Prim.Native.Nat.{ℕ, _+_, _≤_, _<_}
 use mathlib.Core.Path.{_≡_}
-use mathlib.Core.Logic.{_⊎_}
+use mathlib.Core.Logic.{_⊎_, _≢_}
 use mathlib.Core.Bool.{true, false}
 use mathlib.Core.List.{List, [], _∷_}
-use lib.ListN.{length, getD}
+use lib.ListN.{length, getD, take, drop}
+use Rattle.files.specs.Sets.{noFiles}
 use Rattle.rules.specs.declared.Board.{Board}
 use Rattle.rules.specs.declared.Refusal.{Refusal}
+use Rattle.rules.specs.declared.Answer.{Answer}
+use Rattle.rules.specs.declared.Line.{Line}
+use Rattle.rules.specs.Boards.{emptyBoard}
 use Rattle.rules.specs.Soundness.{sound}
-use Rattle.rules.specs.Replies.{number, refused, refuse}
-use Rattle.rules.specs.Calls.{Call, direct}
+use Rattle.rules.specs.Replies.{number, refusalOf, refused, wordOf, refuse, orderOf}
+use Rattle.rules.specs.Calls.{Call, Enter, Open, Leave, direct}
 use Rattle.request.specs.declared.Reading.{Reading}
+use Rattle.request.specs.declared.Request.{Request}
 use Rattle.request.specs.Requests.{requestOf, lineOf}
 use Rattle.request.specs.Law.{InRange, IsLabel}
-use Rattle.journal.specs.Journal.{written}
+use Rattle.journal.specs.Journal.{lineBytes, written}
 use Rattle.image.specs.Image.{imageOf}
 use Rattle.image.specs.Law.{BoardOfCode, Bytes}
 use Rattle.serve.specs.LineCall.{journalFull, refuseLine, lineCall}
-use Rattle.host.specs.Host.{readImage, hostCall}
+use Rattle.host.specs.Host.{readImage, hostCall, orderNow}
 
 -- ══ Lines ══
 
@@ -50,13 +55,40 @@ WritesNothing = (b : Board) (line journal : List ℕ) (place : ℕ)
     → (sound b ≡ false) ⊎ (journalFull (length journal) place ≡ true)
     → (lineCall b line journal place .journal ≡ journal) × (lineCall b line journal place .place ≡ place)
 
+-- "8 is met only in direct calls": no line call answers it, whatever the board, the line, the journal and the place ..
+abbrev pub LineNeverOutOfRange : Type 0
+LineNeverOutOfRange = (b : Board) (line journal : List ℕ) (place : ℕ) → refusalOf (lineCall b line journal place .reply .answer) ≢ 8
+
+-- .. and direct calls do meet it, on the empty board too: program 0, program 33, file 65
+abbrev pub DirectOutOfRange : Type 0
+DirectOutOfRange = (refusalOf (direct emptyBoard (Leave 0) .answer) ≡ 8)
+    × (refusalOf (direct emptyBoard (Enter 33 noFiles noFiles) .answer) ≡ 8)
+    × (refusalOf (direct emptyBoard (Open 1 65) .answer) ≡ 8)
+
 -- ══ The journal ══
+
+-- the line of an answer: its word, the program and the file of the request line, and the number of the refusal, 0 where none
+abbrev pub answerLine : Request → Answer → Line
+answerLine q a = record { word = wordOf a; program = q .program; file = q .file; refusal = refusalOf a }
+
+-- "The answer comes first", REFUSE too: the first of the lines that a call writes
+abbrev pub AnswerWrittenFirst : Type 0
+AnswerWrittenFirst = (b : Board) (line journal : List ℕ) (place : ℕ) → sound b ≡ true → journalFull (length journal) place ≡ false
+    → take 16 (drop place (lineCall b line journal place .journal))
+    ≡ lineBytes (answerLine (requestOf line) (lineCall b line journal place .reply .answer))
 
 -- "other bytes keep their contents": those before the place and from the new place on
 abbrev pub OtherBytesKept : Type 0
 OtherBytesKept = (b : Board) (line journal : List ℕ) (place i : ℕ)
     → (i < place) ⊎ (lineCall b line journal place .place ≤ i)
     → getD (lineCall b line journal place .journal) i 0 ≡ getD journal i 0
+
+-- ══ The order ══
+
+-- "Every answer carries the order of the board after the call": it is the one that a host asks for by `lock_board_order`
+abbrev pub OrderCarried : Type 0
+OrderCarried = (b : Board) (line journal : List ℕ) (place : ℕ) → sound b ≡ true
+    → orderOf (lineCall b line journal place .reply) ≡ orderNow (lineCall b line journal place .reply .board)
 
 -- ══ The image ══
 

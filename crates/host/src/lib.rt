@@ -1,10 +1,14 @@
-// The line call and the call of a C host.
+// The line call and the calls of a C host.
 use image::Loaded;
 use rules::Board;
 use rules::Reply;
+use search::Search;
 ghost use mathlib.Core.Path.{_≡_};
+ghost use Prim.Native.Nat.{_≤_};
+ghost use lib.ListN.{take};
 ghost use Rattle.serve.specs.LineCall.{lineCall};
-ghost use Rattle.host.specs.Host.{readImage, hostAnswer, hostCall, emptyAnswer, emptyImage};
+ghost use Rattle.host.specs.Host.{readImage, refusalAnswer, hostAnswer, hostCall, emptyAnswer, emptyImage};
+ghost use Rattle.host.specs.Host.{placedAnswer, placedIn, orderAnswer, orderBuffer};
 
 // What a line call gives back: the reply, with the board after it, and the new place in the journal.
 pub struct Posted {
@@ -55,15 +59,23 @@ pub fn read_image(image: &[u8]) -> Loaded
     loaded
 }
 
+// Refusal n as a C host gets it: 2^64 less its number.
+fn refusal_answer(n: u64) -> u64
+    requires { ⌜ 1 ≤ n ⌝ }
+    ensures { λ r. ⌜ r ≡ refusalAnswer n ⌝ }
+{
+    18446744073709551615 - (n - 1)
+}
+
 // What a C host gets: the largest 64-bit number for refusal 1, one less for 2, otherwise the new place.
 fn answer_for(n: u8, place: u64) -> u64
     ensures { λ r. ⌜ r ≡ hostAnswer n place ⌝ }
 {
     if n == 1 {
-        return 18446744073709551615;
+        return refusal_answer(1);
     }
     if n == 2 {
-        return 18446744073709551614;
+        return refusal_answer(2);
     }
     place
 }
@@ -110,5 +122,44 @@ pub extern "C" fn lock_board_empty(image: &mut [u8]) -> u64
     if image::put_image(image, board) {
         return 0;
     }
-    18446744073709551615
+    refusal_answer(1)
+}
+
+// Writes the first n numbers of an order from the buffer's start and answers n; a buffer shorter than that gets refusal 17.
+fn put_order(at: [u8; 32], n: usize, buffer: &mut [u8]) -> u64
+    requires { ⌜ n ≤ 32 ⌝ }
+    ensures { λ r. ⌜ r ≡ placedAnswer (take n at) (now (buffer .entry)) ⌝ }
+    ensures { λ r. ⌜ now (buffer .exit) ≡ placedIn (take n at) (now (buffer .entry)) ⌝ }
+{
+    if buffer.len() < n {
+        return refusal_answer(17);
+    }
+    bytes::copy(&at[..n], buffer);
+    n as u64
+}
+
+// The carried order of the image's board, for a C host: its program numbers from the buffer's start, and how many they are.
+// The bytes after them keep their contents. Refusals 1 and 17 write nothing.
+#[no_mangle]
+pub extern "C" fn lock_board_order(image: &[u8], order: &mut [u8]) -> u64
+    ensures { λ r. ⌜ r ≡ orderAnswer (now (image .entry)) (now (order .entry)) ⌝ }
+    ensures { λ r. ⌜ now (order .exit) ≡ orderBuffer (now (image .entry)) (now (order .entry)) ⌝ }
+{
+    let loaded = image::load(image);
+    let ok = loaded.ok;
+    if !ok {
+        return refusal_answer(1);
+    }
+    let b = loaded.board;
+    let j = sound::judge(b);
+    if !j.sound {
+        return refusal_answer(1);
+    }
+    let carried = j.order;
+    let kind = carried.kind;
+    let Search::Found(n) = kind else {
+        return refusal_answer(1);
+    };
+    let at = carried.at;
+    put_order(at, n, order)
 }

@@ -8,6 +8,7 @@ use Rattle.rules.specs.Orders.{carried}
 use Rattle.rules.specs.Replies.{refused}
 use Rattle.rules.specs.Soundness.{sound}
 use Rattle.search.specs.Rows.{asOrder}
+use Rattle.apply.proofs.Laws.{found-is}
 use Rattle.serve.proofs.Laws.{call-unsound}
 use Rattle.host.proofs.Promises.{refused-keeps-board}
 use borrow.Author.Needs.{needs}
@@ -31,13 +32,15 @@ line-requires : tie.Need-line-requires
 line-requires c κs = sure (c .before)
 
 complete-requires : tie.Need-complete-requires
-complete-requires c κs h = let l = c .before .before .before in let i = l .before .before in let a = start i .args in let k = l .line .ensures .0 in
-    let n = sym (ap (λ (x : Reply). refused (x .answer)) k) ∙ h in
-    i .before .before .judge .ensures .1 ∙ sym (ap (λ (x : Board). asOrder (carried x)) (ap (λ (x : Reply). x .board) k
-    ∙ refused-keeps-board (a .b) (a .line .now) (a .journal .now) (a .place) n))
+complete-requires c κs = let l = c .before .before .before in let i = l .before .before in let a = start i .args in let k = l .line .ensures .0 in (
+  λ h. let n = sym (ap (λ (x : Reply). refused (x .answer)) (k .0)) ∙ h in
+      i .before .before .judge .ensures .1 ∙ sym (ap (λ (x : Board). asOrder (carried x)) (ap (λ (x : Reply). x .board) (k .0)
+      ∙ refused-keeps-board (a .b) (a .line .now) (a .journal .now) (a .place) n)),
+  found-is (l .line .result .changed) k,
+)
 
 returns-2 : tie.Need-returns-2
-returns-2 c = let k = c .before .before .before .before .line .ensures in (c .complete .ensures ∙ k .0, k .1)
+returns-2 c = let k = c .before .before .before .before .line .ensures in (c .complete .ensures ∙ k .0 .0, k .1)
 
 pub line-call-spec : {M : Type 1} → statement M
 line-call-spec =

@@ -8,8 +8,9 @@ returns : tie.Need-returns
 returns c = let p = c .before .before .before .put-image in (rw (sym (p .ensures .0) ∙ c .if1 .taken), p .ensures .1)
 
 returns-2 : tie.Need-returns-2
-returns-2 c = let p = c .before .before .before .put-image in (rw (sym (p .ensures .0) ∙ c .if1 .left), p .ensures .1)
+returns-2 c = let i = c .before in let p = i .before .before .before .put-image in
+    (rw (sym (p .ensures .0) ∙ i .if1 .left) (c .refusal-answer .ensures), p .ensures .1)
 
 pub lock-board-empty-spec : {M : Type 1} → statement M
 lock-board-empty-spec =
-    tie.close (tie.spec (λ c κs. search needs) (λ c. search needs) returns (λ c. search needs) returns-2)
+    tie.close (tie.spec (λ c κs. search needs) (λ c. search needs) returns (λ c κs. search needs) (λ c. search needs) returns-2)

@@ -39,7 +39,7 @@ returns-2 c =
     let k = i .before .read-image .result in
     let ok = not-false (k .ok) (i .if1 .left) in
     let h = Laws.host-by (a .image .now) (a .line .now) (a .journal .now) (a .place) (n .result) (l .line .result .place)
-    (replyOf (l .line .result .changed)) _ k (read i .0) ok (l .line .ensures .0) (l .line .ensures .1 .0) (l .line .ensures .1 .1) (n .ensures) in
+    (replyOf (l .line .result .changed)) _ k (read i .0) ok (l .line .ensures .0 .0) (l .line .ensures .1 .0) (l .line .ensures .1 .1) (n .ensures) in
     let z = t .if2 .taken in
     let long = Laws.accepted-long (a .image .now) k (read i .0) ok in (
       sym (h .answer ∙ Laws.answer-done _ _ z),
@@ -59,7 +59,7 @@ returns-3 c =
     let a = start i .args in
     let k = i .before .read-image .result in
     let h = Laws.host-by (a .image .now) (a .line .now) (a .journal .now) (a .place) (n .result) (l .line .result .place)
-    (replyOf (l .line .result .changed)) _ k (read i .0) (not-false (k .ok) (i .if1 .left)) (l .line .ensures .0) (l .line .ensures .1 .0)
+    (replyOf (l .line .result .changed)) _ k (read i .0) (not-false (k .ok) (i .if1 .left)) (l .line .ensures .0 .0) (l .line .ensures .1 .0)
     (l .line .ensures .1 .1) (n .ensures) in (
       c .answer-for2 .ensures ∙ sym (h .answer),
       (sym (h .image-after ∙ Laws.image-kept _ _ _ (t .if2 .left)), sym (h .journal-after)),
