@@ -19,9 +19,9 @@ use prog.Routine.{Routine}
 use prog.Wp.{Heap, Calls, Loops, WpFn, Tables}
 use ghost.Atoms.{Atoms}
 use contract.Lifetimes.{Lfts}
-use contract.Monad.{Fun, fact, factI}
+use contract.Monad.{Fun, fact}
 use contract.Running.{givenOf, tables, tablesOf}
-use types.Kit.{Given, Item, Step, prop, ‵, raw, ⋆, _⊛_, some, later, _$_, _∵_, !, qed, by, move, keep, drop, use0, use1, use2, split, join}
+use types.Kit.{Given, Item, ‵, raw, ⋆, _⊛_, some, later, _$_, _∵_, !, qed, by, move, keep, drop, use1, use2, split, join}
 use types.Kit.{pick, rewrite, fsplit, fsplit3, fjoin, fjoin3, feqL, feqI, suffices, frame, await, done}
 use types.Run.{look, look-raw, init, store-raw, forget, stop, hop, fld, from, load, addr, of-opd, and-then, no-more, assigns, land, returns}
 use types.Run.{enter, alloc1, alloc0, params1, pass1, pass0, free1, free0}
@@ -54,14 +54,13 @@ use Rattle.host.specs.declared.Posted.{Posted}
 use Rattle.serve.specs.LineCall.{Outcome, lineCall}
 use Rattle.rules.proofs.Board as B
 use Rattle.rules.proofs.Board.Laws as B′
-use Rattle.rules.proofs.Reply as R
-use Rattle.rules.proofs.Reply.Laws as R′
 use Rattle.host.proofs.Posted as P
 use Rattle.host.proofs.Posted.Laws as P′
 use Rattle.host.proofs.line_call as call
 use Rattle.host.proofs.line_call.Symbol as call-def
 use Rattle.host.proofs.line_call.Symbol.{name as #host·line-call}
 use Rattle.host.proofs.line_call.Met as call-thm
+use Rattle.inplace.proofs.Laws.{board-vals, posted-vals, posted-is, board-is, says-four}
 use Rattle.inplace.proofs.line_call_in.Key.{name as #inplace·line-call-in}
 use Rattle.inplace.proofs.line_call_in as call-in
 use Rattle.inplace.proofs.line_call_in.Statement as stated
@@ -76,28 +75,6 @@ stayed = (
     (gave-slice (2 ∷ []) tt (plain (λ _. u8)), (stay-dropped (plain (λ _. u64)) yes, tt)),
   ),
 )
-
--- the machine value of a board, and of what `line_call` gives back
-abbrev board-vals : Board → List Val
-board-vals = LL.vals B.the-type B′.the-laws
-
-abbrev posted-vals : Posted → List Val
-posted-vals = LL.vals P.the-type P′.the-laws
-
--- what is known of the value that comes back holds of it as it is spelled, and of the board in it
-posted-is : (r : Posted) (w : Val) → Is P.the-row r (w ∷ []) → Is P.the-row r (posted-vals r)
-posted-is r w is = LL.owes P.the-type P′.the-laws r (LL.owed P.the-type P′.the-laws r _ is)
-
-board-is : (r : Posted) (w : Val) → Is P.the-row r (w ∷ []) → Is B.the-row (r .reply .board) (board-vals (r .reply .board))
-board-is r w is = LL.owed R.the-type R′.the-laws (r .reply) _ (LL.owed P.the-type P′.the-laws r _ is .0) .0
-
--- the four facts of the contract are shown
-says-four : {M : Type 1} {𝓤 : URA M} {H : Heap 𝓤} {A : Atoms 𝓤} {K : Type 0} {W : Given 𝓤 H A} {Γ : List (Item 𝓤)} → K
-    → {φ ψ χ ω : Type 0} {Q : SProp 𝓤} → φ → ψ → χ → ω
-    → Step K W Γ (prop Q) Γ (prop (sep 𝓤 Q (sep 𝓤 (fact 𝓤 φ) (sep 𝓤 (fact 𝓤 ψ) (sep 𝓤 (fact 𝓤 χ) (fact 𝓤 ω))))))
-says-four {𝓤 = 𝓤} {W = W} t {φ} {ψ} {χ} {ω} {Q} f g h k = suffices t Q (qed W (raw Q ∷ []) ∵ frame ! $
-    use0 W (raw (fact 𝓤 ω)) (factI 𝓤 ω (emp 𝓤) k) $ use0 W (raw (fact 𝓤 χ)) (factI 𝓤 χ (emp 𝓤) h) $ use0 W
-    (raw (fact 𝓤 ψ)) (factI 𝓤 ψ (emp 𝓤) g) $ use0 W (raw (fact 𝓤 φ)) (factI 𝓤 φ (emp 𝓤) f) $ done !)
 
 -- the contract that the proof cites
 abbrev Call : {M : Type 1} (𝓤 : URA M) (H : Heap 𝓤) (A : Atoms 𝓤) (at-mem : Memory → SProp 𝓤) (run : Routine → Fun 𝓤) → Contract 𝓤

@@ -1,0 +1,114 @@
+// Writes the answers.
+use host::Posted;
+use libc::STDOUT_FILENO;
+use rules::Answer;
+use rules::Board;
+use rules::Line;
+use rules::Reply;
+use rules::Word;
+ghost use mathlib.Core.Path.{_≡_};
+ghost use lib.ListN.{length};
+
+// The first letter of a line's word.
+fn word_letter(w: Word) -> u8 {
+    match w {
+        Word::Admit => b'A',
+        Word::Held => b'H',
+        Word::Given => b'G',
+        Word::Wait => b'W',
+        Word::Unsafe => b'U',
+        Word::Done => b'D',
+        Word::Favour => b'F',
+        Word::Refuse => b'R',
+    }
+}
+
+// The first letter of an answer's word.
+fn answer_letter(a: Answer) -> u8 {
+    match a {
+        Answer::Admit => b'A',
+        Answer::Held => b'H',
+        Answer::Given => b'G',
+        Answer::Wait => b'W',
+        Answer::Unsafe => b'U',
+        Answer::Done => b'D',
+        Answer::Refuse(_) => b'R',
+    }
+}
+
+// The four bytes of a line.
+fn line_bytes(l: Line) -> [u8; 4]
+    ensures { λ r. ⌜ length r ≡ 4 ⌝ }
+{
+    let word = l.word;
+    [word_letter(word), l.program, l.file, l.refusal]
+}
+
+// The bytes of all lines.
+fn lines_bytes(lines: [Line; 32]) -> [u8; 128] {
+    let mut bytes = [0u8; 128];
+    let mut i: usize = 0;
+    while i < 32 {
+        let four = line_bytes(lines[i]);
+        bytes[4 * i] = four[0];
+        bytes[4 * i + 1] = four[1];
+        bytes[4 * i + 2] = four[2];
+        bytes[4 * i + 3] = four[3];
+        i += 1;
+    }
+    bytes
+}
+
+// Bytes as they are.
+fn write(s: &[u8]) {
+    io::write_all(STDOUT_FILENO, s);
+}
+
+// The image of a board.
+pub fn write_image(b: Board) {
+    let mut bytes = [0u8; 1155];
+    image::put_image(&mut bytes, b);
+    write(&bytes);
+}
+
+// The answer to a direct call.
+pub fn call(r: Reply) {
+    let answer = r.answer;
+    let head = [answer.refusal(), answer_letter(answer), r.count, r.placed];
+    let lines = r.lines;
+    let bytes = lines_bytes(lines);
+    let order = r.order;
+    let board = r.board;
+    write(&head);
+    write(&bytes);
+    write(&order);
+    write_image(board);
+}
+
+// The answer to a line call: that of a direct call, the new place in decimal and byte 10, the journal.
+pub fn post(p: Posted, journal: &[u8]) {
+    call(p.reply);
+    io::print_decimal(STDOUT_FILENO, p.place);
+    write(b"\n");
+    write(journal);
+}
+
+// The answer to an image.
+pub fn load(ok: bool, b: Board) {
+    if ok {
+        write(&[1]);
+    } else {
+        write(&[0]);
+    }
+    write_image(b);
+}
+
+// The answer to a line whose label is asked; a label has at most 8 bytes, and a longer one would be told by 255.
+pub fn label(part: &[u8]) {
+    let mut n: u8 = 255;
+    if part.len() < 255 {
+        n = part.len() as u8;
+    }
+    write(&[n]);
+    write(part);
+}

@@ -1,0 +1,35 @@
+// The program `asked`: what no host can ask, for the tests. It reads records from standard input and answers each on standard output.
+//
+// A record has 33 bytes: its kind, then four numbers of 8 bytes each, lowest first: program, file, V and Q.
+// E, O, C, D, L: the direct call enter, open, close, drop or leave with these numbers, on the program's board, which starts empty.
+// i, l, p: as many bytes follow as the first number says, at most 4,096. i: an image, from which the board is read. l: a line, whose label is asked.
+// p: a line for the line call that changes the program's board in place. The second number is how much of a journal of 1,024 bytes, each of them
+// 170, is handed over, the third is the place in it.
+//
+// A call is answered with 1,319 bytes: the refusal's number or 0, the answer's word, the count of lines, that of programs in the order,
+// 32 lines of 4 bytes (word, program, file, refusal), the 32 places of the order, the reply's board as its image. A word is its first letter.
+// i is answered with 1 if the image is of its layout, 0 if not, and the board's image; l with the label's length and bytes; p as a call is, then
+// the new place in decimal and byte 10, the journal, and the image of the board that was lent.
+mod answers;
+mod lent;
+mod records;
+
+use libc::STDIN_FILENO;
+use rules::Board;
+
+// A record that is not whole ends the program.
+fn main() {
+    let mut board = Board::EMPTY;
+    let mut turns = u64::MAX;
+    while turns > 0 {
+        let mut bytes = [0u8; 33];
+        let n = io::read_full(STDIN_FILENO, &mut bytes);
+        if n < 33 {
+            return;
+        }
+        let record = records::parse(&bytes);
+        let next = records::take(board, record);
+        board = next;
+        turns -= 1;
+    }
+}

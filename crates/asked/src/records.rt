@@ -1,0 +1,144 @@
+// What a record asks, and how it is done.
+use crate::answers;
+use crate::lent;
+use crate::lent::Lent;
+use files::FileSet;
+use libc::STDIN_FILENO;
+use rules::Board;
+use rules::Reply;
+ghost use mathlib.Core.Path.{_≡_};
+ghost use Prim.Native.Nat.{_≤_};
+ghost use lib.ListN.{length};
+
+// A record: its kind and its four numbers.
+pub struct Record {
+    pub kind: u8,
+    pub program: u64,
+    pub file: u64,
+    pub writable: u64,
+    pub readable: u64,
+}
+
+// A byte as a number.
+fn wide(b: u8) -> u64 {
+    b as u64
+}
+
+// The number of some bytes, lowest first.
+fn number(part: &[u8]) -> u64 {
+    let mut n: u64 = 0;
+    let mut i = part.len();
+    while i > 0 {
+        i -= 1;
+        n = (n << 8) | wide(part[i]);
+    }
+    n
+}
+
+// The record of 33 bytes.
+pub fn parse(s: &[u8]) -> Record
+    requires { ⌜ length (now s) ≡ 33 ⌝ }
+{
+    Record {
+        kind: s[0],
+        program: number(&s[1..9]),
+        file: number(&s[9..17]),
+        writable: number(&s[17..25]),
+        readable: number(&s[25..33]),
+    }
+}
+
+// The direct call of a record; any kind but the four others is leave.
+fn call(b: Board, r: Record) -> Reply {
+    if r.kind == b'E' {
+        let writable = FileSet { bits: r.writable };
+        let readable = FileSet { bits: r.readable };
+        return calls::enter(b, r.program, writable, readable);
+    }
+    if r.kind == b'O' {
+        return calls::open(b, r.program, r.file);
+    }
+    if r.kind == b'C' {
+        return calls::close(b, r.program, r.file);
+    }
+    if r.kind == b'D' {
+        return calls::drop(b, r.program, r.file);
+    }
+    calls::leave(b, r.program)
+}
+
+// A number, but at most so much.
+fn at_most(asked: u64, most: usize) -> usize
+    ensures { λ r. ⌜ r ≤ most ⌝ }
+{
+    if asked < most as u64 {
+        return asked as usize;
+    }
+    most
+}
+
+// Reads as many bytes as are asked for and have room, and says how many there were.
+fn read_text(text: &mut [u8], asked: u64) -> usize {
+    let n = at_most(asked, text.len());
+    io::read_full(STDIN_FILENO, &mut text[..n])
+}
+
+// The first n bytes of a text.
+fn front(text: &[u8], n: usize) -> &[u8] {
+    if text.len() < n {
+        return text;
+    }
+    &text[..n]
+}
+
+// The board of the image that follows.
+fn load(asked: u64) -> Board {
+    let mut text = [0u8; 4096];
+    let n = read_text(&mut text, asked);
+    let loaded = image::load(front(&text, n));
+    let board = loaded.board;
+    answers::load(loaded.ok, board);
+    board
+}
+
+// The label of the line that follows.
+fn label(asked: u64) {
+    let mut text = [0u8; 4096];
+    let n = read_text(&mut text, asked);
+    answers::label(request::label(front(&text, n)));
+}
+
+// The line call in place, with as much of a journal as is asked for.
+fn post(b: Board, line: &[u8], journal: &mut [u8], asked: u64, place: u64) -> Lent {
+    let n = at_most(asked, journal.len());
+    lent::line_call(b, line, &mut journal[..n], place)
+}
+
+// The line call in place, with the line that follows and a journal whose bytes are all 170.
+fn in_place(b: Board, r: Record) -> Board {
+    let mut text = [0u8; 4096];
+    let mut journal = [170u8; 1024];
+    let n = read_text(&mut text, r.program);
+    let lent = post(b, front(&text, n), &mut journal, r.file, r.writable);
+    let board = lent.board;
+    answers::post(lent.posted, &journal);
+    answers::write_image(board);
+    board
+}
+
+// Does what a record asks, and gives the board after it.
+pub fn take(b: Board, r: Record) -> Board {
+    if r.kind == b'i' {
+        return load(r.program);
+    }
+    if r.kind == b'l' {
+        label(r.program);
+        return b;
+    }
+    if r.kind == b'p' {
+        return in_place(b, r);
+    }
+    let reply = call(b, r);
+    answers::call(reply);
+    reply.board
+}

@@ -1,0 +1,2 @@
+-- What the walks over a lent board share.
+pub mod Laws
