@@ -1,4 +1,4 @@
-/* The lock board, for hosts in C and C++. Link with libhost.a. */
+/* The lock board, for hosts in C and C++. Link with libhost.a, installed as liblockboard.a. */
 #ifndef LOCK_BOARD_H
 #define LOCK_BOARD_H
 
@@ -9,6 +9,8 @@
 extern "C" {
 #endif
 
+#define LOCK_BOARD_VERSION "1.0.0" /* the image's form belongs to it; see CHANGELOG.md */
+
 #define LOCK_BOARD_IMAGE_LEN     1155 /* bytes of a board's image */
 #define LOCK_BOARD_JOURNAL_ROOM  512  /* bytes of journal that a call asks for from its place on */
 #define LOCK_BOARD_JOURNAL_LINE  16   /* bytes of a journal line, byte 10 among them */
@@ -17,15 +19,17 @@ extern "C" {
 #define LOCK_BOARD_HIGHEST_PLACE 1000000000 /* highest place that a call takes */
 #define LOCK_BOARD_PROGRAMS      32
 #define LOCK_BOARD_FILES         64
+#define LOCK_BOARD_LABEL_LEN     8 /* bytes of the label in an ENTER line */
 
-/* Answers that are no place. */
-#define LOCK_BOARD_UNSOUND      UINT64_MAX       /* refusal 1 */
-#define LOCK_BOARD_JOURNAL_FULL (UINT64_MAX - 1) /* refusal 2 */
+/* The answers for refusals: 2^64 less the refusal's number. */
+#define LOCK_BOARD_UNSOUND      UINT64_MAX        /* refusal 1 */
+#define LOCK_BOARD_JOURNAL_FULL (UINT64_MAX - 1)  /* refusal 2 */
+#define LOCK_BOARD_BUFFER_SHORT (UINT64_MAX - 16) /* refusal 17 */
 
 /*
  * The numbers of the refusals; docs/REFUSALS.md has the words.
- * 3 to 7 and 9 to 16 come in a REFUSE line of the journal. 8 never comes from
- * a request line.
+ * 1, 2 and 17 come as answers, 3 to 7 and 9 to 16 in a REFUSE line of the
+ * journal. 8 never comes from a request line.
  */
 enum lock_board_refusal {
     LOCK_BOARD_REFUSAL_NOT_SOUND = 1,
@@ -43,18 +47,51 @@ enum lock_board_refusal {
     LOCK_BOARD_REFUSAL_IS_WAITING = 13,
     LOCK_BOARD_REFUSAL_NOT_CLAIMED = 14,
     LOCK_BOARD_REFUSAL_IS_OPEN = 15,
-    LOCK_BOARD_REFUSAL_NOT_OPEN = 16
+    LOCK_BOARD_REFUSAL_NOT_OPEN = 16,
+    LOCK_BOARD_REFUSAL_BUFFER_SHORT = 17
 };
 
 /*
- * For both functions:
+ * Where things stand in an image, for hosts that look at it; only the board writes it.
+ * Program p, 1 to 32, has LOCK_BOARD_PROGRAM_LEN bytes from (p - 1) * LOCK_BOARD_PROGRAM_LEN
+ * on; the six places after that one are counted from its first byte, the others from the
+ * image's. A set of files has 8 bytes, lowest first, file 1 the lowest bit. A line has 32
+ * bytes: the numbers of its programs, oldest first, then 0.
+ */
+#define LOCK_BOARD_PROGRAM_LEN  34
+#define LOCK_BOARD_WRITE_CLAIM  0    /* the set of files that it may write */
+#define LOCK_BOARD_READ_CLAIM   8    /* those that it may only read */
+#define LOCK_BOARD_WRITE_OPEN   16   /* those that it has open for writing */
+#define LOCK_BOARD_READ_OPEN    24   /* those that it has open for reading */
+#define LOCK_BOARD_STANDING     32   /* one byte, of enum lock_board_standing */
+#define LOCK_BOARD_AWAITED_FILE 33   /* one byte, the file that it waits for; 0 unless waiting */
+#define LOCK_BOARD_WAITING_LINE 1088 /* the line of the programs that wait */
+#define LOCK_BOARD_ENTRY_LINE   1120 /* the line of those that are held at entry */
+#define LOCK_BOARD_FAVOURED     1152 /* one byte, the favoured program or 0 */
+#define LOCK_BOARD_AT_FAVOURING 1153 /* one byte, the number admitted when it was favoured */
+#define LOCK_BOARD_LEAVES       1154 /* one byte, the leaves counted since */
+
+enum lock_board_standing {
+    LOCK_BOARD_ABSENT = 0,
+    LOCK_BOARD_RUNNING = 1,
+    LOCK_BOARD_WAITING = 2,
+    LOCK_BOARD_HELD = 3
+};
+
+/* Where the numbers of a journal line begin, three columns each; its word begins at 0. */
+#define LOCK_BOARD_JOURNAL_PROGRAM 6
+#define LOCK_BOARD_JOURNAL_FILE    9
+#define LOCK_BOARD_JOURNAL_REFUSAL 12
+
+/*
+ * For all functions:
  * - All buffers are the caller's. The board keeps no pointer after the call,
  *   allocates nothing and has no state of its own.
  * - No pointer may be null, not even with a length of 0. Each points to as many
  *   bytes as its length says, and no two buffers of a call overlap. All else is
  *   checked: any bytes, lengths and place are safe.
  * - Calls may run in several threads at once, but no two calls on the same
- *   image or the same journal. Allow a call 64 KB of stack.
+ *   image, journal or order. Allow a call 64 KB of stack.
  */
 
 /*
@@ -81,6 +118,17 @@ uint64_t lock_board_empty(uint8_t *image, size_t image_len);
  */
 uint64_t lock_board_line(uint8_t *image, size_t image_len, const uint8_t *line, size_t line_len,
                          uint8_t *journal, size_t journal_len, uint64_t place);
+
+/*
+ * Writes the completion order that the image's board carries into the order's
+ * buffer: the numbers of the admitted programs, a byte each, from its start on.
+ * Answers how many; LOCK_BOARD_PROGRAMS bytes are always enough. Bytes after
+ * them keep their contents. The image is only read.
+ *
+ * LOCK_BOARD_UNSOUND: as above. LOCK_BOARD_BUFFER_SHORT: order_len is less than
+ * the number of admitted programs. Nothing is written.
+ */
+uint64_t lock_board_order(const uint8_t *image, size_t image_len, uint8_t *order, size_t order_len);
 
 #ifdef __cplusplus
 }

@@ -1,12 +1,13 @@
 /*
  * Tests of the C entry.
  *
- *     entry_test NAME.in NAME.host    replays request lines: answers and sums
+ *     entry_test NAME.in NAME.host    replays request lines: answers, sums and orders
  *     entry_test                      what is refused, and what is then kept
  *
  * NAME.host has for each request line the answer, the Adler-32 of the image after
  * the call and the Adler-32 of the journal after it. Each call is handed 512 bytes
- * of journal that hold 170, and place 0.
+ * of journal that hold 170, and place 0. After each the order is compared with one
+ * that is worked out here, by the specification's words.
  */
 #include "lock_board.h"
 
@@ -54,6 +55,83 @@ static int read_line(FILE *in, uint8_t *line, size_t *len) {
     return any;
 }
 
+static void all_hold(const uint8_t *bytes, size_t len, int fill, const char *what) {
+    for (size_t i = 0; i < len; i++)
+        if (bytes[i] != fill)
+            fail(what, (unsigned long)i);
+}
+
+/* A set of an image's program: V, Q, W and R stand in this sequence, 8 bytes each, lowest first. */
+static uint64_t set_of(const uint8_t *image, int program, int which) {
+    uint64_t set = 0;
+    for (int i = 7; i >= 0; i--)
+        set = set << 8 | image[34 * (program - 1) + 8 * which + i];
+    return set;
+}
+
+static int holds_back(const uint8_t *image, int i, int j) {
+    enum { V, Q, W, R };
+    const uint64_t v = set_of(image, j, V), q = set_of(image, j, Q);
+    return (set_of(image, i, W) & (v | q)) != 0 || (set_of(image, i, R) & v) != 0;
+}
+
+/* Whether no other remaining program holds back p. */
+static int is_free(const uint8_t *image, const int *remains, int p) {
+    for (int i = 1; i <= LOCK_BOARD_PROGRAMS; i++)
+        if (i != p && remains[i] && holds_back(image, i, p))
+            return 0;
+    return 1;
+}
+
+/* The carried order: the lowest-numbered free program, then the same for the rest. */
+static size_t worked_order(const uint8_t *image, uint8_t *order) {
+    int remains[LOCK_BOARD_PROGRAMS + 1] = {0};
+    size_t admitted = 0, count = 0;
+    for (int p = 1; p <= LOCK_BOARD_PROGRAMS; p++) {
+        const int standing = image[34 * (p - 1) + 32];
+        remains[p] = standing == 1 || standing == 2; /* running or waiting */
+        admitted += (size_t)remains[p];
+    }
+    while (count < admitted) {
+        int p = 1;
+        while (p <= LOCK_BOARD_PROGRAMS && !(remains[p] && is_free(image, remains, p)))
+            p++;
+        if (p > LOCK_BOARD_PROGRAMS)
+            fail("no order, but admitted programs", (unsigned long)admitted);
+        order[count++] = (uint8_t)p;
+        remains[p] = 0;
+    }
+    return count;
+}
+
+/* Asks for an order of which len bytes are lent; those around and after what is written are kept.
+ */
+static void ask_order(const uint8_t *image, size_t image_len, size_t len, uint64_t answer,
+                      const uint8_t *order) {
+    uint8_t before[LOCK_BOARD_IMAGE_LEN + 1], buffer[LOCK_BOARD_PROGRAMS + 3];
+    const size_t written = answer <= LOCK_BOARD_PROGRAMS ? (size_t)answer : 0;
+    memcpy(before, image, image_len);
+    memset(buffer, FILL, sizeof buffer);
+    if (lock_board_order(image, image_len, buffer + 1, len) != answer)
+        fail("another answer for an order in bytes", (unsigned long)len);
+    if (memcmp(before, image, image_len) != 0)
+        fail("asking for the order changed the image of", (unsigned long)image_len);
+    if (written > 0 && memcmp(buffer + 1, order, written) != 0)
+        fail("another order, of programs", (unsigned long)answer);
+    all_hold(buffer, 1, FILL, "the byte before the order was changed");
+    all_hold(buffer + 1 + written, sizeof buffer - 1 - written, FILL, "after the order, at");
+}
+
+/* The order in a buffer that is just long enough, in a longer one, and in one byte too few. */
+static void compare_order(const uint8_t *image) {
+    uint8_t order[LOCK_BOARD_PROGRAMS];
+    const size_t count = worked_order(image, order);
+    ask_order(image, LOCK_BOARD_IMAGE_LEN, count, count, order);
+    ask_order(image, LOCK_BOARD_IMAGE_LEN, LOCK_BOARD_PROGRAMS + 1, count, order);
+    if (count > 0)
+        ask_order(image, LOCK_BOARD_IMAGE_LEN, count - 1, LOCK_BOARD_BUFFER_SHORT, order);
+}
+
 static int replay(const char *in_path, const char *host_path) {
     uint8_t image[LOCK_BOARD_IMAGE_LEN], journal[LOCK_BOARD_JOURNAL_ROOM];
     uint8_t line[LOCK_BOARD_CUT_LINE];
@@ -75,18 +153,13 @@ static int replay(const char *in_path, const char *host_path) {
             fail("another image after line", number);
         if (adler32(journal, sizeof journal) != journal_sum)
             fail("another journal after line", number);
+        compare_order(image);
     }
     if (fscanf(host, " %*s") != EOF)
         fail("an expected answer is left after line", number);
     fclose(in);
     fclose(host);
     return 0;
-}
-
-static void all_hold(const uint8_t *bytes, size_t len, int fill, const char *what) {
-    for (size_t i = 0; i < len; i++)
-        if (bytes[i] != fill)
-            fail(what, (unsigned long)i);
 }
 
 /* A call that must be refused with 1 or 2 and write nothing. */
@@ -105,6 +178,10 @@ static void refused(size_t image_len, int standing, size_t journal_len, uint64_t
     if (memcmp(image, before, sizeof image) != 0)
         fail("the image changed with place", (unsigned long)place);
     all_hold(journal, sizeof journal, FILL, "a refused call wrote to the journal at");
+    if (answer == LOCK_BOARD_UNSOUND) {
+        ask_order(image, image_len, LOCK_BOARD_PROGRAMS, answer, NULL);
+        ask_order(image, image_len, 0, answer, NULL);
+    }
 }
 
 static int edges(void) {

@@ -1,4 +1,15 @@
-/* An image that is kept in a file between sessions. */
+/*
+ * A board's image that is kept in a file, for the hosts in C, COBOL and Rust.
+ *
+ * The guarantee: whatever ends a session at whatever moment, be it a signal, a
+ * crash or a power cut, the file holds the board after the last request that was
+ * answered, or after the one that was being answered; never an older board and
+ * never a part of one. It rests on a disk that has what it says it has.
+ *
+ * For that a host saves the image after each call and before it shows the
+ * call's journal lines. A request whose answer was not seen may be sent again:
+ * if it was served, it is refused now and changes nothing.
+ */
 #ifndef IMAGE_FILE_H
 #define IMAGE_FILE_H
 
@@ -7,20 +18,34 @@
 
 /* Each function answers 0, or -1 after a message on standard error. */
 
-/* Keeps other sessions off the file until this process ends; makes FILE.lock for it. */
-int image_file_lock(const char *path);
+/*
+ * Reads an image of LOCK_BOARD_IMAGE_LEN bytes from a file. If it holds no sound
+ * board, refusal 1 is shown.
+ */
+int image_file_read(const char *path, uint8_t *image);
 
 /*
- * Reads the file into an image of LOCK_BOARD_IMAGE_LEN bytes. If there is none,
- * it is made, with the empty board. If it holds no sound board, refusal 1 is
- * shown and the file stays as it was.
+ * Takes the file for this process, until it ends, and reads it. If there is no
+ * file, it is made, with the empty board. If another process has it, that is
+ * told. A symbolic link stands for the file that it leads to. FILE.lock, made
+ * beside the file, is what is locked. A process takes one file.
  */
-int image_file_load(const char *path, uint8_t *image);
+int image_file_open(const char *path, uint8_t *image);
 
 /*
- * Replaces the file by one with the image: FILE.new is written and then renamed,
- * so that the file is at every moment either the old one or the new one.
+ * Replaces the file by one with the image, mode and owner kept, and returns when
+ * that is on the disk. FILE.new is written beside and renamed, so that the file
+ * is at every moment the old one or the new one; a FILE.new that an ended session
+ * left is removed by the next. Writes nothing if the image is what the file
+ * holds, as after a refused call, or if no file was opened.
+ *
+ * If that fails, the line, whose number is told, must not be answered. The file
+ * is then as it was; only if nothing but the folder could not be brought to the
+ * disk may it be the new one, and that is told.
  */
-int image_file_save(const char *path, const uint8_t *image);
+int image_file_save(const uint8_t *image, unsigned long line);
+
+/* The path of the file that was opened; NULL if none was. */
+const char *image_file_path(void);
 
 #endif

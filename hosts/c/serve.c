@@ -1,23 +1,27 @@
 /*
- * An example host: serves request lines from standard input through the C entry.
+ * An example host, installed as lockboard: serves request lines from standard input.
  *
- *     serve [--image FILE]    serve; FILE keeps the board between sessions
- *     serve --refusals        list the refusals and their words
+ *     lockboard [--image FILE]         serve; FILE keeps the board from session to session
+ *     lockboard --image FILE --show    show what stands on the board, and why somebody waits
+ *     lockboard --image FILE --dot     show who holds back whom, for Graphviz
+ *     lockboard --refusals             list the refusals and their words
+ *     lockboard --version              show the version, and the kit that proved the board
  *
- * The journal goes to standard output, as the program `board` writes it. Each
- * refusal is also shown in words on standard error. The ORDER line is left out:
- * the entry does not give the order.
+ * The journal goes to standard output, last the ORDER line, as the program
+ * `board` writes them. Each refusal is also shown in words on standard error.
  *
  * Exit status: 0 if every line was served, refused ones too; 1 if the image,
  * reading or writing failed; 2 for wrong arguments.
  */
-#define _POSIX_C_SOURCE 200809L
+#include "explain.h"
 #include "image_file.h"
 #include "lock_board.h"
+#include "session.h"
+#include "show.h"
+#include "version.h"
 #include "words.h"
 
 #include <errno.h>
-#include <signal.h>
 #include <stdio.h>
 #include <string.h>
 
@@ -26,53 +30,42 @@ struct session {
     uint8_t line[LOCK_BOARD_CUT_LINE]; /* the line that is being read, cut */
     size_t len;
     unsigned long number; /* lines served, the one at work among them */
+    uint8_t labels[EXPLAIN_LABELS_LEN];
 };
 
-/* A number in three columns of a journal line. */
-static int three_columns(const uint8_t *at) {
-    int number = 0;
-    for (int i = 0; i < 3; i++)
-        if (at[i] != ' ')
-            number = 10 * number + (at[i] - '0');
-    return number;
+/* Shows a text of the operator's, if there is one. */
+static void show_text(const char *text, size_t len) {
+    if (len > 0)
+        fprintf(stderr, "%.*s\n", (int)len, text);
 }
 
-static void show_refusal(unsigned long line, int refusal, int program, int file) {
-    fprintf(stderr, "line %lu: refusal %d: %s", line, refusal, refusal_words(refusal));
-    if (file)
-        fprintf(stderr, " (program %d, file %d)", program, file);
-    else if (program)
-        fprintf(stderr, " (program %d)", program);
-    fputc('\n', stderr);
-}
-
-/* Writes a call's journal lines at once, so that each answer is seen before the next request. */
-static int write_journal(const uint8_t *journal, size_t len) {
-    if (fwrite(journal, 1, len, stdout) == len && fflush(stdout) == 0)
-        return 0;
-    fprintf(stderr, "serve: the journal cannot be written: %s\n", strerror(errno));
+/* Shows the refusal that an answer tells, one that has no journal line; answers -1. */
+static int show_refusal(const struct session *s, uint64_t answer) {
+    char text[EXPLAIN_TEXT_LEN];
+    show_text(text, refusal_text(text, sizeof text, s->number, (int)(0 - answer), 0, 0));
     return -1;
 }
 
-/* Serves the line that was read. If its journal cannot be written, the board stays as before it. */
+/*
+ * Serves the line that was read. Its effect is on the disk before its journal lines are
+ * written, and these at once, so that each answer is seen before the next request.
+ */
 static int serve_line(struct session *s) {
-    uint8_t journal[LOCK_BOARD_JOURNAL_ROOM], before[LOCK_BOARD_IMAGE_LEN];
+    uint8_t journal[LOCK_BOARD_JOURNAL_ROOM];
+    char text[EXPLAIN_TEXT_LEN];
     uint64_t place;
     s->number++;
-    memcpy(before, s->image, sizeof before);
     place = lock_board_line(s->image, sizeof s->image, s->line, s->len, journal, sizeof journal, 0);
+    if (place == LOCK_BOARD_UNSOUND || place == LOCK_BOARD_JOURNAL_FULL)
+        return show_refusal(s, place);
+    if (image_file_save(s->image, s->number) < 0)
+        return -1;
+    fwrite(journal, 1, place, stdout);
+    if (session_flush(s->number) < 0)
+        return -1;
+    show_text(text, explain_answer(text, sizeof text, s->number, s->image, s->labels, s->line,
+                                   s->len, journal));
     s->len = 0;
-    if (place == LOCK_BOARD_UNSOUND || place == LOCK_BOARD_JOURNAL_FULL) {
-        show_refusal(s->number, place == LOCK_BOARD_UNSOUND ? 1 : 2, 0, 0);
-        return -1;
-    }
-    if (write_journal(journal, place) < 0) {
-        memcpy(s->image, before, sizeof before);
-        return -1;
-    }
-    if (memcmp(journal, "REFUSE", 6) == 0)
-        show_refusal(s->number, three_columns(journal + 12), three_columns(journal + 6),
-                     three_columns(journal + 9));
     return 0;
 }
 
@@ -88,35 +81,44 @@ static int serve_input(struct session *s) {
         }
     }
     if (ferror(stdin)) {
-        fprintf(stderr, "serve: the requests cannot be read: %s\n", strerror(errno));
+        fprintf(stderr, "lockboard: the requests cannot be read: %s\n", strerror(errno));
         return -1;
     }
     return s->len > 0 ? serve_line(s) : 0;
 }
 
-static int list_refusals(void) {
-    for (int refusal = 1; refusal_words(refusal); refusal++)
-        printf("%d %s\n", refusal, refusal_words(refusal));
-    return fflush(stdout) == 0 ? 0 : 1;
+/* The ORDER line, which ends a session that has served all its input. */
+static int write_order(const struct session *s) {
+    uint8_t order[LOCK_BOARD_PROGRAMS];
+    uint64_t count = lock_board_order(s->image, sizeof s->image, order, sizeof order);
+    if (count > sizeof order) /* not met: the board is sound and the buffer long enough */
+        return show_refusal(s, count);
+    fputs("ORDER ", stdout);
+    for (uint64_t i = 0; i < count; i++)
+        printf("%3d", order[i]);
+    putchar('\n');
+    return session_flush(s->number);
 }
 
 int main(int argc, char **argv) {
     struct session s = {.len = 0};
-    const char *path = argc == 3 ? argv[2] : NULL;
-    int result;
+    session_begin();
     if (argc == 2 && strcmp(argv[1], "--refusals") == 0)
         return list_refusals();
-    if (argc != 1 && !(path && strcmp(argv[1], "--image") == 0)) {
-        fprintf(stderr, "usage: serve [--image FILE | --refusals]\n");
+    if (argc == 2 && strcmp(argv[1], "--version") == 0)
+        return show_version();
+    if (argc == 4 && strcmp(argv[1], "--image") == 0 && strcmp(argv[3], "--show") == 0)
+        return show_board(argv[2]);
+    if (argc == 4 && strcmp(argv[1], "--image") == 0 && strcmp(argv[3], "--dot") == 0)
+        return show_digraph(argv[2]);
+    if (argc != 1 && !(argc == 3 && strcmp(argv[1], "--image") == 0)) {
+        fprintf(stderr,
+                "usage: lockboard [--image FILE [--show | --dot] | --refusals | --version]\n");
         return 2;
     }
-    signal(SIGPIPE, SIG_IGN); /* a closed pipe is a failed write, so that the image is saved */
-    if (!path)
+    if (argc == 1)
         lock_board_empty(s.image, sizeof s.image);
-    else if (image_file_lock(path) < 0 || image_file_load(path, s.image) < 0)
+    else if (image_file_open(argv[2], s.image) < 0)
         return 1;
-    result = serve_input(&s);
-    if (path && image_file_save(path, s.image) < 0)
-        result = -1;
-    return result < 0 ? 1 : 0;
+    return serve_input(&s) < 0 || write_order(&s) < 0 ? 1 : 0;
 }

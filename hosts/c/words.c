@@ -2,6 +2,9 @@
 
 #include "lock_board.h"
 
+#include <stdio.h>
+#include <string.h>
+
 static const char *const words[] = {
     [LOCK_BOARD_REFUSAL_NOT_SOUND] = "The image holds no sound board",
     [LOCK_BOARD_REFUSAL_JOURNAL_FULL] = "The journal has no room for the answer",
@@ -19,10 +22,32 @@ static const char *const words[] = {
     [LOCK_BOARD_REFUSAL_NOT_CLAIMED] = "The file is in neither claim",
     [LOCK_BOARD_REFUSAL_IS_OPEN] = "The program has the file open",
     [LOCK_BOARD_REFUSAL_NOT_OPEN] = "The program does not have the file open",
+    [LOCK_BOARD_REFUSAL_BUFFER_SHORT] = "The buffer is shorter than the result",
 };
 
 const char *refusal_words(int refusal) {
-    if (refusal < 1 || refusal > LOCK_BOARD_REFUSAL_NOT_OPEN)
-        return 0;
+    if (refusal < 1 || refusal >= (int)(sizeof words / sizeof words[0]))
+        return NULL;
     return words[refusal];
+}
+
+size_t refusal_text(char *text, size_t text_len, unsigned long line, int refusal, int program,
+                    int file) {
+    char whole[200], about[40] = "";
+    size_t len;
+    if (file)
+        snprintf(about, sizeof about, " (program %d, file %d)", program, file);
+    else if (program)
+        snprintf(about, sizeof about, " (program %d)", program);
+    snprintf(whole, sizeof whole, "line %lu: refusal %d: %s%s", line, refusal,
+             refusal_words(refusal), about);
+    len = strlen(whole) < text_len ? strlen(whole) : text_len;
+    memcpy(text, whole, len);
+    return len;
+}
+
+int list_refusals(void) {
+    for (int refusal = 1; refusal_words(refusal); refusal++)
+        printf("%d %s\n", refusal, refusal_words(refusal));
+    return fflush(stdout) == 0 ? 0 : 1;
 }

@@ -1,8 +1,21 @@
-/* The words of the refusals, as docs/REFUSALS.md has them. */
+/* The refusals in words, as docs/REFUSALS.md has them; all three hosts show these. */
 #ifndef WORDS_H
 #define WORDS_H
 
-/* The words of a refusal, 1 to 16; NULL for another number. */
+#include <stddef.h>
+
+/* The words of a refusal; NULL for a number that is none. */
 const char *refusal_words(int refusal);
+
+/*
+ * What the operator sees of a refused line: writes `line N: refusal R: WORDS
+ * (program P, file F)` into the text, cut to text_len bytes, without a byte 0 or
+ * 10 at its end, and answers its length. Program and file are left out where 0.
+ */
+size_t refusal_text(char *text, size_t text_len, unsigned long line, int refusal, int program,
+                    int file);
+
+/* Lists the refusals on standard output; answers 0, or 1 if that fails. */
+int list_refusals(void);
 
 #endif

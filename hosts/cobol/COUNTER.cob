@@ -2,13 +2,18 @@
        PROGRAM-ID. COUNTER.
       * An example host: a counter's driver, which serves request
       * lines from standard input.
-      *     COUNTER                serve
+      *     COUNTER [--image FILE] serve; FILE keeps the board from
+      *                            session to session
       *     COUNTER --refusals     list the refusals and their words
-      * The journal goes to standard output. The operator sees each
-      * refusal in words on standard error. There is no ORDER line:
-      * the entry does not give the order.
+      *     COUNTER --version      show the version and the kit
+      * The journal goes to standard output, last the ORDER line.
+      * The operator sees each refusal in words on standard error.
       * RETURN-CODE: 0 if every line was served, refused ones too;
-      * 1 if reading or writing failed; 2 for wrong arguments.
+      * 1 if the image, reading or writing failed; 2 for wrong
+      * arguments.
+      * The functions image_file, session, refusal_text,
+      * explain_answer, list_refusals and show_version are those of
+      * the host in C (hosts/c).
        ENVIRONMENT DIVISION.
        INPUT-OUTPUT SECTION.
        FILE-CONTROL.
@@ -23,44 +28,74 @@
        WORKING-STORAGE SECTION.
            COPY LOCKBRD.
 
-       01  ARGUMENTS               PIC X(80).
+       01  ARGUMENT-COUNT          PIC 9(4) COMP-5.
+       01  ARGUMENT                PIC X(80).
+       01  IMAGE-ARGUMENT          PIC X(4096).
+       01  IMAGE-PATH              PIC X(4097).
        01  NEXT-BYTE               PIC X.
            88  END-OF-LINE         VALUE X"0A".
        01  BYTES-READ              BINARY-LONG SIGNED.
            88  END-OF-INPUT        VALUE 0.
            88  READ-FAILED         VALUE -1.
-       01  FLUSHED                 BINARY-LONG SIGNED.
-       01  LINE-NUMBER             PIC 9(9) COMP-5 VALUE 0.
+      * What a function of the host in C answers: 0 if all went well.
+       01  OUTCOME                 BINARY-LONG SIGNED.
+       01  LINE-NUMBER             BINARY-DOUBLE UNSIGNED VALUE 0.
        01  LINE-COUNT              PIC 9(4) COMP-5.
        01  I                       PIC 9(4) COMP-5.
-       01  REFUSED-PROGRAM         PIC 9(3) COMP-5.
-       01  REFUSED-FILE            PIC 9(3) COMP-5.
-       01  EDITED-LINE             PIC Z(8)9.
-       01  EDITED-REFUSAL          PIC Z9.
-       01  EDITED-PROGRAM          PIC Z9.
-       01  EDITED-FILE             PIC Z9.
-       01  MESSAGE-TEXT            PIC X(120).
-       01  MESSAGE-END             PIC 9(4) COMP-5.
+       01  REFUSED-WITH            BINARY-LONG SIGNED.
+      * The labels of the programs that have entered.
+       01  LABELS                  PIC X(256) VALUE LOW-VALUES.
+       01  MESSAGE-SIZE            CONSTANT AS 1024.
+       01  MESSAGE-TEXT            PIC X(MESSAGE-SIZE).
+       01  MESSAGE-ROOM            BINARY-DOUBLE UNSIGNED
+                                   VALUE MESSAGE-SIZE.
+       01  MESSAGE-LEN             BINARY-LONG SIGNED.
+       01  ORDER-LINE.
+           05  FILLER              PIC X(6) VALUE "ORDER".
+           05  ORDER-COLUMNS       PIC ZZ9 OCCURS 32 TIMES.
+       01  ORDER-LINE-LEN          PIC 9(4) COMP-5.
 
        PROCEDURE DIVISION.
        MAIN-PART.
-           ACCEPT ARGUMENTS FROM COMMAND-LINE
-           EVALUATE ARGUMENTS
-               WHEN SPACES
+           CALL STATIC "session_begin" RETURNING OMITTED
+           ACCEPT ARGUMENT-COUNT FROM ARGUMENT-NUMBER
+           ACCEPT ARGUMENT FROM ARGUMENT-VALUE
+           EVALUATE ARGUMENT-COUNT ALSO ARGUMENT
+               WHEN 0 ALSO ANY
+                   CALL STATIC "lock_board_empty" USING
+                       BY REFERENCE LB-IMAGE BY VALUE LB-IMAGE-LEN
+                       RETURNING LB-ANSWER
                    PERFORM SERVE-INPUT
-               WHEN "--refusals"
-                   PERFORM LIST-REFUSALS
+               WHEN 2 ALSO "--image"
+                   PERFORM OPEN-IMAGE
+                   PERFORM SERVE-INPUT
+               WHEN 1 ALSO "--refusals"
+                   CALL STATIC "list_refusals" RETURNING RETURN-CODE
+               WHEN 1 ALSO "--version"
+                   CALL STATIC "show_version" RETURNING RETURN-CODE
                WHEN OTHER
-                   DISPLAY "usage: COUNTER [--refusals]" UPON SYSERR
+                   DISPLAY "usage: COUNTER "
+                       "[--image FILE | --refusals | --version]"
+                       UPON SYSERR
                    MOVE 2 TO RETURN-CODE
            END-EVALUATE
            STOP RUN.
 
+      * The path ends with a byte 0, as C has it.
+       OPEN-IMAGE.
+           ACCEPT IMAGE-ARGUMENT FROM ARGUMENT-VALUE
+           MOVE X"00" TO IMAGE-PATH
+           IF IMAGE-ARGUMENT NOT = SPACES
+               STRING FUNCTION TRIM (IMAGE-ARGUMENT TRAILING) X"00"
+                   DELIMITED BY SIZE INTO IMAGE-PATH
+           END-IF
+           CALL STATIC "image_file_open" USING
+               BY REFERENCE IMAGE-PATH BY REFERENCE LB-IMAGE
+               RETURNING OUTCOME
+           PERFORM STOP-IF-FAILED.
+
        SERVE-INPUT.
            OPEN OUTPUT JOURNAL-FILE
-           CALL STATIC "lock_board_empty" USING
-               BY REFERENCE LB-IMAGE BY VALUE LB-IMAGE-LEN
-               RETURNING LB-ANSWER
            PERFORM READ-BYTE
            PERFORM UNTIL END-OF-INPUT
                PERFORM READ-LINE
@@ -69,6 +104,7 @@
                    PERFORM READ-BYTE
                END-IF
            END-PERFORM
+           PERFORM WRITE-ORDER
            CLOSE JOURNAL-FILE.
 
       * The requests are read by bytes: a LINE SEQUENTIAL file would
@@ -116,67 +152,73 @@
                    PERFORM WRITE-JOURNAL
            END-EVALUATE.
 
+      * The effect of the line is on the disk before its journal
+      * lines are written.
        WRITE-JOURNAL.
+           CALL STATIC "image_file_save" USING
+               BY REFERENCE LB-IMAGE BY VALUE LINE-NUMBER
+               RETURNING OUTCOME
+           PERFORM STOP-IF-FAILED
            DIVIDE LB-ANSWER BY LB-JOURNAL-LINE-LEN GIVING LINE-COUNT
            PERFORM VARYING I FROM 1 BY 1 UNTIL I > LINE-COUNT
                WRITE JOURNAL-RECORD FROM LB-COLUMNS (I)
            END-PERFORM
            PERFORM FLUSH-JOURNAL
-           IF LB-REFUSE (1)
-               MOVE LB-JNL-REFUSAL (1) TO LB-REFUSAL
-               MOVE LB-JNL-PROGRAM (1) TO REFUSED-PROGRAM
-               MOVE LB-JNL-FILE (1) TO REFUSED-FILE
-               PERFORM SHOW-REFUSAL
-           END-IF.
+           CALL STATIC "explain_answer" USING
+               BY REFERENCE MESSAGE-TEXT BY VALUE MESSAGE-ROOM
+               BY VALUE LINE-NUMBER BY REFERENCE LB-IMAGE
+               BY REFERENCE LABELS
+               BY REFERENCE LB-REQUEST BY VALUE LB-REQUEST-LEN
+               BY REFERENCE LB-JOURNAL
+               RETURNING MESSAGE-LEN
+           PERFORM SHOW-MESSAGE.
+
+      * The ORDER line ends a session that has served all its input.
+      * It is displayed, since a LINE SEQUENTIAL file would lose the
+      * blank of an empty order.
+       WRITE-ORDER.
+           CALL STATIC "lock_board_order" USING
+               BY REFERENCE LB-IMAGE BY VALUE LB-IMAGE-LEN
+               BY REFERENCE LB-ORDER BY VALUE LB-ORDER-LEN
+               RETURNING LB-ANSWER
+           IF LB-ANSWER < 0
+               COMPUTE LB-REFUSAL = 0 - LB-ANSWER
+               PERFORM STOP-REFUSED
+           END-IF
+           PERFORM VARYING I FROM 1 BY 1 UNTIL I > LB-ANSWER
+               MOVE LB-ORDER-PROGRAM (I) TO ORDER-COLUMNS (I)
+           END-PERFORM
+           COMPUTE ORDER-LINE-LEN = 6 + 3 * LB-ANSWER
+           DISPLAY ORDER-LINE (1:ORDER-LINE-LEN)
+           PERFORM FLUSH-JOURNAL.
 
       * Each answer is to be seen before the next request, and a
       * failed write is noticed here.
        FLUSH-JOURNAL.
-           CALL STATIC "fflush" USING BY VALUE SIZE 8 0
-               RETURNING FLUSHED
-           IF FLUSHED NOT = 0
-               DISPLAY "COUNTER: the journal cannot be written"
-                   UPON SYSERR
+           CALL STATIC "session_flush" USING BY VALUE LINE-NUMBER
+               RETURNING OUTCOME
+           PERFORM STOP-IF-FAILED.
+
+      * The function that failed has said why.
+       STOP-IF-FAILED.
+           IF OUTCOME NOT = 0
                MOVE 1 TO RETURN-CODE
                STOP RUN
            END-IF.
 
-       SHOW-REFUSAL.
-           MOVE LINE-NUMBER TO EDITED-LINE
-           MOVE LB-REFUSAL TO EDITED-REFUSAL
-           MOVE REFUSED-PROGRAM TO EDITED-PROGRAM
-           MOVE REFUSED-FILE TO EDITED-FILE
-           MOVE 1 TO MESSAGE-END
-           STRING "line " FUNCTION TRIM (EDITED-LINE)
-               ": refusal " FUNCTION TRIM (EDITED-REFUSAL)
-               ": " FUNCTION TRIM (LB-WORDS (LB-REFUSAL))
-               DELIMITED BY SIZE
-               INTO MESSAGE-TEXT WITH POINTER MESSAGE-END
-           IF REFUSED-PROGRAM > 0
-               STRING " (program " FUNCTION TRIM (EDITED-PROGRAM)
-                   DELIMITED BY SIZE
-                   INTO MESSAGE-TEXT WITH POINTER MESSAGE-END
-               IF REFUSED-FILE > 0
-                   STRING ", file " FUNCTION TRIM (EDITED-FILE)
-                       DELIMITED BY SIZE
-                       INTO MESSAGE-TEXT WITH POINTER MESSAGE-END
-               END-IF
-               STRING ")" DELIMITED BY SIZE
-                   INTO MESSAGE-TEXT WITH POINTER MESSAGE-END
-           END-IF
-           DISPLAY MESSAGE-TEXT (1:MESSAGE-END - 1) UPON SYSERR.
+       SHOW-MESSAGE.
+           IF MESSAGE-LEN > 0
+               DISPLAY MESSAGE-TEXT (1:MESSAGE-LEN) UPON SYSERR
+           END-IF.
 
       * Refusals 1 and 2 have no journal line and end the session.
        STOP-REFUSED.
-           MOVE 0 TO REFUSED-PROGRAM
-           MOVE 0 TO REFUSED-FILE
-           PERFORM SHOW-REFUSAL
+           MOVE LB-REFUSAL TO REFUSED-WITH
+           CALL STATIC "refusal_text" USING
+               BY REFERENCE MESSAGE-TEXT BY VALUE MESSAGE-ROOM
+               BY VALUE LINE-NUMBER BY VALUE REFUSED-WITH
+               BY VALUE SIZE 4 0 BY VALUE SIZE 4 0
+               RETURNING MESSAGE-LEN
+           PERFORM SHOW-MESSAGE
            MOVE 1 TO RETURN-CODE
            STOP RUN.
-
-       LIST-REFUSALS.
-           PERFORM VARYING I FROM 1 BY 1 UNTIL I > LB-REFUSALS
-               MOVE I TO EDITED-REFUSAL
-               DISPLAY FUNCTION TRIM (EDITED-REFUSAL) " "
-                   FUNCTION TRIM (LB-WORDS (I))
-           END-PERFORM.

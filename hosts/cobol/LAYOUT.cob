@@ -14,6 +14,7 @@
            PERFORM TEST-ENTER
            PERFORM TEST-OPEN
            PERFORM TEST-FAVOURED
+           PERFORM TEST-ORDER
            PERFORM TEST-REFUSALS
            STOP RUN.
 
@@ -120,6 +121,41 @@
                PERFORM FAIL
            END-IF.
 
+      * 1 and 2 are admitted, 1 holds back 2; 3 is held, 4 has left.
+       TEST-ORDER.
+           MOVE "the order" TO TESTED
+           IF LENGTH OF LB-ORDER NOT = LB-ORDER-LEN
+               PERFORM FAIL
+           END-IF
+           MOVE ALL X"FF" TO LB-ORDER
+           PERFORM ASK-ORDER
+           IF LB-ANSWER NOT = 2 OR LB-ORDER-PROGRAM (1) NOT = 1
+                   OR LB-ORDER-PROGRAM (2) NOT = 2
+                   OR LB-ORDER-PROGRAM (3) NOT = 255
+               PERFORM FAIL
+           END-IF
+           MOVE ALL X"FF" TO LB-ORDER
+           MOVE 1 TO LB-ORDER-LEN
+           PERFORM ASK-ORDER
+           IF NOT LB-BUFFER-SHORT OR LB-ORDER-PROGRAM (1) NOT = 255
+               PERFORM FAIL
+           END-IF
+           COMPUTE LB-REFUSAL = 0 - LB-ANSWER
+           IF NOT LB-SHORT-BUFFER
+               PERFORM FAIL
+           END-IF
+           MOVE 2 TO LB-LEAVES
+           PERFORM ASK-ORDER
+           IF NOT LB-UNSOUND OR LB-ORDER-PROGRAM (1) NOT = 255
+               PERFORM FAIL
+           END-IF
+           MOVE 1 TO LB-LEAVES
+           MOVE 2 TO LB-ORDER-LEN
+           PERFORM ASK-ORDER
+           IF LB-ANSWER NOT = 2
+               PERFORM FAIL
+           END-IF.
+
        TEST-REFUSALS.
            MOVE "refusals" TO TESTED
            SET LB-VERB-DROP TO TRUE
@@ -148,6 +184,12 @@
                BY REFERENCE LB-REQUEST BY VALUE LB-REQUEST-LEN
                BY REFERENCE LB-JOURNAL BY VALUE LB-JOURNAL-LEN
                BY VALUE LB-PLACE
+               RETURNING LB-ANSWER.
+
+       ASK-ORDER.
+           CALL STATIC "lock_board_order" USING
+               BY REFERENCE LB-IMAGE BY VALUE LB-IMAGE-LEN
+               BY REFERENCE LB-ORDER BY VALUE LB-ORDER-LEN
                RETURNING LB-ANSWER.
 
        FAIL.

@@ -1,4 +1,4 @@
-use crate::{entry, Line, Refusal, Word, IMAGE_LEN, JOURNAL_LINE, JOURNAL_ROOM};
+use crate::{entry, Line, Refusal, Word, IMAGE_LEN, JOURNAL_LINE, JOURNAL_ROOM, PROGRAMS};
 use std::error;
 use std::fmt;
 
@@ -48,18 +48,40 @@ impl Board {
     /// assert_eq!(Board::from_image(&image[1..]), Err(Error::ImageLength(1154)));
     /// ```
     pub fn from_image(image: &[u8]) -> Result<Board, Error> {
-        let image = image
+        let image: [u8; IMAGE_LEN] = image
             .try_into()
             .map_err(|_| Error::ImageLength(image.len()))?;
-        let mut board = Board { image };
-        // An empty line is refused with 3 and changes nothing, so this tests the image alone.
-        board.serve(b"")?;
-        Ok(board)
+        match entry::order(&image, &mut [0; PROGRAMS]) {
+            entry::UNSOUND => Err(Error::Refused(Refusal::NotSound)),
+            _ => Ok(Board { image }),
+        }
     }
 
     /// The image, to keep the board until later or to hand it to another host.
     pub fn image(&self) -> &[u8; IMAGE_LEN] {
         &self.image
+    }
+
+    /// The completion order that the board carries: each admitted program once, none held back by
+    /// a later one.
+    ///
+    /// ```
+    /// use lock_board::Board;
+    ///
+    /// let mut board = Board::new();
+    /// assert_eq!(board.order(), []);
+    /// board.serve(b"ENTER   1STOCK     1  0  3")?;
+    /// board.serve(b"ENTER   2BILLS     1  0  3")?;
+    /// board.serve(b"OPEN    2  3")?;
+    /// assert_eq!(board.order(), [2, 1]);
+    /// # Ok::<(), lock_board::Error>(())
+    /// ```
+    pub fn order(&self) -> Vec<u8> {
+        let mut order = vec![0; PROGRAMS];
+        let programs = entry::order(&self.image, &mut order);
+        assert!(programs <= PROGRAMS as u64, "a sound board has an order");
+        order.truncate(programs as usize);
+        order
     }
 
     /// Serves one request line, given without its byte 10.

@@ -9,6 +9,9 @@ pub const UNSOUND: u64 = u64::MAX;
 /// The answer for refusal 2.
 pub const JOURNAL_FULL: u64 = u64::MAX - 1;
 
+/// The answer for refusal 17.
+pub const BUFFER_SHORT: u64 = u64::MAX - 16;
+
 mod c {
     extern "C" {
         pub fn lock_board_empty(image: *mut u8, image_len: usize) -> u64;
@@ -20,6 +23,12 @@ mod c {
             journal: *mut u8,
             journal_len: usize,
             place: u64,
+        ) -> u64;
+        pub fn lock_board_order(
+            image: *const u8,
+            image_len: usize,
+            order: *mut u8,
+            order_len: usize,
         ) -> u64;
     }
 }
@@ -63,4 +72,24 @@ pub fn line(image: &mut [u8], line: &[u8], journal: &mut [u8], place: u64) -> u6
             place,
         )
     }
+}
+
+/// Writes the completion order of the image's board, a byte for each admitted program, from the
+/// buffer's start on and answers how many, [`UNSOUND`] or [`BUFFER_SHORT`].
+///
+/// ```
+/// use lock_board::{entry, IMAGE_LEN, JOURNAL_ROOM, PROGRAMS};
+///
+/// let (mut image, mut journal) = ([0; IMAGE_LEN], [0; JOURNAL_ROOM]);
+/// entry::empty(&mut image);
+/// entry::line(&mut image, b"ENTER   7LISTS     0  0", &mut journal, 0);
+/// let mut order = [0; PROGRAMS];
+/// assert_eq!(entry::order(&image, &mut order), 1);
+/// assert_eq!(order[..2], [7, 0]);
+/// assert_eq!(entry::order(&image, &mut []), entry::BUFFER_SHORT);
+/// ```
+pub fn order(image: &[u8], order: &mut [u8]) -> u64 {
+    // SAFETY: the slices give pointers that are not null and their own lengths; `order` is
+    // borrowed for this call alone, so the two do not overlap.
+    unsafe { c::lock_board_order(image.as_ptr(), image.len(), order.as_mut_ptr(), order.len()) }
 }

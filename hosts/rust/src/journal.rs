@@ -70,7 +70,8 @@ impl Line {
     pub fn read(bytes: &[u8; JOURNAL_LINE]) -> Option<Line> {
         let refusal = match number(&bytes[12..15])? {
             0 => None,
-            n => Some(Refusal::from_number(n)?),
+            n @ 3..=16 => Some(Refusal::from_number(n)?),
+            _ => return None, // the others come in no line
         };
         let word = Word::read(&bytes[..6])?;
         if bytes[15] != b'\n' || (word == Word::Refuse) != refusal.is_some() {

@@ -1,4 +1,4 @@
-//! The lock board, for hosts in Rust: a safe wrapper of the two functions of `libhost.a`.
+//! The lock board, for hosts in Rust: a safe wrapper of the three functions of `libhost.a`.
 //!
 //! A [`Board`] serves request lines and gives back the journal lines of each:
 //!
@@ -31,10 +31,12 @@ mod board;
 pub mod entry;
 mod journal;
 mod refusal;
+mod view;
 
 pub use board::{Board, Error, Reply};
 pub use journal::{Line, Word};
 pub use refusal::Refusal;
+pub use view::{Favoured, Files, Program, Standing};
 
 /// The bytes of a board's image.
 pub const IMAGE_LEN: usize = 1155;
@@ -53,3 +55,9 @@ pub const LONGEST_LINE: usize = 407;
 
 /// The bytes to which a host may cut a longer request line: it is refused with the same number.
 pub const CUT_LINE: usize = 408;
+
+/// The highest number of a program, and the most programs of an order.
+pub const PROGRAMS: usize = 32;
+
+/// The highest number of a file.
+pub const FILES: usize = 64;

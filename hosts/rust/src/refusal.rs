@@ -37,11 +37,13 @@ pub enum Refusal {
     IsOpen,
     /// The file is not open by the program.
     NotOpen,
+    /// The buffer for an order is shorter than the order.
+    BufferShort,
 }
 
 impl Refusal {
     /// All refusals, by number.
-    pub const ALL: [Refusal; 16] = [
+    pub const ALL: [Refusal; 17] = [
         Refusal::NotSound,
         Refusal::JournalFull,
         Refusal::NoVerb,
@@ -58,15 +60,16 @@ impl Refusal {
         Refusal::NotClaimed,
         Refusal::IsOpen,
         Refusal::NotOpen,
+        Refusal::BufferShort,
     ];
 
-    /// The refusal with this number, 1 to 16.
+    /// The refusal with this number, 1 to 17.
     pub fn from_number(number: u8) -> Option<Refusal> {
         let place = usize::from(number).checked_sub(1)?;
         Self::ALL.get(place).copied()
     }
 
-    /// The refusal's number, 1 to 16.
+    /// The refusal's number, 1 to 17.
     pub const fn number(self) -> u8 {
         self as u8
     }
@@ -90,6 +93,7 @@ impl Refusal {
             Refusal::NotClaimed => "The file is in neither claim",
             Refusal::IsOpen => "The program has the file open",
             Refusal::NotOpen => "The program does not have the file open",
+            Refusal::BufferShort => "The buffer is shorter than the result",
         }
     }
 }

@@ -1,7 +1,7 @@
 //! Compares the library, through its C entry, with a model of document 01: on
 //! random sessions, damaged lines, damaged images and all kinds of journals.
 //! Every answer, image and journal byte is compared, with guard bytes around
-//! each buffer.
+//! each buffer. Compares also what the hosts show for a person.
 //!
 //! LOCK_BOARD_SEED chooses another seed, LOCK_BOARD_LINES another number of
 //! calls (200,000). A difference is printed as the smallest session that shows
@@ -12,5 +12,7 @@ extern crate lock_board as _;
 
 mod cases;
 mod compare;
+mod expected;
 mod generate;
 mod model;
+mod running;

@@ -215,13 +215,38 @@ fn the_entry_keeps_what_it_does_not_write() {
 }
 
 #[test]
+fn order_is_given() {
+    let mut board = board_after(&[
+        "ENTER   1STOCK     2  0  1  2",
+        "ENTER   2BILLS     2  0  1  2",
+        "ENTER   9LISTS     0  1  2",
+        "OPEN    2  2",
+    ]);
+    assert_eq!(board.order(), [2, 1, 9]);
+    board.serve(b"LEAVE   2").unwrap();
+    assert_eq!(board.order(), [1, 9]);
+    let mut order = [170; 3];
+    assert_eq!(
+        entry::order(board.image(), &mut order[..1]),
+        entry::BUFFER_SHORT
+    );
+    assert_eq!(
+        entry::order(&board.image()[1..], &mut order),
+        entry::UNSOUND
+    );
+    assert_eq!(order, [170; 3]);
+    assert_eq!(entry::order(board.image(), &mut order), 2);
+    assert_eq!(order, [1, 9, 170]);
+}
+
+#[test]
 fn refusals_have_their_numbers() {
     for (number, refusal) in (1..).zip(Refusal::ALL) {
         assert_eq!(refusal.number(), number);
         assert_eq!(Refusal::from_number(number), Some(refusal));
     }
     assert_eq!(Refusal::from_number(0), None);
-    assert_eq!(Refusal::from_number(17), None);
+    assert_eq!(Refusal::from_number(18), None);
 }
 
 #[test]
@@ -230,6 +255,8 @@ fn lines_that_are_not_in_form() {
         b"ADMIT   1  0  0 ",
         b"ADMIT   1  0  9\n",
         b"REFUSE  1  0  0\n",
+        b"REFUSE  0  0  1\n",
+        b"REFUSE  0  0  2\n",
         b"REFUSE  0  0 17\n",
         b"ORDER   1  2  3\n",
         b"admit   1  0  0\n",
@@ -256,4 +283,22 @@ fn errors_in_words() {
     );
     let length = Error::ImageLength(3);
     assert_eq!(length.to_string(), "an image has 1155 bytes, not 3");
+}
+
+#[test]
+fn words_are_those_of_the_document() {
+    let path = concat!(env!("CARGO_MANIFEST_DIR"), "/../../docs/REFUSALS.md");
+    let text = std::fs::read_to_string(path).expect("docs/REFUSALS.md");
+    let rows: Vec<(u8, &str)> = text
+        .lines()
+        .filter_map(|line| {
+            let mut columns = line.split('|').map(str::trim).skip(1);
+            Some((columns.next()?.parse().ok()?, columns.next()?))
+        })
+        .collect();
+    let wrapper: Vec<(u8, &str)> = Refusal::ALL
+        .iter()
+        .map(|refusal| (refusal.number(), refusal.words()))
+        .collect();
+    assert_eq!(wrapper, rows);
 }

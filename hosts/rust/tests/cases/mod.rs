@@ -1,10 +1,15 @@
 //! The tests, and what they share.
 
 mod bytes;
+mod direct;
+mod image_files;
 mod images;
 mod journals;
 mod program;
+mod refusals;
 mod sessions;
+mod show;
+mod survives;
 mod vectors;
 
 fn number(name: &str, default: u64) -> u64 {

@@ -11,7 +11,7 @@ fn data() -> PathBuf {
 }
 
 /// The inputs' names, without their ending.
-fn names() -> Vec<PathBuf> {
+pub fn names() -> Vec<PathBuf> {
     let mut names: Vec<PathBuf> = std::fs::read_dir(data())
         .expect("the vectors' directory")
         .map(|entry| entry.expect("a vector").path())

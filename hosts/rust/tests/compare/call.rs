@@ -1,6 +1,7 @@
 //! One line call, made of the library and of the model on the same bytes.
 
 use super::guard::Guarded;
+use super::orders::{self, Asked};
 use crate::generate::random::Random;
 use crate::model::image;
 
@@ -55,6 +56,8 @@ pub struct Outcome {
     pub answer: u64,
     pub image: Vec<u8>,
     pub journal: Vec<u8>,
+    /// The order of the image after the call.
+    pub order: Vec<Asked>,
     /// Bytes changed that no call may change.
     pub spilt: Option<&'static str>,
 }
@@ -64,6 +67,7 @@ pub fn model(image: &[u8], call: &Call) -> Outcome {
     let answer = image::line_call(&mut image, &call.line, &mut journal, call.place);
     Outcome {
         answer,
+        order: orders::model(&image),
         image,
         journal,
         spilt: None,
@@ -87,6 +91,7 @@ pub fn library(image: &[u8], call: &Call) -> Outcome {
     let (image, journal) = (image.contents().to_vec(), journal.contents().to_vec());
     Outcome {
         answer,
+        order: orders::library(&image),
         image,
         journal,
         spilt,

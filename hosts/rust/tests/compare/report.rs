@@ -100,5 +100,27 @@ fn outcome(outcome: &Outcome, call: &Call, before: &[u8]) -> String {
     if let Some(what) = outcome.spilt {
         text += &format!("  {what} changed\n");
     }
+    text + &order(outcome)
+}
+
+/// The order after the call: each answer, with its buffer.
+fn order(outcome: &Outcome) -> String {
+    let mut text = String::new();
+    for asked in &outcome.order {
+        let (len, below) = (asked.buffer.len(), asked.answer.wrapping_neg());
+        text += &match asked.answer {
+            0..=32 => format!(
+                "  order of {} in {len} bytes: {:?}\n",
+                asked.answer, asked.buffer
+            ),
+            _ => format!(
+                "  order in {len} bytes: refusal {below}, {:?}\n",
+                asked.buffer
+            ),
+        };
+        if let Some(what) = asked.spilt {
+            text += &format!("  {what} changed\n");
+        }
+    }
     text
 }

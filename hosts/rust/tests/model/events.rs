@@ -1,5 +1,5 @@
-//! "Events": the five calls with their refusals 9 to 16. Refusal 8 is met only
-//! in direct calls, which the model does not have.
+//! "Events": the five calls with their refusals 9 to 16, of programs and files
+//! in range.
 
 use super::board::{only, Board, Files, Program, Standing};
 use super::journal::{Entry, Word};

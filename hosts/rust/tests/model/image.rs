@@ -4,6 +4,7 @@ use super::board::{Board, Program, Standing, FILES, PROGRAMS};
 use super::events;
 use super::journal::Entry;
 use super::line;
+use super::order;
 use super::sound::{self, Fault};
 
 pub const LENGTH: usize = 1155;
@@ -22,9 +23,10 @@ pub const FAVOURED: usize = ENTRY_LINE + 32;
 pub const NUMBER: usize = FAVOURED + 1;
 pub const LEAVES: usize = NUMBER + 1;
 
-/// Answers of the line call.
+/// Answers for refusals: 2^64 less the number.
 pub const REFUSED_1: u64 = u64::MAX;
 pub const REFUSED_2: u64 = u64::MAX - 1;
+pub const REFUSED_17: u64 = u64::MAX - 16;
 
 /// The highest place, and the room that a call must find from the place on.
 pub const HIGHEST_PLACE: u64 = 1_000_000_000;
@@ -158,6 +160,25 @@ pub fn line_call(image: &mut [u8], request: &[u8], journal: &mut [u8], place: u6
     let from = place as usize;
     journal[from..from + bytes.len()].copy_from_slice(&bytes);
     place + bytes.len() as u64
+}
+
+/// The carried order of an image's board; none if the board is not sound.
+pub fn order_of(image: &[u8]) -> Option<Vec<usize>> {
+    order::carried(&read(image).ok()?)
+}
+
+/// The C host's order call, on an image whose order is this.
+pub fn order_call(order: Option<&[usize]>, buffer: &mut [u8]) -> u64 {
+    let Some(order) = order else {
+        return REFUSED_1;
+    };
+    if buffer.len() < order.len() {
+        return REFUSED_17;
+    }
+    for (byte, &p) in buffer.iter_mut().zip(order) {
+        *byte = p as u8;
+    }
+    order.len() as u64
 }
 
 /// The board after a line and the lines written, a refusal's one among them.

@@ -71,6 +71,15 @@ fn group(files: &[usize]) -> Result<Files, usize> {
     Ok(files.iter().fold(0, |set, &f| set | only(f)))
 }
 
+/// "The reader gives back the label as a part of the caller's line ..; for
+/// another verb or a refused line that part is empty."
+pub fn label(line: &[u8]) -> &[u8] {
+    match read(line) {
+        Ok(Request::Enter { .. }) => &line[9..17],
+        _ => &[],
+    }
+}
+
 /// The line of a request; the label is used for ENTER only.
 pub fn write(request: &Request, label: &[u8; 8]) -> Vec<u8> {
     let (verb, (p, f)) = match request {

@@ -3,6 +3,7 @@
 //! one part of the document.
 
 pub mod board;
+pub mod direct;
 pub mod events;
 pub mod image;
 pub mod journal;

@@ -1,0 +1,25 @@
+       IDENTIFICATION DIVISION.
+       PROGRAM-ID. MYHOST.
+      * A whole host in COBOL: a program enters, and the journal of
+      * that request is shown.
+       DATA DIVISION.
+       WORKING-STORAGE SECTION.
+           COPY LOCKBRD.
+       PROCEDURE DIVISION.
+       MAIN-PART.
+           CALL STATIC "lock_board_empty" USING
+               BY REFERENCE LB-IMAGE BY VALUE LB-IMAGE-LEN
+               RETURNING LB-ANSWER
+           MOVE "ENTER   1STOCK     1  0  3" TO LB-REQUEST
+           MOVE 26 TO LB-REQUEST-LEN
+           CALL STATIC "lock_board_line" USING
+               BY REFERENCE LB-IMAGE BY VALUE LB-IMAGE-LEN
+               BY REFERENCE LB-REQUEST BY VALUE LB-REQUEST-LEN
+               BY REFERENCE LB-JOURNAL BY VALUE LB-JOURNAL-LEN
+               BY VALUE LB-PLACE
+               RETURNING LB-ANSWER
+           IF LB-UNSOUND OR LB-JOURNAL-FULL
+               STOP RUN RETURNING 1
+           END-IF
+           DISPLAY LB-COLUMNS (1)
+           STOP RUN.

@@ -1,0 +1,157 @@
+#include "show.h"
+
+#include "image_file.h"
+#include "phrases.h"
+
+#include <errno.h>
+#include <stdio.h>
+#include <string.h>
+
+#define WIDTH 80 /* columns of a line */
+#define HANG  6  /* blanks before the second line of a paragraph and those after it */
+/* Bytes of the longest paragraph: 31 programs, each with up to 64 files. */
+#define PARAGRAPH_LEN 10000
+
+/* Writes a paragraph, broken at blanks. */
+static void write_paragraph(const char *text) {
+    size_t column = 0;
+    while (*text) {
+        size_t len = strspn(text, " ");
+        len += strcspn(text + len, " ");
+        if (column > 0 && column + len > WIDTH) {
+            printf("\n%*s", HANG - 1, "");
+            column = HANG - 1;
+        }
+        printf("%.*s", (int)len, text);
+        column += len;
+        text += len;
+    }
+    putchar('\n');
+}
+
+/* `program 1 runs: writes file 1; may still write files 2, 3` */
+static void show_admitted(const struct board_view *view) {
+    int any = 0;
+    for (int p = 1; p <= LOCK_BOARD_PROGRAMS; p++) {
+        const struct program_view *program = &view->programs[p];
+        const uint64_t write = program->write_claim & ~program->write_open;
+        const uint64_t read = program->read_claim & ~program->read_open;
+        const char *standing = program->standing == LOCK_BOARD_RUNNING ? "runs" : "waits";
+        char bytes[PARAGRAPH_LEN];
+        struct text text = {bytes, sizeof bytes, 0};
+        if (!is_admitted(program))
+            continue;
+        if (!any)
+            puts("Admitted:");
+        any = 1;
+        say(&text, "  program %d %s: ", p, standing);
+        say_open(&text, program);
+        say(&text, write || read ? "; may still " : "; may open nothing more");
+        say_uses(&text, "write", write, "read", read);
+        write_paragraph(bytes);
+    }
+    if (!any)
+        puts("Admitted: nobody");
+}
+
+/* `; held back by program 1 (file 1), program 3 (files 2, 4)` */
+static void say_holders(struct text *text, const struct board_view *view, int p) {
+    const char *before = "; held back by";
+    for (int i = 1; i <= LOCK_BOARD_PROGRAMS; i++) {
+        const uint64_t files = holds_back_in(&view->programs[i], &view->programs[p]);
+        if (i == p || !files)
+            continue;
+        say(text, "%s program %d (", before, i);
+        say_files(text, files);
+        say(text, ")");
+        before = ",";
+    }
+}
+
+static void show_waiting(const struct board_view *view) {
+    puts(view->waiting_line[0] ? "Waiting, oldest first:" : "Waiting: nobody");
+    for (const uint8_t *p = view->waiting_line; *p; p++) {
+        char bytes[PARAGRAPH_LEN];
+        struct text text = {bytes, sizeof bytes, 0};
+        say(&text, "  program %d ", *p);
+        if (say_wait(&text, NULL, view, *p) == 0)
+            say_holders(&text, view, *p);
+        write_paragraph(bytes);
+    }
+}
+
+static void show_favoured(const struct board_view *view) {
+    if (!view->favoured)
+        puts("Favoured: nobody");
+    else
+        printf("Favoured: program %d (leaves until it gets file %d: at most %d)\n", view->favoured,
+               view->programs[view->favoured].awaited, leaves_to_come(view));
+}
+
+/* `NAME: programs 1, 2`: the programs of a list that ends with 0. */
+static void show_list(const char *name, const uint8_t *programs) {
+    char bytes[PARAGRAPH_LEN];
+    struct text text = {bytes, sizeof bytes, 0};
+    say(&text, "%s: ", name);
+    if (programs[0])
+        say_programs(&text, NULL, programs);
+    else
+        say(&text, "nobody");
+    write_paragraph(bytes);
+}
+
+static int written(void) {
+    if (fflush(stdout) == 0 && !ferror(stdout))
+        return 0;
+    if (errno != EPIPE) /* a reader that has seen enough */
+        fprintf(stderr, "the board cannot be shown: %s\n", strerror(errno));
+    return 1;
+}
+
+int show_board(const char *path) {
+    uint8_t image[LOCK_BOARD_IMAGE_LEN], order[LOCK_BOARD_PROGRAMS + 1] = {0};
+    struct board_view view;
+    if (image_file_read(path, image) < 0)
+        return 1;
+    board_view_read(&view, image);
+    lock_board_order(image, sizeof image, order, LOCK_BOARD_PROGRAMS);
+    show_admitted(&view);
+    show_waiting(&view);
+    show_favoured(&view);
+    show_list("Held at entry, oldest first", view.entry_line);
+    show_list("Completion order", order);
+    return written();
+}
+
+/* The edges from program i: `1 -> 2 [label="file 1"];` */
+static void show_edges(const struct board_view *view, int i) {
+    for (int j = 1; j <= LOCK_BOARD_PROGRAMS; j++) {
+        const uint64_t files = holds_back_in(&view->programs[i], &view->programs[j]);
+        char bytes[PARAGRAPH_LEN];
+        struct text text = {bytes, sizeof bytes, 0};
+        if (i == j || !is_admitted(&view->programs[j]) || !files)
+            continue;
+        say_files(&text, files);
+        printf("    %d -> %d [label=\"%s\"];\n", i, j, bytes);
+    }
+}
+
+int show_digraph(const char *path) {
+    uint8_t image[LOCK_BOARD_IMAGE_LEN];
+    struct board_view view;
+    if (image_file_read(path, image) < 0)
+        return 1;
+    board_view_read(&view, image);
+    puts("digraph lock_board {");
+    for (int p = 1; p <= LOCK_BOARD_PROGRAMS; p++) {
+        const struct program_view *program = &view.programs[p];
+        if (program->standing == LOCK_BOARD_RUNNING)
+            printf("    %d [label=\"program %d\\nruns\"];\n", p, p);
+        else if (program->standing == LOCK_BOARD_WAITING)
+            printf("    %d [label=\"program %d\\nwaits for file %d\"];\n", p, p, program->awaited);
+    }
+    for (int p = 1; p <= LOCK_BOARD_PROGRAMS; p++)
+        show_edges(&view, p);
+    puts("}");
+    return written();
+}

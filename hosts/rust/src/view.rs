@@ -1,0 +1,185 @@
+//! What stands on a board, read from its image by the layout that `include/lock_board.h` describes.
+
+use crate::{Board, FILES, PROGRAMS};
+
+/// Bytes of one program, and where its fields begin in them.
+const PROGRAM_LEN: usize = 34;
+const WRITE_CLAIM: usize = 0;
+const READ_CLAIM: usize = 8;
+const WRITE_OPEN: usize = 16;
+const READ_OPEN: usize = 24;
+const STANDING: usize = 32;
+const AWAITED_FILE: usize = 33;
+/// Where the rest of the image begins.
+const WAITING_LINE: usize = 1088;
+const ENTRY_LINE: usize = 1120;
+const FAVOURED: usize = 1152;
+const AT_FAVOURING: usize = 1153;
+const LEAVES: usize = 1154;
+
+/// A set of files.
+#[derive(Clone, Copy, Debug, Default, PartialEq, Eq, Hash)]
+pub struct Files(u64);
+
+impl Files {
+    /// Whether the file is in the set. A number that is no file is in none.
+    pub fn has(self, file: u8) -> bool {
+        (1..=FILES).contains(&usize::from(file)) && self.0 >> (file - 1) & 1 != 0
+    }
+
+    /// Whether no file is in the set.
+    pub fn is_empty(self) -> bool {
+        self.0 == 0
+    }
+
+    /// The files, rising.
+    pub fn iter(self) -> impl Iterator<Item = u8> {
+        (1..=FILES as u8).filter(move |&file| self.has(file))
+    }
+
+    /// The set as bits: file 1 is the lowest.
+    pub fn bits(self) -> u64 {
+        self.0
+    }
+}
+
+/// How a program stands.
+#[derive(Clone, Copy, Debug, PartialEq, Eq, Hash)]
+pub enum Standing {
+    /// It has not entered, or has left.
+    Absent,
+    /// It is admitted and runs.
+    Running,
+    /// It is admitted and waits for this file.
+    Waiting(u8),
+    /// It is held at entry.
+    Held,
+}
+
+/// A program on the board.
+#[derive(Clone, Copy, Debug, PartialEq, Eq, Hash)]
+pub struct Program {
+    /// Its number, 1 to 32.
+    pub number: u8,
+    /// How it stands.
+    pub standing: Standing,
+    /// The files that it may write.
+    pub write_claim: Files,
+    /// The files that it may only read.
+    pub read_claim: Files,
+    /// The files that it has open for writing.
+    pub write_open: Files,
+    /// The files that it has open for reading.
+    pub read_open: Files,
+}
+
+impl Program {
+    /// Whether it is admitted: running or waiting.
+    pub fn is_admitted(&self) -> bool {
+        matches!(self.standing, Standing::Running | Standing::Waiting(_))
+    }
+
+    /// The files in which this program holds back another one; none if it does not. It does if it
+    /// writes a file that the other claims, or reads one that the other may write.
+    pub fn holds_back(&self, other: &Program) -> Files {
+        let claimed = other.write_claim.0 | other.read_claim.0;
+        Files(self.write_open.0 & claimed | self.read_open.0 & other.write_claim.0)
+    }
+}
+
+/// The favoured program, and what its wait is counted by.
+#[derive(Clone, Copy, Debug, PartialEq, Eq, Hash)]
+pub struct Favoured {
+    /// Its number.
+    pub program: u8,
+    /// How many programs were admitted when it was favoured.
+    pub at_favouring: u8,
+    /// The leaves since.
+    pub leaves: u8,
+}
+
+impl Favoured {
+    /// The leaves that are still to come, at most, until it gets its file.
+    pub fn leaves_to_come(&self) -> u8 {
+        self.at_favouring
+            .saturating_sub(1)
+            .saturating_sub(self.leaves)
+    }
+}
+
+impl Board {
+    /// The program with this number, 1 to 32.
+    pub fn program(&self, number: u8) -> Option<Program> {
+        let place = usize::from(number).checked_sub(1)?;
+        let mut programs = self.image().chunks_exact(PROGRAM_LEN).take(PROGRAMS);
+        let bytes = programs.nth(place)?;
+        let set = |at: usize| {
+            bytes[at..at + 8]
+                .iter()
+                .rfold(0, |set, &b| set << 8 | u64::from(b))
+        };
+        Some(Program {
+            number,
+            standing: match bytes[STANDING] {
+                0 => Standing::Absent,
+                1 => Standing::Running,
+                2 => Standing::Waiting(bytes[AWAITED_FILE]),
+                _ => Standing::Held,
+            },
+            write_claim: Files(set(WRITE_CLAIM)),
+            read_claim: Files(set(READ_CLAIM)),
+            write_open: Files(set(WRITE_OPEN)),
+            read_open: Files(set(READ_OPEN)),
+        })
+    }
+
+    /// The programs that have entered, by number.
+    ///
+    /// ```
+    /// use lock_board::{Board, Standing};
+    ///
+    /// let mut board = Board::new();
+    /// board.serve(b"ENTER   1PRICES    1  0  1")?;
+    /// board.serve(b"ENTER   2ORDERS    1  1  2  1")?;
+    /// board.serve(b"OPEN    2  1")?;
+    /// board.serve(b"OPEN    1  1")?;
+    /// let programs: Vec<_> = board.programs().collect();
+    /// assert_eq!(programs[0].standing, Standing::Waiting(1));
+    /// assert_eq!(programs[1].read_open.iter().collect::<Vec<_>>(), [1]);
+    /// assert!(programs[1].holds_back(&programs[0]).has(1));
+    /// assert_eq!(board.waiting_line(), [1]);
+    /// # Ok::<(), lock_board::Error>(())
+    /// ```
+    pub fn programs(&self) -> impl Iterator<Item = Program> + '_ {
+        (1..=PROGRAMS as u8)
+            .filter_map(|number| self.program(number))
+            .filter(|program| program.standing != Standing::Absent)
+    }
+
+    /// The programs that wait, oldest first.
+    pub fn waiting_line(&self) -> &[u8] {
+        self.line(WAITING_LINE)
+    }
+
+    /// The programs that are held at entry, oldest first.
+    pub fn entry_line(&self) -> &[u8] {
+        self.line(ENTRY_LINE)
+    }
+
+    /// The favoured program, if there is one.
+    pub fn favoured(&self) -> Option<Favoured> {
+        let image = self.image();
+        (image[FAVOURED] != 0).then_some(Favoured {
+            program: image[FAVOURED],
+            at_favouring: image[AT_FAVOURING],
+            leaves: image[LEAVES],
+        })
+    }
+
+    /// A line up to its first 0.
+    fn line(&self, at: usize) -> &[u8] {
+        let line = &self.image()[at..at + PROGRAMS];
+        let end = line.iter().position(|&program| program == 0);
+        &line[..end.unwrap_or(line.len())]
+    }
+}

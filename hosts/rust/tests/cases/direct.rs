@@ -1,0 +1,401 @@
+//! The five direct calls with any numbers, on boards sound and unsound, the
+//! labels of lines, and line calls on a lent board, through the program
+//! `asked`. LOCK_BOARD_ASKED names the program; else it is the one built here,
+//! and the tests that run it are left out if there is none.
+
+use super::{calls, seed};
+use crate::compare::asked::{Asking, Record};
+use crate::compare::call::Call;
+use crate::compare::counters::Counters;
+use crate::compare::programs;
+use crate::generate::images::{pool, DAMAGES};
+use crate::generate::random::Random;
+use crate::generate::sessions::{wild, Cast, PROFILES};
+use crate::generate::{lines, scripts};
+use crate::model::board::{only, Files};
+use crate::model::direct::{self, Reply};
+use crate::model::events::Request;
+use crate::model::journal::Word;
+use crate::model::{image, line};
+use std::path::{Path, PathBuf};
+
+/// Numbers at the edges of programs and files, and such as would be in range
+/// if they lost their upper bits.
+const NUMBERS: [usize; 21] = [
+    0,
+    1,
+    2,
+    3,
+    31,
+    32,
+    33,
+    63,
+    64,
+    65,
+    255,
+    256,
+    256 + 1,
+    256 + 64,
+    (1 << 16) + 1,
+    1 << 32,
+    (1 << 32) + 1,
+    (1 << 32) + 64,
+    1 << 63,
+    usize::MAX - 31,
+    usize::MAX,
+];
+
+fn path() -> Option<PathBuf> {
+    programs::find("LOCK_BOARD_ASKED", "asked")
+}
+
+fn count(reply: &Reply, met: &mut Counters) {
+    met.calls += 1;
+    if reply.refusal != 0 {
+        met.add(&format!("refusal {}", reply.refusal));
+    }
+    for line in &reply.lines {
+        met.add(std::str::from_utf8(line.word.text()).unwrap().trim_end());
+    }
+    if reply.lines.len() == 32 {
+        met.add("32 lines");
+    }
+}
+
+fn assert_refusals(met: &Counters, numbers: impl Iterator<Item = usize>) {
+    for number in numbers {
+        let name = format!("refusal {number}");
+        assert!(met.get(&name) > 0, "{name} not met");
+    }
+}
+
+#[test]
+fn direct_calls_agree() {
+    let mut random = Random::new(seed() ^ 0x7777);
+    let Some(path) = path() else {
+        return;
+    };
+    let (mut met, mut round) = (Counters::default(), 0);
+    while met.calls < calls() / 5 {
+        let profile = &PROFILES[round % PROFILES.len()];
+        let (cast, mut asking) = (Cast::new(profile, &mut random), Asking::new());
+        for at in 0..profile.length {
+            let board = image::read(&asking.board).expect("a sound board");
+            let request = cast.request(&board, at, &mut random);
+            count(&asking.call(astray(request, &mut random)), &mut met);
+        }
+        asking.check(&path);
+        for script in [
+            scripts::readers_behind_writer,
+            scripts::held_behind_favoured,
+        ] {
+            let mut asking = Asking::new();
+            for request in script(&mut random) {
+                count(&asking.call(request), &mut met);
+            }
+            asking.check(&path);
+        }
+        round += 1;
+    }
+    met.print("direct calls");
+    assert_refusals(&met, 8..=16);
+    for word in Word::ALL.iter().filter(|&&word| word != Word::Refuse) {
+        let name = std::str::from_utf8(word.text()).unwrap().trim_end();
+        assert!(met.get(name) > 0, "{name} not met");
+    }
+    assert_eq!(met.get("refusal 1"), 0);
+    assert!(met.get("32 lines") > 0, "no call has 32 lines");
+}
+
+/// The request; now and then with another number or with claims that may meet.
+fn astray(request: Request, random: &mut Random) -> Request {
+    if !random.per_mille(60) {
+        return request;
+    }
+    let (p, f) = request.numbers();
+    let [p, f] = [p, f].map(|number| match random.below(4) {
+        0 => NUMBERS[random.below(NUMBERS.len())],
+        1 => random.next() as usize,
+        _ => number,
+    });
+    match request {
+        Request::Enter { v, q, .. } => Request::Enter {
+            p,
+            v: v | random.next() & random.next(),
+            q,
+        },
+        Request::Open { .. } => Request::Open { p, f },
+        Request::Close { .. } => Request::Close { p, f },
+        Request::Drop { .. } => Request::Drop { p, f },
+        Request::Leave { .. } => Request::Leave { p },
+    }
+}
+
+/// The set of some files.
+fn set(files: &[usize]) -> Files {
+    files.iter().fold(0, |set, &f| set | only(f))
+}
+
+fn enter(p: usize, v: &[usize], q: &[usize]) -> Request {
+    let (v, q) = (set(v), set(q));
+    Request::Enter { p, v, q }
+}
+
+/// 01's session as direct calls; all but the last leave a program running, one
+/// waiting and one held.
+fn session() -> Vec<Request> {
+    vec![
+        enter(1, &[1, 2, 3], &[]),
+        enter(2, &[1, 2], &[]),
+        Request::Open { p: 1, f: 1 },
+        Request::Open { p: 1, f: 3 },
+        Request::Open { p: 2, f: 2 },
+        Request::Close { p: 1, f: 3 },
+        enter(3, &[], &[2]),
+        Request::Leave { p: 1 },
+    ]
+}
+
+/// The board after some calls, none of them refused.
+fn board_after(requests: &[Request]) -> Vec<u8> {
+    let mut asking = Asking::new();
+    for request in requests {
+        assert_eq!(asking.call(*request).refusal, 0, "{request:?}");
+    }
+    asking.board
+}
+
+/// Every call with every pair of the numbers, on the empty board, on one with
+/// running, waiting and held programs, and on one with the last program and
+/// the last file.
+#[test]
+fn direct_calls_agree_on_edges() {
+    let Some(path) = path() else {
+        return;
+    };
+    let session = session();
+    let last = [enter(32, &[64], &[63]), Request::Open { p: 32, f: 64 }];
+    let boards = [&[], &session[..7], &last[..]].map(board_after);
+    let mut met = Counters::default();
+    for board in boards {
+        let mut asking = Asking::new();
+        for request in edges() {
+            asking.add(Record::Image(board.clone()));
+            count(&asking.call(request), &mut met);
+        }
+        asking.check(&path);
+    }
+    met.print("direct edges");
+    assert_refusals(&met, 8..=16);
+}
+
+/// Every call with the numbers; enter with sets that meet and that do not.
+fn edges() -> Vec<Request> {
+    const SETS: [Files; 5] = [0, 1, 1 << 63, Files::MAX >> 1, Files::MAX];
+    let mut all = Vec::new();
+    for p in NUMBERS {
+        all.push(Request::Leave { p });
+        for f in NUMBERS {
+            all.push(Request::Open { p, f });
+            all.push(Request::Close { p, f });
+            all.push(Request::Drop { p, f });
+        }
+        for v in SETS {
+            all.extend(SETS.map(|q| Request::Enter { p, v, q }));
+        }
+    }
+    all
+}
+
+/// Images, sound and damaged, each with some calls on the board read from it.
+#[test]
+fn direct_calls_agree_on_images() {
+    let mut random = Random::new(seed() ^ 0x8888);
+    let Some(path) = path() else {
+        return;
+    };
+    let images = pool(1000, &mut random);
+    let (mut met, mut round) = (Counters::default(), 0);
+    while met.calls < calls() / 10 {
+        let mut asking = Asking::new();
+        for _ in 0..100 {
+            let mut image = images[random.below(images.len())].clone();
+            let board = image::layout(&image).expect("a sound image").0;
+            DAMAGES[round % DAMAGES.len()](&mut image, &board, &mut random);
+            follow(image, &mut asking, &mut random, &mut met);
+            round += 1;
+        }
+        asking.check(&path);
+    }
+    met.print("direct images");
+    assert_refusals(&met, [1, 8].into_iter());
+    for name in ["refused image", "unsound board", "sound board"] {
+        assert!(met.get(name) > 0, "no {name}");
+    }
+}
+
+/// The board of an image, and three calls on it.
+fn follow(image: Vec<u8>, asking: &mut Asking, random: &mut Random, met: &mut Counters) {
+    met.add(match (direct::load(&image), image::read(&image)) {
+        (Err(_), _) => "refused image",
+        (Ok(_), Err(_)) => "unsound board",
+        (Ok(_), Ok(_)) => "sound board",
+    });
+    asking.add(Record::Image(image));
+    let cast = Cast::new(&PROFILES[0], random);
+    for at in 0..3 {
+        let request = match image::read(&asking.board) {
+            Ok(board) => cast.request(&board, at, random),
+            Err(_) => wild(random),
+        };
+        count(&asking.call(astray(request, random)), met);
+    }
+}
+
+/// Line calls on a lent board, in sessions and on damaged images; now and then
+/// a direct call between them.
+#[test]
+fn line_calls_on_a_lent_board_agree() {
+    let mut random = Random::new(seed() ^ 0xAAAA);
+    let Some(path) = path() else {
+        return;
+    };
+    let (images, mut met, mut round) = (pool(200, &mut random), Counters::default(), 0);
+    while met.calls < calls() / 10 {
+        let cast = Cast::new(&PROFILES[round % PROFILES.len()], &mut random);
+        let mut asking = Asking::new();
+        for at in 0..200 {
+            if let Ok(board) = image::read(&asking.board) {
+                let request = cast.request(&board, at, &mut random);
+                count(&lent(request, &mut asking, &mut random), &mut met);
+            } else {
+                count(&lent(wild(&mut random), &mut asking, &mut random), &mut met);
+                asking.add(Record::Image(Asking::new().board));
+            }
+            if random.per_mille(20) {
+                let mut image = images[random.below(images.len())].clone();
+                let board = image::layout(&image).expect("a sound image").0;
+                DAMAGES[random.below(DAMAGES.len())](&mut image, &board, &mut random);
+                asking.add(Record::Image(image));
+            }
+        }
+        asking.check(&path);
+        round += 1;
+    }
+    met.print("lent boards");
+    assert_refusals(&met, (1..=7).chain(9..=16));
+}
+
+/// A request as a line on the lent board; one in ten as a direct call.
+fn lent(request: Request, asking: &mut Asking, random: &mut Random) -> Reply {
+    if random.per_mille(100) {
+        return asking.call(request);
+    }
+    let mut text = lines::text(&request, random);
+    if random.per_mille(60) {
+        lines::damage(&mut text, random);
+    }
+    asking.line(lines::call(text, random))
+}
+
+/// Lines with the label that 01 gives each, if it has one.
+const LABELS: [(&[u8], &[u8]); 16] = [
+    (b"ENTER   1STOCK     1  0  3", b"STOCK   "),
+    (b"ENTER  32        0  0", b""),
+    (b"ENTER  32          0  0", b"        "),
+    (b"ENTER   1 a~!1234  0  1 64", b" a~!1234"),
+    // taken by the reader, and refused by the board: V and Q meet
+    (b"ENTER   1MEETING   1  1  3  3", b"MEETING "),
+    // refused: 3, 4, 5, 6, 7
+    (b"enter   1STOCK     1  0  3", b""),
+    (b"ENTER", b""),
+    (b"", b""),
+    (b"ENTER   1STOCK     1  0  3 ", b""),
+    (b"ENTER   1STOCK     1  0", b""),
+    (b"ENTER   0STOCK     1  0  3", b""),
+    (b"ENTER   1STO\x1FK     1  0  3", b""),
+    (b"ENTER   1STOCK     2  0  3  3", b""),
+    // other verbs
+    (b"OPEN    1  1", b""),
+    (b"LEAVE   1", b""),
+    (b"OPEN    1STOCK     1  0  3", b""),
+];
+
+#[test]
+fn labels_are_parts_of_lines() {
+    for (text, label) in LABELS {
+        assert_eq!(line::label(text), label, "{}", text.escape_ascii());
+    }
+    let Some(path) = path() else {
+        return;
+    };
+    let mut asking = Asking::new();
+    // Program 1 is on the board, so that it refuses these lines with 9.
+    asking.call(enter(1, &[1], &[]));
+    for (text, _) in LABELS {
+        asking.add(Record::Label(text.to_vec()));
+        assert_eq!(asking.call(enter(1, &[], &[])).refusal, 9);
+    }
+    asking.check(&path);
+}
+
+#[test]
+fn labels_agree() {
+    let mut random = Random::new(seed() ^ 0x9999);
+    let Some(path) = path() else {
+        return;
+    };
+    let (mut asking, mut met) = (Asking::new(), Counters::default());
+    while met.calls < calls() / 10 {
+        let mut text = lines::text(&wild(&mut random), &mut random);
+        if random.per_mille(400) {
+            lines::damage(&mut text, &mut random);
+        }
+        met.calls += 1;
+        met.add(match (line::read(&text), line::label(&text).is_empty()) {
+            (Ok(Request::Enter { .. }), false) => "label",
+            (Ok(_), true) => "another verb",
+            (Err(_), true) => "refused line",
+            _ => "wrong label",
+        });
+        asking.add(Record::Label(text));
+    }
+    asking.check(&path);
+    met.print("labels");
+    for name in ["label", "another verb", "refused line"] {
+        assert!(met.get(name) > 1000, "too few: {name}");
+    }
+    assert_eq!(met.get("wrong label"), 0);
+}
+
+/// What crates/asked is run on when it is proved, and what it must write, are
+/// the model's: 01's session, a number out of range, a line on the lent board,
+/// a board that is not sound, labels. LOCK_BOARD_WRITE=1 writes both files anew.
+#[test]
+fn records_of_the_crate_are_the_models() {
+    let mut asking = Asking::new();
+    for request in session() {
+        asking.call(request);
+    }
+    asking.call(Request::Open {
+        p: 2,
+        f: (1 << 32) + 1,
+    });
+    asking.line(Call::plain(b"LEAVE   2"));
+    let mut image = asking.board.clone();
+    image[image::FAVOURED] = 2;
+    asking.add(Record::Image(image));
+    assert_eq!(asking.call(Request::Leave { p: 2 }).refusal, 1);
+    asking.add(Record::Label(LABELS[0].0.to_vec()));
+    asking.add(Record::Label(LABELS[1].0.to_vec()));
+    let (input, output) = asking.bytes();
+    let folder = Path::new(env!("CARGO_MANIFEST_DIR")).join("../../crates/asked");
+    for (name, bytes) in [("stdin", input), ("stdout", output)] {
+        let file = folder.join(name);
+        if std::env::var_os("LOCK_BOARD_WRITE").is_some() {
+            std::fs::write(&file, &bytes).expect("the file is written");
+        }
+        let found = std::fs::read(&file).unwrap_or_default();
+        assert!(found == bytes, "{} is not the model's", file.display());
+    }
+}

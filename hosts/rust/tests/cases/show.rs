@@ -1,0 +1,295 @@
+//! --show and --dot of the C host, and the views of the Rust wrapper, on boards
+//! of the vectors and of the examples: all of the text is compared.
+
+use super::vectors;
+use crate::expected::phrases::users;
+use crate::expected::show::{dot, edges, show};
+use crate::model::board::{only, Board, Files, Program, Standing};
+use crate::model::{image, program};
+use crate::running::whole::{file, run};
+use crate::running::{built, HOSTS};
+use lock_board::{Files as ViewedFiles, Standing as ViewedStanding};
+use std::ffi::OsStr;
+use std::path::{Path, PathBuf};
+
+/// The text that the C host writes of a board with this argument.
+fn shown(file: &Path, argument: &str, board: &Board) -> String {
+    let image = image::write(board);
+    std::fs::write(file, &image).expect("the image is written");
+    let arguments = [
+        OsStr::new("--image"),
+        file.as_os_str(),
+        OsStr::new(argument),
+    ];
+    let output = run(&built(HOSTS[0]), &arguments, b"");
+    let errors = String::from_utf8_lossy(&output.stderr);
+    assert!(
+        output.status.success() && errors.is_empty(),
+        "{argument}: {errors}"
+    );
+    assert_eq!(
+        std::fs::read(file).unwrap(),
+        image,
+        "{argument} changed the image"
+    );
+    String::from_utf8(output.stdout).expect("plain text")
+}
+
+/// The examples' requests.
+fn examples() -> Vec<PathBuf> {
+    let folder = Path::new(env!("CARGO_MANIFEST_DIR")).join("../../examples");
+    let files = std::fs::read_dir(folder).expect("the examples");
+    let mut paths: Vec<PathBuf> = files.map(|file| file.unwrap().path()).collect();
+    paths.retain(|path| path.extension().is_none());
+    paths.sort();
+    assert!(!paths.is_empty());
+    paths
+}
+
+/// The boards after each request of an input that was not refused, the empty one first.
+fn boards(input: &[u8]) -> Vec<Board> {
+    let mut boards = vec![Board::EMPTY];
+    for line in program::requests(input) {
+        let board = image::step(boards.last().unwrap(), line).0;
+        if board != *boards.last().unwrap() {
+            boards.push(board);
+        }
+    }
+    boards
+}
+
+/// Boards of all the examples, of short vectors, and some of each long one.
+fn chosen_boards() -> Vec<Board> {
+    let mut chosen = longest_texts();
+    for path in examples().into_iter().chain(vectors::names()) {
+        let all = boards(&std::fs::read(path).unwrap());
+        let step = 1 + all.len() / 40;
+        chosen.extend(all.into_iter().rev().step_by(step));
+    }
+    chosen
+}
+
+fn admitted(standing: Standing, v: Files, q: Files, w: Files, r: Files) -> Program {
+    Program {
+        standing,
+        v,
+        q,
+        w,
+        r,
+    }
+}
+
+/// The boards with the longest texts: one with 32 readers of all files, and one
+/// where 31 readers of 63 files hold back a program that waits for the last.
+fn longest_texts() -> Vec<Board> {
+    let last = only(64);
+    let mut all_read = Board::EMPTY;
+    let mut one_waits = Board::EMPTY;
+    for p in 1..=32 {
+        *all_read.get_mut(p) = admitted(Standing::Running, 0, !0, 0, !0);
+        *one_waits.get_mut(p) = admitted(Standing::Running, 0, !0, 0, !last);
+    }
+    *one_waits.get_mut(32) = admitted(Standing::Waiting(64), !0, 0, 0, 0);
+    one_waits.waiting.push(32);
+    for board in [&all_read, &one_waits] {
+        assert!(image::read(&image::write(board)).is_ok(), "a sound board");
+    }
+    vec![all_read, one_waits]
+}
+
+/// What a board has that the text must tell.
+fn met(board: &Board) -> Vec<&'static str> {
+    let mut met = Vec::new();
+    for &p in &board.waiting {
+        let Standing::Waiting(f) = board.get(p).standing else {
+            unreachable!("a waiter waits");
+        };
+        let users = users(board, p);
+        met.push(match users.as_slice() {
+            [] => "no order would be left",
+            [user] if board.get(*user).w & only(f) != 0 => "a writer has the file",
+            [_] => "a reader has the file",
+            _ => "several readers have the file",
+        });
+    }
+    if board.waiting.len() > 1 && !board.waiting.is_sorted() {
+        met.push("a waiting line out of number");
+    }
+    if board.entry.len() > 1 && !board.entry.is_sorted() {
+        met.push("an entry line out of number");
+    }
+    if board.favoured != 0 {
+        met.push(if board.leaves > 0 {
+            "leaves counted"
+        } else {
+            "nobody left yet"
+        });
+    }
+    if board.admitted().is_empty() {
+        met.push("nobody admitted");
+    }
+    met
+}
+
+const TO_MEET: [&str; 9] = [
+    "no order would be left",
+    "a writer has the file",
+    "a reader has the file",
+    "several readers have the file",
+    "a waiting line out of number",
+    "an entry line out of number",
+    "leaves counted",
+    "nobody left yet",
+    "nobody admitted",
+];
+
+#[test]
+#[ignore = "runs the hosts: hosts/test show"]
+fn show_agrees() {
+    let file = file("show.image");
+    let mut all_met = Vec::new();
+    let chosen = chosen_boards();
+    for board in &chosen {
+        let text = shown(&file, "--show", board);
+        assert_eq!(text, show(board));
+        assert!(text.lines().all(|line| line.len() <= 80), "{text}");
+        all_met.extend(met(board));
+    }
+    for what in TO_MEET {
+        assert!(all_met.contains(&what), "no board: {what}");
+    }
+    println!("shown: {} boards", chosen.len());
+}
+
+#[test]
+#[ignore = "runs the hosts: hosts/test show"]
+fn dot_agrees() {
+    let file = file("dot.image");
+    let mut found = 0;
+    for board in &chosen_boards() {
+        let text = shown(&file, "--dot", board);
+        assert_eq!(text, dot(board));
+        let graph = graph(&text).unwrap_or_else(|| panic!("no graph:\n{text}"));
+        assert_eq!(graph, (board.admitted(), edges(board)));
+        found += graph.1.len();
+    }
+    assert!(found > 0);
+}
+
+/// A word, a sign or a quoted text of Graphviz's language, and what comes after it.
+fn token(text: &str) -> Option<(&str, &str)> {
+    let text = text.trim_start();
+    let end = match text.chars().next()? {
+        '"' => 2 + text[1..].find('"')?,
+        '-' if text.starts_with("->") => 2,
+        '{' | '}' | '[' | ']' | '=' | ';' => 1,
+        first if first.is_alphanumeric() || first == '_' => text
+            .find(|c: char| !c.is_alphanumeric() && c != '_')
+            .unwrap_or(text.len()),
+        _ => return None,
+    };
+    Some(text.split_at(end))
+}
+
+/// The nodes and the edges of a digraph in Graphviz's language, each with a label.
+fn graph(text: &str) -> Option<(Vec<usize>, Vec<(usize, usize)>)> {
+    let (mut tokens, mut rest) = (Vec::new(), text);
+    while !rest.trim().is_empty() {
+        let (token, after) = token(rest)?;
+        tokens.push(token);
+        rest = after;
+    }
+    let statements = match tokens.as_slice() {
+        ["digraph", _, "{", statements @ .., "}"] => statements,
+        _ => return None,
+    };
+    let (mut nodes, mut edges) = (Vec::new(), Vec::new());
+    for statement in statements.split_inclusive(|&token| token == ";") {
+        match statement {
+            [node, "[", "label", "=", label, "]", ";"] if label.starts_with('"') => {
+                nodes.push(node.parse().ok()?);
+            }
+            [i, "->", j, "[", "label", "=", label, "]", ";"] if label.starts_with('"') => {
+                edges.push((i.parse().ok()?, j.parse().ok()?));
+            }
+            _ => return None,
+        }
+    }
+    Some((nodes, edges))
+}
+
+/// A program as the wrapper views it.
+fn same_program(viewed: &lock_board::Program, program: &Program) -> bool {
+    let standing = match viewed.standing {
+        ViewedStanding::Absent => Standing::Absent,
+        ViewedStanding::Running => Standing::Running,
+        ViewedStanding::Waiting(f) => Standing::Waiting(f.into()),
+        ViewedStanding::Held => Standing::Held,
+    };
+    let bits = ViewedFiles::bits;
+    let (v, q) = (bits(viewed.write_claim), bits(viewed.read_claim));
+    let (w, r) = (bits(viewed.write_open), bits(viewed.read_open));
+    Program {
+        standing,
+        v,
+        q,
+        w,
+        r,
+    } == *program
+}
+
+fn numbers(line: &[u8]) -> Vec<usize> {
+    line.iter().map(|&p| p.into()).collect()
+}
+
+#[test]
+fn views_agree() {
+    let mut compared = 0;
+    for path in examples().into_iter().chain(vectors::names()) {
+        for board in boards(&std::fs::read(path).unwrap()) {
+            let viewed = lock_board::Board::from_image(&image::write(&board)).unwrap();
+            same_views(&viewed, &board);
+            compared += 1;
+        }
+    }
+    assert!(compared > 1000);
+}
+
+fn same_views(viewed: &lock_board::Board, board: &Board) {
+    for p in 1..=32 {
+        let program = viewed.program(p).expect("a program's number");
+        assert_eq!(program.number, p);
+        assert!(same_program(&program, board.get(p.into())));
+        assert_eq!(program.is_admitted(), board.get(p.into()).admitted());
+    }
+    assert_eq!((viewed.program(0), viewed.program(33)), (None, None));
+    let entered = board.which(|program| program.standing != Standing::Absent);
+    let programs: Vec<_> = viewed.programs().collect();
+    assert_eq!(
+        programs
+            .iter()
+            .map(|p| p.number.into())
+            .collect::<Vec<usize>>(),
+        entered
+    );
+    for i in &programs {
+        for j in programs.iter().filter(|j| j.number != i.number) {
+            let held = crate::expected::show::held_in(board, i.number.into(), j.number.into());
+            assert_eq!(i.holds_back(j).bits(), held);
+        }
+    }
+    assert_eq!(numbers(viewed.waiting_line()), board.waiting);
+    assert_eq!(numbers(viewed.entry_line()), board.entry);
+    let favoured = viewed
+        .favoured()
+        .map_or((0, 0, 0), |f| (f.program, f.at_favouring, f.leaves));
+    let bytes = |(p, number, leaves): (u8, u8, u8)| (p.into(), number.into(), leaves.into());
+    assert_eq!(
+        bytes(favoured),
+        (board.favoured, board.number, board.leaves)
+    );
+    if let Some(favoured) = viewed.favoured() {
+        let left = board.number - 1 - board.leaves;
+        assert_eq!(usize::from(favoured.leaves_to_come()), left);
+    }
+}

@@ -1,0 +1,239 @@
+//! The program `asked`, which makes direct calls, asks for labels and lends its
+//! board to line calls: a list of its records, and the model's answers compared
+//! with the program's. The form of both is told in crates/asked/src/main.rt.
+
+use super::call::Call;
+use super::programs;
+use crate::model::board::{Board, PROGRAMS};
+use crate::model::direct::{self, Reply};
+use crate::model::events::Request;
+use crate::model::journal::{Entry, Word};
+use crate::model::{image, line};
+use std::fmt;
+use std::path::Path;
+
+#[derive(Clone)]
+pub enum Record {
+    Call(Request),
+    Image(Vec<u8>),
+    Label(Vec<u8>),
+    /// The line call on a lent board; the journal's bytes are the program's.
+    Line(Call),
+}
+
+impl Record {
+    pub fn bytes(&self) -> Vec<u8> {
+        let (kind, numbers, text): (_, _, &[u8]) = match self {
+            Record::Call(request) => (kind(request), numbers(request), &[]),
+            Record::Image(text) => (b'i', [text.len() as u64, 0, 0, 0], text),
+            Record::Label(text) => (b'l', [text.len() as u64, 0, 0, 0], text),
+            Record::Line(call) => {
+                let text = &call.line;
+                let numbers = [text.len() as u64, call.journal as u64, call.place, 0];
+                (b'p', numbers, text)
+            }
+        };
+        let mut bytes = vec![kind];
+        bytes.extend(numbers.iter().flat_map(|number| number.to_le_bytes()));
+        bytes.extend(text);
+        bytes
+    }
+
+    /// The model's answer, and the board after it.
+    fn answer(&self, board: &mut Vec<u8>) -> Vec<u8> {
+        match self {
+            Record::Call(request) => {
+                let reply = direct::call(board, request);
+                board.clone_from(&reply.image);
+                reply_bytes(&reply)
+            }
+            Record::Image(text) => {
+                let loaded = direct::load(text);
+                let ok = u8::from(loaded.is_ok());
+                *board = loaded.unwrap_or_else(|empty| empty);
+                [&[ok], board.as_slice()].concat()
+            }
+            Record::Label(text) => {
+                let label = line::label(text);
+                [&[label.len() as u8], label].concat()
+            }
+            Record::Line(call) => {
+                let (reply, place, journal) = lent_line(board, call);
+                board.clone_from(&reply.image);
+                let place = format!("{place}\n");
+                [&reply_bytes(&reply), place.as_bytes(), &journal, board].concat()
+            }
+        }
+    }
+}
+
+impl fmt::Display for Record {
+    fn fmt(&self, to: &mut fmt::Formatter) -> fmt::Result {
+        match self {
+            Record::Call(request) => write!(to, "{request:?}"),
+            Record::Image(text) => write!(to, "Image {}", text.escape_ascii()),
+            Record::Label(text) => write!(to, "Label {}", text.escape_ascii()),
+            Record::Line(call) => {
+                let line = call.line.escape_ascii();
+                write!(
+                    to,
+                    "Line {line} (journal {}, place {})",
+                    call.journal, call.place
+                )
+            }
+        }
+    }
+}
+
+/// The model's line call with the journal that the program has: 1,024 bytes of
+/// 170, of which so many are handed over as the call says.
+fn lent_line(board: &[u8], call: &Call) -> (Reply, u64, Vec<u8>) {
+    let mut journal = vec![170; 1024];
+    let room = call.journal.min(journal.len());
+    let (reply, place) = direct::line_call(board, &call.line, &mut journal[..room], call.place);
+    (reply, place, journal)
+}
+
+fn kind(request: &Request) -> u8 {
+    match request {
+        Request::Enter { .. } => b'E',
+        Request::Open { .. } => b'O',
+        Request::Close { .. } => b'C',
+        Request::Drop { .. } => b'D',
+        Request::Leave { .. } => b'L',
+    }
+}
+
+/// Program, file, V and Q.
+fn numbers(request: &Request) -> [u64; 4] {
+    let ((p, f), (v, q)) = match *request {
+        Request::Enter { v, q, .. } => (request.numbers(), (v, q)),
+        _ => (request.numbers(), (0, 0)),
+    };
+    [p as u64, f as u64, v, q]
+}
+
+fn letter(word: Word) -> u8 {
+    word.text()[0]
+}
+
+/// A reply as the program writes it; after the last line stand lines of ADMIT
+/// and zeros, after the order's last program zeros.
+fn reply_bytes(reply: &Reply) -> Vec<u8> {
+    let [refusal, count, placed] = [reply.refusal, reply.lines.len(), reply.order.len()];
+    let mut bytes = vec![refusal as u8, letter(reply.word), count as u8, placed as u8];
+    let mut lines = reply.lines.clone();
+    lines.resize(PROGRAMS, Entry::new(Word::Admit, 0, 0));
+    for line in lines {
+        let numbers = [line.program, line.file, line.refusal].map(|number| number as u8);
+        bytes.push(letter(line.word));
+        bytes.extend(numbers);
+    }
+    let mut order: Vec<u8> = reply.order.iter().map(|&p| p as u8).collect();
+    order.resize(PROGRAMS, 0);
+    bytes.extend(order);
+    bytes.extend(&reply.image);
+    bytes
+}
+
+/// Records from the empty board on, and the model's board after them.
+pub struct Asking {
+    pub records: Vec<Record>,
+    pub board: Vec<u8>,
+}
+
+impl Asking {
+    pub fn new() -> Asking {
+        Asking {
+            records: Vec::new(),
+            board: image::write(&Board::EMPTY),
+        }
+    }
+
+    /// One more record.
+    pub fn add(&mut self, record: Record) {
+        record.answer(&mut self.board);
+        self.records.push(record);
+    }
+
+    /// One more call; gives the model's reply.
+    pub fn call(&mut self, request: Request) -> Reply {
+        let reply = direct::call(&self.board, &request);
+        self.board.clone_from(&reply.image);
+        self.records.push(Record::Call(request));
+        reply
+    }
+
+    /// One more line call; gives the model's reply.
+    pub fn line(&mut self, call: Call) -> Reply {
+        let reply = lent_line(&self.board, &call).0;
+        self.board.clone_from(&reply.image);
+        self.records.push(Record::Line(call));
+        reply
+    }
+
+    /// All the bytes that the program is to read, and to write.
+    pub fn bytes(&self) -> (Vec<u8>, Vec<u8>) {
+        let input = self.records.iter().flat_map(Record::bytes).collect();
+        (input, answers(&self.records).concat())
+    }
+
+    /// Runs the program. A difference ends the test, with few records that
+    /// show it.
+    pub fn check(&self, path: &Path) {
+        if difference(path, &self.records).is_some() {
+            let records = smallest(path, self.records.clone());
+            let text = difference(path, &records).expect("the difference stays");
+            let records: Vec<String> = records.iter().map(Record::to_string).collect();
+            panic!("{text}\nrecords:\n{}", records.join("\n"));
+        }
+    }
+}
+
+fn answers(records: &[Record]) -> Vec<Vec<u8>> {
+    let mut board = Asking::new().board;
+    records
+        .iter()
+        .map(|record| record.answer(&mut board))
+        .collect()
+}
+
+/// What the program answers otherwise than the model, if anything.
+fn difference(path: &Path, records: &[Record]) -> Option<String> {
+    let input: Vec<u8> = records.iter().flat_map(Record::bytes).collect();
+    let output = programs::run(path, &input);
+    let mut found = output.as_slice();
+    for (record, expected) in records.iter().zip(answers(records)) {
+        let (answer, rest) = found.split_at(expected.len().min(found.len()));
+        if answer != expected {
+            let at = answer.iter().zip(&expected).position(|(a, b)| a != b);
+            let (answer, expected) = (answer.escape_ascii(), expected.escape_ascii());
+            return Some(format!(
+                "{record}\nanswers differ at byte {at:?}\nexpected: {expected}\nfound: {answer}"
+            ));
+        }
+        found = rest;
+    }
+    (!found.is_empty()).then(|| format!("{} bytes too many", found.len()))
+}
+
+/// The records without the parts that the difference does not need: halves
+/// first, then ever smaller ones.
+fn smallest(path: &Path, mut records: Vec<Record>) -> Vec<Record> {
+    let mut part = records.len().div_ceil(2);
+    loop {
+        let mut at = 0;
+        while at < records.len() {
+            let mut fewer = records.clone();
+            fewer.drain(at..records.len().min(at + part));
+            match difference(path, &fewer) {
+                Some(_) => records = fewer,
+                None => at += part,
+            }
+        }
+        if part <= 1 {
+            return records;
+        }
+        part = part.div_ceil(2);
+    }
+}

@@ -1,0 +1,282 @@
+//! What a host shows on standard error of a session: one line for each refusal,
+//! with what was asked and what stands. The words come from docs/REFUSALS.md.
+
+use super::phrases::{files, open, programs, uses, wait, Labels};
+use crate::model::board::{members, only, Board, Standing, FILES, PROGRAMS};
+use crate::model::image::step;
+use crate::model::journal::{columns, Entry, Word};
+
+/// The rows of docs/REFUSALS.md, from refusal 1 on: the words, and what to do.
+pub struct Document(Vec<(String, String)>);
+
+impl Document {
+    pub fn read(text: &str) -> Document {
+        let mut rows = Vec::new();
+        for line in text.lines() {
+            let cells: Vec<&str> = line.split('|').map(str::trim).collect();
+            if let ["", number, words, advice, ""] = cells.as_slice() {
+                if number.parse() == Ok(rows.len() + 1) {
+                    rows.push((words.to_string(), advice.to_string()));
+                }
+            }
+        }
+        Document(rows)
+    }
+
+    fn words(&self, refusal: usize) -> &str {
+        &self.0[refusal - 1].0
+    }
+
+    /// What to do, as one sentence that goes on after another.
+    fn advice(&self, refusal: usize) -> String {
+        let small = |sentence: &str| sentence[..1].to_lowercase() + &sentence[1..];
+        let sentences = self.0[refusal - 1].1.trim_end_matches('.').split(". ");
+        sentences.map(small).collect::<Vec<_>>().join("; ")
+    }
+}
+
+/// A session so far, and what was shown of it.
+pub struct Session<'a> {
+    document: &'a Document,
+    board: Board,
+    labels: Labels,
+    number: usize,
+    pub shown: Vec<String>,
+}
+
+impl Session<'_> {
+    pub fn new(document: &Document, board: Board) -> Session<'_> {
+        Session {
+            document,
+            board,
+            labels: Labels::new(),
+            number: 0,
+            shown: Vec::new(),
+        }
+    }
+
+    pub fn serve(&mut self, line: &[u8]) {
+        self.number += 1;
+        let (after, lines) = step(&self.board, line);
+        match lines[0] {
+            answer if answer.word == Word::Refuse => {
+                let text = self.refused(line, &answer);
+                self.shown.push(text);
+            }
+            answer => self.keep_label(line, answer.program),
+        }
+        self.board = after;
+    }
+
+    fn keep_label(&mut self, line: &[u8], p: usize) {
+        if line.starts_with(b"ENTER") {
+            self.labels.remove(&p);
+            self.labels.extend(label(line).map(|label| (p, label)));
+        } else if line.starts_with(b"LEAVE") {
+            self.labels.remove(&p);
+        }
+    }
+
+    fn refused(&self, line: &[u8], answer: &Entry) -> String {
+        let about = match (answer.program, answer.file) {
+            (0, _) => String::new(),
+            (p, 0) => format!(" (program {p})"),
+            (p, f) => format!(" (program {p}, file {f})"),
+        };
+        let what = match answer.refusal {
+            3 => verb(line),
+            4 => length(line),
+            5 => number(line),
+            6 => label_byte(line),
+            7 => rising(line),
+            _ => format!(
+                "{}; {}",
+                self.asked(line, answer),
+                self.stands(line, answer)
+            ),
+        };
+        let (n, refusal) = (self.number, answer.refusal);
+        format!(
+            "line {n}: refusal {refusal}: {}{about}: {what}",
+            self.document.words(refusal)
+        )
+    }
+
+    fn asked(&self, line: &[u8], answer: &Entry) -> String {
+        let who = self.labels.get(&answer.program);
+        let who = who.map_or(String::new(), |label| format!("{label} "));
+        let f = answer.file;
+        match &line[..5] {
+            b"ENTER" => match label(line) {
+                Some(label) => format!("asked to enter as {label}"),
+                None => "asked to enter".to_string(),
+            },
+            b"OPEN " => format!("{who}asked for file {f}"),
+            b"CLOSE" => format!("{who}asked to close file {f}"),
+            b"DROP " => format!("{who}asked to drop file {f}"),
+            _ => format!("{who}asked to leave"),
+        }
+    }
+
+    /// What stands on the board, for refusals 9 to 16.
+    fn stands(&self, line: &[u8], answer: &Entry) -> String {
+        let (board, labels, p) = (&self.board, &self.labels, answer.program);
+        let program = board.get(p);
+        match answer.refusal {
+            9 => {
+                let standing = match program.standing {
+                    Standing::Waiting(_) => wait(board, p, labels),
+                    Standing::Held => "is held at entry".to_string(),
+                    _ => "runs".to_string(),
+                };
+                format!("{} {standing}", programs(&[p], labels))
+            }
+            10 => format!("both claims have {}", files(in_both(line))),
+            11 => match board
+                .which(|program| program.standing != Standing::Absent)
+                .as_slice()
+            {
+                [] => "no program has entered".to_string(),
+                [one] => format!("{} has entered", programs(&[*one], labels)),
+                several => format!("{} have entered", programs(several, labels)),
+            },
+            12 => {
+                let favoured = programs(&[board.favoured], labels);
+                let wait = wait(board, board.favoured, labels);
+                format!("{favoured} is favoured and {wait}")
+            }
+            13 => wait(board, p, labels),
+            14 => {
+                let claims = match uses("write", program.v, "read", program.q).as_str() {
+                    "" => "claims no file".to_string(),
+                    claims => format!("may {claims}"),
+                };
+                match line.starts_with(b"OPEN") {
+                    true => format!("{claims}; {}", self.document.advice(14)),
+                    false => claims,
+                }
+            }
+            _ => open(program),
+        }
+    }
+}
+
+/// Bytes of a line between quotes, those outside 32 to 126 as `?`.
+fn quoted(bytes: &[u8]) -> String {
+    let plain = |&byte: &u8| match byte {
+        32..=126 => char::from(byte),
+        _ => '?',
+    };
+    format!("\"{}\"", bytes.iter().map(plain).collect::<String>())
+}
+
+/// The label of an ENTER without the blanks after it, unless it is all blank.
+fn label(line: &[u8]) -> Option<String> {
+    let label = String::from_utf8_lossy(&line[9..17])
+        .trim_end_matches(' ')
+        .to_string();
+    (!label.is_empty()).then_some(label)
+}
+
+fn verb(line: &[u8]) -> String {
+    let what = match line.len() {
+        0 => return "the line is empty".to_string(),
+        1..=5 => format!("the line has only {}", quoted(line)),
+        _ => format!("columns 1-6 have {}", quoted(&line[..6])),
+    };
+    what + ", not ENTER, OPEN, CLOSE, DROP or LEAVE with blanks up to column 6"
+}
+
+fn length(line: &[u8]) -> String {
+    let found = match line {
+        line if line.len() > 407 => "the line goes beyond column 407".to_string(),
+        [.., 13] => format!(
+            "the line ends with column {}, a carriage return",
+            line.len()
+        ),
+        line => format!("the line ends with column {}", line.len()),
+    };
+    let asked = match &line[..5] {
+        b"LEAVE" => "LEAVE ends with column 9".to_string(),
+        b"ENTER" if line.len() < 23 => "ENTER goes up to column 23 at least".to_string(),
+        b"ENTER" => {
+            let (w, r) = (count(line, 18), count(line, 21));
+            let end = 23 + 3 * (w + r);
+            format!("ENTER with {w} files to write and {r} to read ends with column {end}")
+        }
+        verb => {
+            let verb = String::from_utf8_lossy(verb).trim_end().to_string();
+            format!("{verb} ends with column 12")
+        }
+    };
+    format!("{found}; {asked}")
+}
+
+/// The number in form that begins at a column, counted from 1.
+fn in_form(line: &[u8], column: usize) -> Option<usize> {
+    let field = &line[column - 1..column + 2];
+    (0..1000).find(|&n| columns(n) == *field)
+}
+
+fn count(line: &[u8], column: usize) -> usize {
+    in_form(line, column).expect("counts were read before")
+}
+
+/// The files of an ENTER with the columns they begin at, those of V and those of Q.
+fn claims(line: &[u8]) -> [Vec<(usize, usize)>; 2] {
+    let file = |n: usize| {
+        (
+            in_form(line, 24 + 3 * n).expect("files were read"),
+            24 + 3 * n,
+        )
+    };
+    let (w, r) = (count(line, 18), count(line, 21));
+    [(0..w).map(file).collect(), (w..w + r).map(file).collect()]
+}
+
+fn in_both(line: &[u8]) -> u64 {
+    let set = |files: &Vec<(usize, usize)>| files.iter().fold(0, |set, file| set | only(file.0));
+    let both = claims(line)
+        .iter()
+        .map(set)
+        .fold(!0, |both, set| both & set);
+    assert!(!members(both).is_empty());
+    both
+}
+
+/// The first number from the left that is not in form or range.
+fn number(line: &[u8]) -> String {
+    let mut fields = vec![(7, "program", 1, PROGRAMS)];
+    if line.starts_with(b"ENTER") {
+        fields.extend([(18, "count", 0, FILES), (21, "count", 0, FILES)]);
+        fields.extend((24..line.len()).step_by(3).map(|at| (at, "file", 1, FILES)));
+    } else if line.len() == 12 {
+        fields.push((10, "file", 1, FILES));
+    }
+    let bad = |&&(at, _, low, high): &&(usize, &str, usize, usize)| {
+        !in_form(line, at).is_some_and(|n| (low..=high).contains(&n))
+    };
+    let (at, what, low, high) = fields.iter().find(bad).expect("a number is bad");
+    let (end, found) = (at + 2, quoted(&line[at - 1..at + 2]));
+    format!("columns {at}-{end} have {found}, not a {what} from {low} to {high}, right-justified")
+}
+
+fn label_byte(line: &[u8]) -> String {
+    let bad = |column: &usize| !(32..=126).contains(&line[column - 1]);
+    let column = (10..=17).find(bad).expect("a byte of the label is bad");
+    format!("column {column} has byte {}", line[column - 1])
+}
+
+/// The first file that is not above the one before it in its claim.
+fn rising(line: &[u8]) -> String {
+    let claims = claims(line);
+    let mut pairs = claims.iter().flat_map(|files| files.windows(2));
+    let pair = pairs
+        .find(|pair| pair[1].0 <= pair[0].0)
+        .expect("files do not rise");
+    let ((before, _), (file, at)) = (pair[0], pair[1]);
+    format!(
+        "columns {at}-{} have file {file} after file {before}",
+        at + 2
+    )
+}

@@ -1,0 +1,140 @@
+//! The text of --show and of --dot.
+
+use super::phrases::{files, open, programs, users, uses, wait, Labels};
+use crate::model::board::{Board, Files, Standing, PROGRAMS};
+use crate::model::order;
+use crate::model::settle::awaited;
+
+/// The columns of a line, and the blanks before all but the first of a paragraph.
+const WIDTH: usize = 80;
+const HANG: &str = "      ";
+
+/// The files in which i holds back j: W of i meets V or Q of j, or R of i meets V of j.
+pub fn held_in(board: &Board, i: usize, j: usize) -> Files {
+    let (i, j) = (board.get(i), board.get(j));
+    i.w & (j.v | j.q) | i.r & j.v
+}
+
+/// A paragraph of any length in lines.
+fn broken(paragraph: &str) -> String {
+    let mut lines = vec![String::new()];
+    for (at, word) in paragraph.trim_start().split(' ').enumerate() {
+        let last = lines.last_mut().expect("the first line is there");
+        if at == 0 {
+            *last = paragraph[..paragraph.len() - paragraph.trim_start().len()].to_string() + word;
+        } else if last.len() + 1 + word.len() <= WIDTH {
+            *last += &format!(" {word}");
+        } else {
+            lines.push(format!("{HANG}{word}"));
+        }
+    }
+    lines.join("\n") + "\n"
+}
+
+fn admitted(board: &Board, p: usize) -> String {
+    let program = board.get(p);
+    let standing = match program.standing {
+        Standing::Running => "runs",
+        _ => "waits",
+    };
+    let left = uses(
+        "write",
+        program.v & !program.w,
+        "read",
+        program.q & !program.r,
+    );
+    let more = match left.as_str() {
+        "" => "may open nothing more".to_string(),
+        left => format!("may still {left}"),
+    };
+    format!("  program {p} {standing}: {}; {more}", open(program))
+}
+
+fn waiter(board: &Board, p: usize) -> String {
+    let mut text = format!("  program {p} {}", wait(board, p, &Labels::new()));
+    if users(board, p).is_empty() {
+        let holders: Vec<String> = (1..=PROGRAMS)
+            .filter(|&i| i != p && held_in(board, i, p) != 0)
+            .map(|i| format!("program {i} ({})", files(held_in(board, i, p))))
+            .collect();
+        assert!(!holders.is_empty(), "nobody holds back program {p}");
+        text += &format!("; held back by {}", holders.join(", "));
+    }
+    text
+}
+
+/// "It gets its file at the latest with the leave that brings those leaves to that number less one."
+fn favoured(board: &Board) -> String {
+    if board.favoured == 0 {
+        return "nobody".to_string();
+    }
+    let left = (board.number - 1) - board.leaves;
+    let file = awaited(board, board.favoured);
+    format!(
+        "program {} (leaves until it gets file {file}: at most {left})",
+        board.favoured
+    )
+}
+
+fn named(list: &[usize]) -> String {
+    match list {
+        [] => "nobody".to_string(),
+        list => programs(list, &Labels::new()),
+    }
+}
+
+pub fn show(board: &Board) -> String {
+    let mut paragraphs = Vec::new();
+    match board.admitted() {
+        none if none.is_empty() => paragraphs.push("Admitted: nobody".to_string()),
+        some => {
+            paragraphs.push("Admitted:".to_string());
+            paragraphs.extend(some.iter().map(|&p| admitted(board, p)));
+        }
+    }
+    if board.waiting.is_empty() {
+        paragraphs.push("Waiting: nobody".to_string());
+    } else {
+        paragraphs.push("Waiting, oldest first:".to_string());
+        paragraphs.extend(board.waiting.iter().map(|&p| waiter(board, p)));
+    }
+    let order = order::carried(board).expect("a sound board has an order");
+    paragraphs.push(format!("Favoured: {}", favoured(board)));
+    paragraphs.push(format!(
+        "Held at entry, oldest first: {}",
+        named(&board.entry)
+    ));
+    paragraphs.push(format!("Completion order: {}", named(&order)));
+    paragraphs
+        .iter()
+        .map(|paragraph| broken(paragraph))
+        .collect()
+}
+
+/// The pairs of admitted programs of which the first holds back the second.
+pub fn edges(board: &Board) -> Vec<(usize, usize)> {
+    let admitted = board.admitted();
+    let all = admitted
+        .iter()
+        .flat_map(|&i| admitted.iter().map(move |&j| (i, j)));
+    all.filter(|&(i, j)| i != j && board.get(i).holds_back(board.get(j)))
+        .collect()
+}
+
+pub fn dot(board: &Board) -> String {
+    let mut text = "digraph lock_board {\n".to_string();
+    for p in board.admitted() {
+        let standing = match board.get(p).standing {
+            Standing::Waiting(f) => format!("waits for file {f}"),
+            _ => "runs".to_string(),
+        };
+        text += &format!("    {p} [label=\"program {p}\\n{standing}\"];\n");
+    }
+    for (i, j) in edges(board) {
+        text += &format!(
+            "    {i} -> {j} [label=\"{}\"];\n",
+            files(held_in(board, i, j))
+        );
+    }
+    text + "}\n"
+}

@@ -1,0 +1,98 @@
+//! The direct calls: any numbers, on any board; and the line call with its
+//! reply. A board is handed over and given back as its image, so that one that
+//! is not sound has a form too.
+
+use super::board::{Board, FILES, PROGRAMS};
+use super::events::{self, Request};
+use super::image::{self, layout, read, write, REFUSED_1, REFUSED_2};
+use super::journal::{Entry, Word};
+use super::sound::Fault;
+use super::{line, order};
+
+/// "A direct call has the same answer, with its lines as values and no
+/// journal; refused, it has no lines."
+#[derive(Clone, PartialEq, Debug)]
+pub struct Reply {
+    pub word: Word,
+    pub refusal: usize,
+    pub lines: Vec<Entry>,
+    pub order: Vec<usize>,
+    pub image: Vec<u8>,
+}
+
+/// "Every answer carries the order of the board after the call; a refusal that
+/// of the unchanged board, refusal 1 an empty one."
+pub fn call(image: &[u8], request: &Request) -> Reply {
+    let Ok(board) = read(image) else {
+        return refused(1, Vec::new(), image);
+    };
+    let accepted = match out_of_range(request) {
+        true => Err(8),
+        false => events::call(&board, request),
+    };
+    let (after, lines) = match accepted {
+        Ok(result) => result,
+        Err(number) => return refused(number, carried(&board), image),
+    };
+    Reply {
+        word: lines[0].word,
+        refusal: 0,
+        order: carried(&after),
+        image: write(&after),
+        lines,
+    }
+}
+
+/// The line call with the reply that a Rattle host gets, and the new place:
+/// it does "what the direct call with its line's numbers does", or is refused.
+pub fn line_call(image: &[u8], text: &[u8], journal: &mut [u8], place: u64) -> (Reply, u64) {
+    let answer = image::line_call(&mut image.to_vec(), text, journal, place);
+    let unchanged = |number| match read(image) {
+        Ok(board) => refused(number, carried(&board), image),
+        Err(_) => refused(1, Vec::new(), image),
+    };
+    match (answer, line::read(text)) {
+        (REFUSED_1, _) => (unchanged(1), place),
+        (REFUSED_2, _) => (unchanged(2), place),
+        (place, Err(number)) => (unchanged(number), place),
+        (place, Ok(request)) => (call(image, &request), place),
+    }
+}
+
+/// "The board stays equal to the one handed in."
+fn refused(refusal: usize, order: Vec<usize>, image: &[u8]) -> Reply {
+    Reply {
+        word: Word::Refuse,
+        refusal,
+        lines: Vec::new(),
+        order,
+        image: image.to_vec(),
+    }
+}
+
+fn carried(board: &Board) -> Vec<usize> {
+    order::carried(board).expect("a sound board has an order")
+}
+
+/// "Program or file out of range"; enter and leave have no file.
+fn out_of_range(request: &Request) -> bool {
+    let (p, f) = request.numbers();
+    let has_file = !matches!(request, Request::Enter { .. } | Request::Leave { .. });
+    !(1..=PROGRAMS).contains(&p) || has_file && !(1..=FILES).contains(&f)
+}
+
+/// The board of an image of the layout, sound or not; else the empty board.
+/// The layout is in the length and the standings: a byte that should name a
+/// program or a file stands in a board whatever it is, and makes it unsound.
+pub fn load(image: &[u8]) -> Result<Vec<u8>, Vec<u8>> {
+    let of_layout = |fault: &Fault| {
+        matches!(
+            fault,
+            Fault::Length | Fault::StandingByte | Fault::AwaitedNotZero
+        )
+    };
+    match layout(image) {
+        Err(faults) if faults.iter().any(of_layout) => Err(write(&Board::EMPTY)),
+        _ => Ok(image.to_vec()),
+    }
+}
