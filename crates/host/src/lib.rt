@@ -10,6 +10,8 @@ ghost use Rattle.serve.specs.LineCall.{lineCall};
 ghost use Rattle.host.specs.Host.{readImage, refusalAnswer, hostAnswer, hostCall, emptyAnswer, emptyImage};
 ghost use Rattle.host.specs.Host.{placedAnswer, placedIn, orderAnswer, orderBuffer};
 
+mod writing;
+
 // What a line call gives back: the reply, with the board after it, and the new place in the journal.
 pub struct Posted {
     pub reply: Reply,

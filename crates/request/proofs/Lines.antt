@@ -328,14 +328,14 @@ read-line l h =
 
 -- ---- both ways in one
 
-call-back : (c : Call) → requestCall (saying c) ≡ c
+pub call-back : (c : Call) → requestCall (saying c) ≡ c
 call-back (Enter p v q) = refl
 call-back (Open p f) = refl
 call-back (Close p f) = refl
 call-back (Drop p f) = refl
 call-back (Leave p) = refl
 
-taken-back : (c : Call) → saying c .reading ≡ Reading.Taken
+pub taken-back : (c : Call) → saying c .reading ≡ Reading.Taken
 taken-back (Enter p v q) = refl
 taken-back (Open p f) = refl
 taken-back (Close p f) = refl
@@ -343,7 +343,7 @@ taken-back (Drop p f) = refl
 taken-back (Leave p) = refl
 
 -- the label matters to ENTER only
-some-label : (c : Call) (l : List ℕ) → (isEntry (saying c) ≡ true → IsLabel l) → (label : List ℕ) × IsLabel label × (lineOf c l ≡ lineOf c label)
+pub some-label : (c : Call) (l : List ℕ) → (isEntry (saying c) ≡ true → IsLabel l) → (label : List ℕ) × IsLabel label × (lineOf c l ≡ lineOf c label)
 unfolding all lineOf
 some-label (Enter p v q) l h = (l, h refl, refl)
 some-label (Open p f) l h = (replicate 8 32, (refl, refl), refl)

@@ -51,7 +51,7 @@ fn refusing(r: Refusal) -> Request
 }
 
 // The six columns of a verb.
-fn verb_bytes(v: Verb) -> [u8; 6]
+pub fn verb_bytes(v: Verb) -> [u8; 6]
     ensures { λ r. ⌜ r ≡ verbColumns v ⌝ }
 {
     match v {
@@ -82,7 +82,7 @@ fn is_verb(line: &[u8], v: Verb) -> bool
 }
 
 // Whether every byte of a part is a label byte.
-fn is_label(part: &[u8]) -> bool
+pub fn is_label(part: &[u8]) -> bool
     ensures { λ r. ⌜ r ≡ all labelByte (now (part .entry)) ⌝ }
 {
     let mut i: usize = 0;

@@ -1,0 +1,3 @@
+-- The laws of written lines.
+pub mod Laws
+pub mod Law

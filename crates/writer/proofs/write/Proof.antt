@@ -1,0 +1,84 @@
+-- `write` meets its contract. Assumes nothing.
+use mathlib.Core.Path.{_≡_, sym, _∙_}
+use mathlib.Core.Bool.{true}
+use borrow.Author.Tests.{not-true, not-false}
+use Rattle.rules.specs.Boards.{isProgram}
+use Rattle.writer.proofs.Laws.{call-refused, call-enter, call-open, call-close, call-drop, call-leave}
+use borrow.Author.Needs.{needs}
+use Rattle.writer.proofs.write.Statement.{statement}
+use Rattle.writer.proofs.write.Tie as tie
+
+returns : tie.Need-returns
+returns c = let k = c .before .is-number in let a = c .before .before .before .before .args in
+    call-refused (a .a) (a .label .now) (a .line .now) (sym (k .ensures) ∙ not-true (k .result) (c .if1 .taken))
+
+-- the program is one
+in-range : (c : tie.Else1) → isProgram (c .before .before .before .before .args .a .program) ≡ true
+in-range c = let k = c .before .is-number in sym (k .ensures) ∙ not-false (k .result) (c .if1 .left)
+
+returns-2 : tie.Need-returns-2
+returns-2 c =
+    let k = c .before .before .write-enter in
+    let m = c .before .before .before .before in
+    let s = m .before .before .before .before .before .before .before .before in
+    call-enter (s .args .a) (s .args .label .now) (s .args .line .now) (k .result) (k .last .1 .1 .1 .1 .0) (in-range (m .before .before .before .before))
+    (m .enum-told .given .1) (k .ensures .0) (k .ensures .1)
+
+returns-3 : tie.Need-returns-3
+returns-3 c =
+    let k = c .before .before .write-file in
+    let m = c .before .before .before .before in
+    let s = m .before .before .before .before .before .before .before .before in
+    call-open (s .args .a) (s .args .label .now) (s .args .line .now) (k .result) (k .last .1 .1 .1 .0) (in-range (m .before .before .before .before))
+    (m .enum-told2 .given .1) (k .ensures .0) (k .ensures .1)
+
+returns-4 : tie.Need-returns-4
+returns-4 c =
+    let k = c .before .before .write-file2 in
+    let m = c .before .before .before .before in
+    let s = m .before .before .before .before .before .before .before .before in
+    call-close (s .args .a) (s .args .label .now) (s .args .line .now) (k .result) (k .last .1 .1 .1 .0) (in-range (m .before .before .before .before))
+    (m .enum-told3 .given .1) (k .ensures .0) (k .ensures .1)
+
+returns-5 : tie.Need-returns-5
+returns-5 c =
+    let k = c .before .before .write-file3 in
+    let m = c .before .before .before .before in
+    let s = m .before .before .before .before .before .before .before .before in
+    call-drop (s .args .a) (s .args .label .now) (s .args .line .now) (k .result) (k .last .1 .1 .1 .0) (in-range (m .before .before .before .before))
+    (m .enum-told4 .given .1) (k .ensures .0) (k .ensures .1)
+
+returns-6 : tie.Need-returns-6
+returns-6 c =
+    let k = c .before .before .write-leave in
+    let m = c .before .before .before .before in
+    let s = m .before .before .before .before .before .before .before .before in
+    call-leave (s .args .a) (s .args .label .now) (s .args .line .now) (k .result) (k .last .1 .0) (in-range (m .before .before .before .before))
+    (m .enum-told5 .given .1) (k .ensures .0) (k .ensures .1)
+
+pub write-spec : {M : Type 1} → statement M
+write-spec =
+    tie.close
+    (tie.spec
+    (λ c κs. search needs)
+    returns
+    (λ c. search needs)
+    (λ c κs. search needs)
+    (λ c. search needs)
+    (λ c κs. search needs)
+    (λ c. search needs)
+    (λ c κs. search needs)
+    (λ c. search needs)
+    (λ c κs. search needs)
+    (λ c. search needs)
+    (λ c κs. search needs)
+    (λ c. search needs)
+    returns-2
+    (λ c. search needs)
+    returns-3
+    (λ c. search needs)
+    returns-4
+    (λ c. search needs)
+    returns-5
+    (λ c. search needs)
+    returns-6)

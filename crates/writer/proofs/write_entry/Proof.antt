@@ -1,0 +1,79 @@
+-- `write_entry` meets its contract. Assumes nothing.
+use Prim.Native.Nat.{ℕ, _+_, _*_, _≤_}
+use mathlib.Core.Path.{_≡_, ap₂, _∙_}
+use lib.ListN.{length}
+use Rattle.rules.specs.Calls.{Enter}
+use Rattle.request.specs.Requests.{filesOf, lineOf}
+use native.Mathlib.Omega.{arith}
+use Rattle.request.proofs.Groups.{files-length}
+use Rattle.writer.specs.Rows.{putAt, entryColumns}
+use Rattle.writer.proofs.Laws.{enter-length, enter-put, placed-short, placed-all}
+use borrow.Author.Needs.{needs}
+use Rattle.writer.proofs.write_entry.Statement.{statement}
+use Rattle.writer.proofs.write_entry.Tie as tie
+
+-- a set has at most 64 files
+few : (c : tie.After-count2) → (c .before .count .result ≤ 64) × (c .count2 .result ≤ 64)
+few c =
+    let a = c .before .before .before .before .args in
+    let v = files-length (a .writable) in
+    let q = files-length (a .readable) in
+    (omega (arith, v, c .before .count .ensures), omega (arith, q, c .count2 .ensures))
+
+add-len : tie.Need-add-len
+add-len c = let n = few c in search (needs, n)
+
+mul-len : tie.Need-mul-len
+mul-len c = let n = few c in search (needs, n)
+
+add-len-2 : tie.Need-add-len-2
+add-len-2 c = let n = few c in search (needs, n)
+
+returns : tie.Need-returns
+returns c =
+    let k = c .before in
+    let s = c .before .before .before .before .before in
+    let a = s .args in
+    placed-short (lineOf (Enter (a .program) (a .writable) (a .readable)) (a .label .now)) (a .line .now)
+    (23 + 3 * (length (filesOf (a .writable)) + length (filesOf (a .readable))))
+    (enter-length (a .program) (a .writable) (a .readable) (a .label .now) (s .pre))
+    (omega (arith, c .if1 .taken, k .before .count .ensures, k .count2 .ensures))
+
+returns-2 : tie.Need-returns-2
+returns-2 c =
+    let y = c .before .before .put-files2 in
+    let x = c .before .before .before .before .before .before .put-files in
+    let h = c .before .before .before .before .before .before .before .before .before .before .put-entry in
+    let i = c .before .before .before .before .before .before .before .before .before .before .before .before in
+    let k = i .before in
+    let s = k .before .before .before .before in
+    let a = s .args in
+    let v = a .writable in
+    let q = a .readable in
+    let n = k .before .count .ensures in
+    let m = k .count2 .ensures in
+    let room : 23 + 3 * (length (filesOf v) + length (filesOf q)) ≤ length (a .line .now) = omega (arith, i .if1 .left, n, m) in
+    let e : h .last .0 ≡ putAt 0 (entryColumns (a .program) (a .label .now) (length (filesOf v)) (length (filesOf q))) (a .line .now) =
+    h .ensures .1 ∙ ap₂ (λ (x y : ℕ). putAt 0 (entryColumns (a .program) (a .label .now) x y) (a .line .now)) n m in
+    placed-all (lineOf (Enter (a .program) v q) (a .label .now)) (a .line .now) (y .last .0)
+    (23 + 3 * (length (filesOf v) + length (filesOf q))) (y .result)
+    (enter-length (a .program) v q (a .label .now) (s .pre)) room
+    (omega (arith, y .ensures .0, x .ensures .0, h .ensures .0))
+    (enter-put (a .program) (h .result) (x .result) v q (a .label .now) (a .line .now) (h .last .0) (x .last .0) (y .last .0)
+    (s .pre) room (h .ensures .0) e (x .ensures .0) (x .ensures .1) (y .ensures .1))
+
+pub write-entry-spec : {M : Type 1} → statement M
+write-entry-spec =
+    tie.close
+    (tie.spec
+    (λ c κs. search needs)
+    (λ c κs. search needs)
+    add-len
+    mul-len
+    add-len-2
+    returns
+    (λ c κs. search needs)
+    (λ c κs. search needs)
+    (λ c κs. search needs)
+    (λ c. search needs)
+    returns-2)

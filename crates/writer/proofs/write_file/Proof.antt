@@ -1,0 +1,48 @@
+-- `write_file` meets its contract. Assumes nothing.
+use mathlib.Core.Path.{_≡_, sym, _∙_}
+use mathlib.Core.Bool.{true}
+use native.Mathlib.Omega.{arith}
+use borrow.Author.Tests.{not-true, not-false}
+use Rattle.files.specs.Sets.{isFile}
+use Rattle.writer.specs.Rows.{fileLine}
+use Rattle.writer.proofs.Laws.{file-length, file-put, file-refused, file-placed, placed-short, placed-all}
+use borrow.Author.Needs.{needs}
+use Rattle.writer.proofs.write_file.Statement.{statement}
+use Rattle.writer.proofs.write_file.Tie as tie
+
+returns : tie.Need-returns
+returns c = let k = c .before .is-number in let a = c .before .before .before .args in
+    file-refused (a .verb) (a .program) (a .file) (a .line .now) (sym (k .ensures) ∙ not-true (k .result) (c .if1 .taken))
+
+-- the file is one
+is-file : (c : tie.Else1) → isFile (c .before .before .before .args .file) ≡ true
+is-file c = let k = c .before .is-number in sym (k .ensures) ∙ not-false (k .result) (c .if1 .left)
+
+returns-2 : tie.Need-returns-2
+returns-2 c = let a = c .before .before .before .before .args in
+    file-placed (a .verb) (a .program) (a .file) (a .line .now) _ _ (is-file (c .before))
+    (placed-short (fileLine (a .verb) (a .program) (a .file)) (a .line .now) 12 (file-length (a .verb) (a .program) (a .file)) (c .if2 .taken))
+
+returns-3 : tie.Need-returns-3
+returns-3 c =
+    let k = c .before .before .put-number in
+    let h = c .before .before .before .before .before .before .put-head in
+    let i = c .before .before .before .before .before .before .before .before in
+    let a = i .before .before .before .before .args in
+    let e = file-put (a .verb) (a .program) (a .file) (h .result) (a .line .now) (h .last .0) (k .last .0)
+    (i .if2 .left) (h .ensures .0) (h .ensures .1) (k .ensures .1) in
+    file-placed (a .verb) (a .program) (a .file) (a .line .now) _ _ (is-file (i .before))
+    (placed-all (fileLine (a .verb) (a .program) (a .file)) (a .line .now) (k .last .0) 12 (k .result)
+    (file-length (a .verb) (a .program) (a .file)) (i .if2 .left) (omega (arith, k .ensures .0, h .ensures .0)) e)
+
+pub write-file-spec : {M : Type 1} → statement M
+write-file-spec =
+    tie.close
+    (tie.spec
+    (λ c κs. search needs)
+    returns
+    returns-2
+    (λ c κs. search needs)
+    (λ c κs. search needs)
+    (λ c. search needs)
+    returns-3)

@@ -1,0 +1,248 @@
+// Request lines, written: from a call's numbers, claims and label to the line in a lent buffer.
+use files::FileSet;
+use rules::Asked;
+use rules::Verb;
+ghost use mathlib.Core.Path.{_≡_};
+ghost use mathlib.Core.List.{_++_};
+ghost use Prim.Native.Nat.{_+_, _*_, _≤_};
+ghost use lib.ListN.{length};
+ghost use Rattle.columns.specs.Columns.{columnsOf};
+ghost use Rattle.files.specs.Bits.{isNumber};
+ghost use Rattle.files.specs.Sets.{member};
+ghost use Rattle.rules.specs.Calls.{Enter, callOf};
+ghost use Rattle.request.specs.Requests.{verbColumns, filesOf, filesColumns, lineOf};
+ghost use Rattle.writer.specs.Writer.{unwrittenNumber, placing, placedIn, writingOf, bufferAfter};
+ghost use Rattle.writer.specs.Rows.{putAt, countIf, columnsIf, entryColumns, leaveLine, enterWriting, enterFilled, fileWriting, fileFilled};
+
+// Why no line is written.
+pub enum Unwritten {
+    OutOfRange,
+    BadLabel,
+    BufferShort,
+}
+
+// What writing comes to: the length of the line that was written, or the refusal.
+pub enum Writing {
+    Wrote(usize),
+    Refused(Unwritten),
+}
+
+impl Unwritten {
+    // The number of the refusal: 01's 8 and 6, and 17.
+    pub fn number(self) -> u8
+        ensures { λ r. ⌜ r ≡ unwrittenNumber self ⌝ }
+    {
+        match self {
+            Unwritten::OutOfRange => 8,
+            Unwritten::BadLabel => 6,
+            Unwritten::BufferShort => 17,
+        }
+    }
+}
+
+// ---- rows of bytes
+
+// Writes a row from the place on, and gives the place after it; all other bytes keep their contents.
+fn put(line: &mut [u8], at: usize, row: &[u8]) -> usize
+    requires { ⌜ at + length (now row) ≤ length (now line) ⌝ }
+    ensures { λ r. ⌜ r ≡ at + length (now (row .entry)) ⌝ }
+    ensures { λ r. ⌜ now (line .exit) ≡ putAt at (now (row .entry)) (now (line .entry)) ⌝ }
+{
+    bytes::copy(row, &mut line[at..]);
+    at + row.len()
+}
+
+// Writes a number in three columns.
+fn put_number(line: &mut [u8], at: usize, n: u64) -> usize
+    requires { ⌜ at + 3 ≤ length (now line) ⌝ }
+    ensures { λ r. ⌜ r ≡ at + 3 ⌝ }
+    ensures { λ r. ⌜ now (line .exit) ≡ putAt at (columnsOf n) (now (line .entry)) ⌝ }
+{
+    let three = columns::columns(n);
+    put(line, at, &three)
+}
+
+// Writes the columns of f if it is in the set.
+fn put_file(line: &mut [u8], at: usize, s: FileSet, f: u8) -> usize
+    requires { ⌜ at + length (columnsIf (member s f) f) ≤ length (now line) ⌝ }
+    ensures { λ r. ⌜ r ≡ at + length (columnsIf (member s f) f) ⌝ }
+    ensures { λ r. ⌜ now (line .exit) ≡ putAt at (columnsIf (member s f) f) (now (line .entry)) ⌝ }
+{
+    if s.has(f) {
+        return put_number(line, at, f as u64);
+    }
+    at
+}
+
+// Writes the columns of the files of a set, rising.
+fn put_files(line: &mut [u8], start: usize, s: FileSet) -> usize
+    requires { ⌜ start + 3 * length (filesOf s) ≤ length (now line) ⌝ }
+    ensures { λ r. ⌜ r ≡ start + 3 * length (filesOf s) ⌝ }
+    ensures { λ r. ⌜ now (line .exit) ≡ putAt start (filesColumns (filesOf s)) (now (line .entry)) ⌝ }
+{
+    let mut at = start;
+    let mut f: u8 = 1;
+    while f <= 64 {
+        at = put_file(line, at, s, f);
+        f += 1;
+    }
+    at
+}
+
+// One more if f is in the set.
+fn counted(n: u64, s: FileSet, f: u8) -> u64
+    requires { ⌜ n ≤ 64 ⌝ }
+    ensures { λ r. ⌜ r ≡ n + countIf (member s f) ⌝ }
+{
+    if s.has(f) {
+        return n + 1;
+    }
+    n
+}
+
+// How many files a set has.
+fn count(s: FileSet) -> u64
+    ensures { λ r. ⌜ r ≡ length (filesOf s) ⌝ }
+{
+    let mut n: u64 = 0;
+    let mut f: u8 = 1;
+    while f <= 64 {
+        n = counted(n, s, f);
+        f += 1;
+    }
+    n
+}
+
+// ---- lines
+
+// Writes the columns of verb and program.
+fn put_head(line: &mut [u8], verb: Verb, program: u64) -> usize
+    requires { ⌜ 9 ≤ length (now line) ⌝ }
+    ensures { λ r. ⌜ r ≡ 9 ⌝ }
+    ensures { λ r. ⌜ now (line .exit) ≡ putAt 0 (verbColumns verb ++ columnsOf program) (now (line .entry)) ⌝ }
+{
+    let word = request::verb_bytes(verb);
+    let at = put(line, 0, &word);
+    put_number(line, at, program)
+}
+
+// Writes the columns of an ENTER line before its files: verb, program, label and the two counts.
+fn put_entry(line: &mut [u8], program: u64, label: &[u8], w: u64, r: u64) -> usize
+    requires { ⌜ (23 ≤ length (now line)) × (length (now label) ≡ 8) ⌝ }
+    ensures { λ e. ⌜ e ≡ 23 ⌝ }
+    ensures { λ e. ⌜ now (line .exit) ≡ putAt 0 (entryColumns program (now (label .entry)) w r) (now (line .entry)) ⌝ }
+{
+    let after_program = put_head(line, Verb::Enter, program);
+    let after_label = put(line, after_program, label);
+    let after_w = put_number(line, after_label, w);
+    put_number(line, after_w, r)
+}
+
+// An ENTER line with a good label.
+fn write_entry(
+    program: u64,
+    writable: FileSet,
+    readable: FileSet,
+    label: &[u8],
+    line: &mut [u8],
+) -> Writing
+    requires { ⌜ length (now label) ≡ 8 ⌝ }
+    ensures { λ r. ⌜ r ≡ placing (lineOf (Enter program writable readable) (now (label .entry))) (now (line .entry)) ⌝ }
+    ensures { λ r. ⌜ now (line .exit) ≡ placedIn (lineOf (Enter program writable readable) (now (label .entry))) (now (line .entry)) ⌝ }
+{
+    let w = count(writable);
+    let r = count(readable);
+    let len = (23 + 3 * (w + r)) as usize;
+    if line.len() < len {
+        return Writing::Refused(Unwritten::BufferShort);
+    }
+    let after_counts = put_entry(line, program, label, w, r);
+    let after_writable = put_files(line, after_counts, writable);
+    let end = put_files(line, after_writable, readable);
+    Writing::Wrote(end)
+}
+
+// ENTER: the label, then the buffer.
+fn write_enter(
+    program: u64,
+    writable: FileSet,
+    readable: FileSet,
+    label: &[u8],
+    line: &mut [u8],
+) -> Writing
+    ensures { λ r. ⌜ r ≡ enterWriting program writable readable (now (label .entry)) (now (line .entry)) ⌝ }
+    ensures { λ r. ⌜ now (line .exit) ≡ enterFilled program writable readable (now (label .entry)) (now (line .entry)) ⌝ }
+{
+    if label.len() != 8 {
+        return Writing::Refused(Unwritten::BadLabel);
+    }
+    if !request::is_label(label) {
+        return Writing::Refused(Unwritten::BadLabel);
+    }
+    write_entry(program, writable, readable, label, line)
+}
+
+// OPEN, CLOSE and DROP: the file, then the buffer.
+fn write_file(verb: Verb, program: u64, file: u64, line: &mut [u8]) -> Writing
+    ensures { λ r. ⌜ r ≡ fileWriting verb program file (now (line .entry)) ⌝ }
+    ensures { λ r. ⌜ now (line .exit) ≡ fileFilled verb program file (now (line .entry)) ⌝ }
+{
+    if !is_number(file, 64) {
+        return Writing::Refused(Unwritten::OutOfRange);
+    }
+    if line.len() < 12 {
+        return Writing::Refused(Unwritten::BufferShort);
+    }
+    let at = put_head(line, verb, program);
+    let end = put_number(line, at, file);
+    Writing::Wrote(end)
+}
+
+// LEAVE: the buffer.
+fn write_leave(program: u64, line: &mut [u8]) -> Writing
+    ensures { λ r. ⌜ r ≡ placing (leaveLine program) (now (line .entry)) ⌝ }
+    ensures { λ r. ⌜ now (line .exit) ≡ placedIn (leaveLine program) (now (line .entry)) ⌝ }
+{
+    if line.len() < 9 {
+        return Writing::Refused(Unwritten::BufferShort);
+    }
+    let end = put_head(line, Verb::Leave, program);
+    Writing::Wrote(end)
+}
+
+// Whether n is one of the numbers 1 to high.
+fn is_number(n: u64, high: u64) -> bool
+    ensures { λ r. ⌜ r ≡ isNumber high n ⌝ }
+{
+    if n == 0 {
+        return false;
+    }
+    if high < n {
+        return false;
+    }
+    true
+}
+
+// Writes the line that asks for the call from the buffer's start, without byte 10, and gives its length.
+// Refused are a number out of range, then a bad label of ENTER, then a buffer shorter than the line; a refusal writes nothing.
+// What the verb does not use is not looked at.
+pub fn write(a: Asked, label: &[u8], line: &mut [u8]) -> Writing
+    ensures { λ r. ⌜ r ≡ writingOf (callOf a) (now (label .entry)) (now (line .entry)) ⌝ }
+    ensures { λ r. ⌜ now (line .exit) ≡ bufferAfter (callOf a) (now (label .entry)) (now (line .entry)) ⌝ }
+{
+    let program = a.program;
+    if !is_number(program, 32) {
+        return Writing::Refused(Unwritten::OutOfRange);
+    }
+    let file = a.file;
+    let writable = a.writable;
+    let readable = a.readable;
+    let verb = a.verb;
+    match verb {
+        Verb::Enter => write_enter(program, writable, readable, label, line),
+        Verb::Open => write_file(Verb::Open, program, file, line),
+        Verb::Close => write_file(Verb::Close, program, file, line),
+        Verb::Drop => write_file(Verb::Drop, program, file, line),
+        Verb::Leave => write_leave(program, line),
+    }
+}
