@@ -9,7 +9,7 @@
 extern "C" {
 #endif
 
-#define LOCK_BOARD_VERSION "1.0.0" /* the image's form belongs to it; see CHANGELOG.md */
+#define LOCK_BOARD_VERSION "1.1.0" /* the image's form belongs to it; see CHANGELOG.md */
 
 #define LOCK_BOARD_IMAGE_LEN     1155 /* bytes of a board's image */
 #define LOCK_BOARD_JOURNAL_ROOM  512  /* bytes of journal that a call asks for from its place on */
@@ -21,15 +21,24 @@ extern "C" {
 #define LOCK_BOARD_FILES         64
 #define LOCK_BOARD_LABEL_LEN     8 /* bytes of the label in an ENTER line */
 
-/* The answers for refusals: 2^64 less the refusal's number. */
-#define LOCK_BOARD_UNSOUND      UINT64_MAX        /* refusal 1 */
-#define LOCK_BOARD_JOURNAL_FULL (UINT64_MAX - 1)  /* refusal 2 */
-#define LOCK_BOARD_BUFFER_SHORT (UINT64_MAX - 16) /* refusal 17 */
+/*
+ * The answer for a refusal: 2^64 less its number. So the number of a refusal is
+ * LOCK_BOARD_REFUSED(answer). No other answer is above LOCK_BOARD_HIGHEST_PLACE +
+ * LOCK_BOARD_JOURNAL_ROOM.
+ */
+#define LOCK_BOARD_REFUSED(number) (UINT64_MAX - (number) + 1)
+#define LOCK_BOARD_UNSOUND         LOCK_BOARD_REFUSED(LOCK_BOARD_REFUSAL_NOT_SOUND)
+#define LOCK_BOARD_JOURNAL_FULL    LOCK_BOARD_REFUSED(LOCK_BOARD_REFUSAL_JOURNAL_FULL)
+#define LOCK_BOARD_NO_VERB         LOCK_BOARD_REFUSED(LOCK_BOARD_REFUSAL_NO_VERB)
+#define LOCK_BOARD_BAD_LABEL       LOCK_BOARD_REFUSED(LOCK_BOARD_REFUSAL_BAD_LABEL)
+#define LOCK_BOARD_OUT_OF_RANGE    LOCK_BOARD_REFUSED(LOCK_BOARD_REFUSAL_OUT_OF_RANGE)
+#define LOCK_BOARD_BUFFER_SHORT    LOCK_BOARD_REFUSED(LOCK_BOARD_REFUSAL_BUFFER_SHORT)
 
 /*
  * The numbers of the refusals; docs/REFUSALS.md has the words.
  * 1, 2 and 17 come as answers, 3 to 7 and 9 to 16 in a REFUSE line of the
- * journal. 8 never comes from a request line.
+ * journal; lock_board_write answers 3, 6, 8 and 17. 8 never comes from a
+ * request line.
  */
 enum lock_board_refusal {
     LOCK_BOARD_REFUSAL_NOT_SOUND = 1,
@@ -78,6 +87,15 @@ enum lock_board_standing {
     LOCK_BOARD_HELD = 3
 };
 
+/* The verbs by number, for lock_board_write. */
+enum lock_board_verb {
+    LOCK_BOARD_ENTER = 1,
+    LOCK_BOARD_OPEN = 2,
+    LOCK_BOARD_CLOSE = 3,
+    LOCK_BOARD_DROP = 4,
+    LOCK_BOARD_LEAVE = 5
+};
+
 /* Where the numbers of a journal line begin, three columns each; its word begins at 0. */
 #define LOCK_BOARD_JOURNAL_PROGRAM 6
 #define LOCK_BOARD_JOURNAL_FILE    9
@@ -89,9 +107,9 @@ enum lock_board_standing {
  *   allocates nothing and has no state of its own.
  * - No pointer may be null, not even with a length of 0. Each points to as many
  *   bytes as its length says, and no two buffers of a call overlap. All else is
- *   checked: any bytes, lengths and place are safe.
+ *   checked: any bytes, lengths and numbers are safe.
  * - Calls may run in several threads at once, but no two calls on the same
- *   image, journal or order. Allow a call 64 KB of stack.
+ *   image, journal, order or written line. Allow a call 64 KB of stack.
  */
 
 /*
@@ -129,6 +147,31 @@ uint64_t lock_board_line(uint8_t *image, size_t image_len, const uint8_t *line, 
  * the number of admitted programs. Nothing is written.
  */
 uint64_t lock_board_order(const uint8_t *image, size_t image_len, uint8_t *order, size_t order_len);
+
+/*
+ * Writes the request line of a call into the line's buffer, from its start on
+ * and without a byte 10, ready for lock_board_line. Answers its length;
+ * LOCK_BOARD_LONGEST_LINE bytes are always enough. Bytes after the line keep
+ * their contents.
+ *
+ * verb is one of enum lock_board_verb. file is for OPEN, CLOSE and DROP. For
+ * ENTER, writable and readable are the sets of files that the program may write
+ * and may only read, file 1 the lowest bit, and the label has
+ * LOCK_BOARD_LABEL_LEN bytes. What a verb does not use is not looked at; the
+ * label's pointer is not null all the same. Sets that meet are written;
+ * lock_board_line refuses that line with 10.
+ *
+ * A refusal writes nothing. The first that applies is the answer:
+ * LOCK_BOARD_NO_VERB: verb is not 1 to 5.
+ * LOCK_BOARD_OUT_OF_RANGE: program is not 1 to LOCK_BOARD_PROGRAMS, or, for
+ * OPEN, CLOSE and DROP, file is not 1 to LOCK_BOARD_FILES.
+ * LOCK_BOARD_BAD_LABEL: for ENTER, label_len is not LOCK_BOARD_LABEL_LEN, or a
+ * byte of the label is outside 32 to 126.
+ * LOCK_BOARD_BUFFER_SHORT: line_len is less than the line's length.
+ */
+uint64_t lock_board_write(uint64_t verb, uint64_t program, uint64_t file, uint64_t writable,
+                          uint64_t readable, const uint8_t *label, size_t label_len, uint8_t *line,
+                          size_t line_len);
 
 #ifdef __cplusplus
 }

@@ -63,7 +63,8 @@
            EVALUATE ARGUMENT-COUNT ALSO ARGUMENT
                WHEN 0 ALSO ANY
                    CALL STATIC "lock_board_empty" USING
-                       BY REFERENCE LB-IMAGE BY VALUE LB-IMAGE-LEN
+                       BY REFERENCE LB-IMAGE
+                       BY VALUE SIZE AUTO LB-IMAGE-LEN
                        RETURNING LB-ANSWER
                    PERFORM SERVE-INPUT
                WHEN 2 ALSO "--image"
@@ -136,10 +137,10 @@
        SERVE-LINE.
            MOVE 0 TO LB-PLACE
            CALL STATIC "lock_board_line" USING
-               BY REFERENCE LB-IMAGE BY VALUE LB-IMAGE-LEN
-               BY REFERENCE LB-REQUEST BY VALUE LB-REQUEST-LEN
-               BY REFERENCE LB-JOURNAL BY VALUE LB-JOURNAL-LEN
-               BY VALUE LB-PLACE
+               BY REFERENCE LB-IMAGE BY VALUE SIZE AUTO LB-IMAGE-LEN
+               BY REFERENCE LB-REQUEST BY VALUE SIZE AUTO LB-REQUEST-LEN
+               BY REFERENCE LB-JOURNAL BY VALUE SIZE AUTO LB-JOURNAL-LEN
+               BY VALUE SIZE AUTO LB-PLACE
                RETURNING LB-ANSWER
            EVALUATE TRUE
                WHEN LB-UNSOUND
@@ -156,7 +157,7 @@
       * lines are written.
        WRITE-JOURNAL.
            CALL STATIC "image_file_save" USING
-               BY REFERENCE LB-IMAGE BY VALUE LINE-NUMBER
+               BY REFERENCE LB-IMAGE BY VALUE SIZE AUTO LINE-NUMBER
                RETURNING OUTCOME
            PERFORM STOP-IF-FAILED
            DIVIDE LB-ANSWER BY LB-JOURNAL-LINE-LEN GIVING LINE-COUNT
@@ -165,10 +166,10 @@
            END-PERFORM
            PERFORM FLUSH-JOURNAL
            CALL STATIC "explain_answer" USING
-               BY REFERENCE MESSAGE-TEXT BY VALUE MESSAGE-ROOM
-               BY VALUE LINE-NUMBER BY REFERENCE LB-IMAGE
+               BY REFERENCE MESSAGE-TEXT BY VALUE SIZE AUTO MESSAGE-ROOM
+               BY VALUE SIZE AUTO LINE-NUMBER BY REFERENCE LB-IMAGE
                BY REFERENCE LABELS
-               BY REFERENCE LB-REQUEST BY VALUE LB-REQUEST-LEN
+               BY REFERENCE LB-REQUEST BY VALUE SIZE AUTO LB-REQUEST-LEN
                BY REFERENCE LB-JOURNAL
                RETURNING MESSAGE-LEN
            PERFORM SHOW-MESSAGE.
@@ -178,8 +179,8 @@
       * blank of an empty order.
        WRITE-ORDER.
            CALL STATIC "lock_board_order" USING
-               BY REFERENCE LB-IMAGE BY VALUE LB-IMAGE-LEN
-               BY REFERENCE LB-ORDER BY VALUE LB-ORDER-LEN
+               BY REFERENCE LB-IMAGE BY VALUE SIZE AUTO LB-IMAGE-LEN
+               BY REFERENCE LB-ORDER BY VALUE SIZE AUTO LB-ORDER-LEN
                RETURNING LB-ANSWER
            IF LB-ANSWER < 0
                COMPUTE LB-REFUSAL = 0 - LB-ANSWER
@@ -195,7 +196,8 @@
       * Each answer is to be seen before the next request, and a
       * failed write is noticed here.
        FLUSH-JOURNAL.
-           CALL STATIC "session_flush" USING BY VALUE LINE-NUMBER
+           CALL STATIC "session_flush" USING
+               BY VALUE SIZE AUTO LINE-NUMBER
                RETURNING OUTCOME
            PERFORM STOP-IF-FAILED.
 
@@ -215,8 +217,9 @@
        STOP-REFUSED.
            MOVE LB-REFUSAL TO REFUSED-WITH
            CALL STATIC "refusal_text" USING
-               BY REFERENCE MESSAGE-TEXT BY VALUE MESSAGE-ROOM
-               BY VALUE LINE-NUMBER BY VALUE REFUSED-WITH
+               BY REFERENCE MESSAGE-TEXT BY VALUE SIZE AUTO MESSAGE-ROOM
+               BY VALUE SIZE AUTO LINE-NUMBER
+               BY VALUE SIZE AUTO REFUSED-WITH
                BY VALUE SIZE 4 0 BY VALUE SIZE 4 0
                RETURNING MESSAGE-LEN
            PERFORM SHOW-MESSAGE

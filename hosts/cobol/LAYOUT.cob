@@ -7,6 +7,10 @@
            COPY LOCKBRD.
        01  TESTED                  PIC X(40).
        01  LINE-LEN                PIC 9(4) COMP-5.
+       01  I                       PIC 9(4) COMP-5.
+       01  BIT-OF-64               PIC 9(20).
+       01  EXPECTED-LINE           PIC X(40).
+       01  EXPECTED-LEN            PIC 9(4) COMP-5.
 
        PROCEDURE DIVISION.
        MAIN-PART.
@@ -15,6 +19,9 @@
            PERFORM TEST-OPEN
            PERFORM TEST-FAVOURED
            PERFORM TEST-ORDER
+           PERFORM TEST-BITS
+           PERFORM TEST-WRITE
+           PERFORM TEST-WRITE-REFUSALS
            PERFORM TEST-REFUSALS
            STOP RUN.
 
@@ -29,7 +36,7 @@
                PERFORM FAIL
            END-IF
            CALL STATIC "lock_board_empty" USING
-               BY REFERENCE LB-IMAGE BY VALUE LB-IMAGE-LEN
+               BY REFERENCE LB-IMAGE BY VALUE SIZE AUTO LB-IMAGE-LEN
                RETURNING LB-ANSWER
            IF LB-ANSWER NOT = 0 OR NOT LB-ABSENT (32)
                PERFORM FAIL
@@ -156,6 +163,86 @@
                PERFORM FAIL
            END-IF.
 
+      * Each file's bit is twice the one before.
+       TEST-BITS.
+           MOVE "bits of the files" TO TESTED
+           IF LB-FILE-BIT (1) NOT = 1
+               PERFORM FAIL
+           END-IF
+           PERFORM VARYING I FROM 2 BY 1 UNTIL I > 64
+               IF LB-FILE-BIT (I) / 2 NOT = LB-FILE-BIT (I - 1)
+                   PERFORM FAIL
+               END-IF
+           END-PERFORM
+           MOVE LB-FILE-BIT (64) TO BIT-OF-64
+           IF BIT-OF-64 NOT = 9223372036854775808
+               PERFORM FAIL
+           END-IF.
+
+      * Lines are written as 01's columns have them, and the bytes
+      * after them stay.
+       TEST-WRITE.
+           MOVE "written lines" TO TESTED
+           IF LENGTH OF LB-REQUEST NOT = LB-REQUEST-ROOM
+                   OR LENGTH OF LB-CALL-LABEL NOT = LB-LABEL-LEN
+               PERFORM FAIL
+           END-IF
+           SET LB-CALL-ENTER TO TRUE
+           MOVE 12 TO LB-CALL-PROGRAM
+           MOVE "ORDERS" TO LB-CALL-LABEL
+           MOVE 0 TO LB-CALL-WRITABLE LB-CALL-READABLE
+           ADD LB-FILE-BIT (2) LB-FILE-BIT (64) TO LB-CALL-WRITABLE
+           ADD LB-FILE-BIT (1) TO LB-CALL-READABLE
+           MOVE "ENTER  12ORDERS    2  1  2 64  1" TO EXPECTED-LINE
+           MOVE 32 TO EXPECTED-LEN
+           PERFORM WRITE-AND-COMPARE
+           SET LB-CALL-OPEN TO TRUE
+           MOVE 64 TO LB-CALL-FILE
+           MOVE "OPEN   12 64" TO EXPECTED-LINE
+           MOVE 12 TO EXPECTED-LEN
+           PERFORM WRITE-AND-COMPARE
+           SET LB-CALL-CLOSE TO TRUE
+           MOVE "CLOSE  12 64" TO EXPECTED-LINE
+           PERFORM WRITE-AND-COMPARE
+           SET LB-CALL-DROP TO TRUE
+           MOVE "DROP   12 64" TO EXPECTED-LINE
+           PERFORM WRITE-AND-COMPARE
+           SET LB-CALL-LEAVE TO TRUE
+           MOVE "LEAVE  12" TO EXPECTED-LINE
+           MOVE 9 TO EXPECTED-LEN
+           PERFORM WRITE-AND-COMPARE.
+
+      * The call is a leave of program 12.
+       TEST-WRITE-REFUSALS.
+           MOVE "refusals of written lines" TO TESTED
+           MOVE 8 TO LB-REQUEST-ROOM
+           PERFORM ASK-WRITE
+           IF NOT LB-BUFFER-SHORT
+               PERFORM FAIL
+           END-IF
+           MOVE 408 TO LB-REQUEST-ROOM
+           MOVE 33 TO LB-CALL-PROGRAM
+           PERFORM ASK-WRITE
+           IF NOT LB-WRITE-OUT-OF-RANGE
+               PERFORM FAIL
+           END-IF
+           MOVE 32 TO LB-CALL-PROGRAM
+           MOVE LOW-VALUES TO LB-CALL-LABEL
+           SET LB-CALL-ENTER TO TRUE
+           PERFORM ASK-WRITE
+           IF NOT LB-WRITE-BAD-LABEL
+               PERFORM FAIL
+           END-IF
+           MOVE 6 TO LB-CALL-VERB
+           PERFORM ASK-WRITE
+           IF NOT LB-WRITE-NO-VERB
+               PERFORM FAIL
+           END-IF
+           COMPUTE LB-REFUSAL = 0 - LB-ANSWER
+           IF NOT LB-NO-VERB OR LB-REQUEST NOT = ALL X"FF"
+               PERFORM FAIL
+           END-IF.
+
        TEST-REFUSALS.
            MOVE "refusals" TO TESTED
            SET LB-VERB-DROP TO TRUE
@@ -172,7 +259,14 @@
            IF NOT LB-JOURNAL-FULL
                PERFORM FAIL
            END-IF
+           MOVE 512 TO LB-JOURNAL-LEN
            MOVE 1154 TO LB-IMAGE-LEN
+           PERFORM ASK
+           IF NOT LB-UNSOUND
+               PERFORM FAIL
+           END-IF
+      *    Its lower half is 1155: no half of a number is lost.
+           MOVE 4294968451 TO LB-IMAGE-LEN
            PERFORM ASK
            IF NOT LB-UNSOUND
                PERFORM FAIL
@@ -180,17 +274,40 @@
 
        ASK.
            CALL STATIC "lock_board_line" USING
-               BY REFERENCE LB-IMAGE BY VALUE LB-IMAGE-LEN
-               BY REFERENCE LB-REQUEST BY VALUE LB-REQUEST-LEN
-               BY REFERENCE LB-JOURNAL BY VALUE LB-JOURNAL-LEN
-               BY VALUE LB-PLACE
+               BY REFERENCE LB-IMAGE BY VALUE SIZE AUTO LB-IMAGE-LEN
+               BY REFERENCE LB-REQUEST BY VALUE SIZE AUTO LB-REQUEST-LEN
+               BY REFERENCE LB-JOURNAL BY VALUE SIZE AUTO LB-JOURNAL-LEN
+               BY VALUE SIZE AUTO LB-PLACE
                RETURNING LB-ANSWER.
 
        ASK-ORDER.
            CALL STATIC "lock_board_order" USING
-               BY REFERENCE LB-IMAGE BY VALUE LB-IMAGE-LEN
-               BY REFERENCE LB-ORDER BY VALUE LB-ORDER-LEN
+               BY REFERENCE LB-IMAGE BY VALUE SIZE AUTO LB-IMAGE-LEN
+               BY REFERENCE LB-ORDER BY VALUE SIZE AUTO LB-ORDER-LEN
                RETURNING LB-ANSWER.
+
+       ASK-WRITE.
+           MOVE ALL X"FF" TO LB-REQUEST
+           CALL STATIC "lock_board_write" USING
+               BY VALUE SIZE AUTO LB-CALL-VERB
+               BY VALUE SIZE AUTO LB-CALL-PROGRAM
+               BY VALUE SIZE AUTO LB-CALL-FILE
+               BY VALUE SIZE AUTO LB-CALL-WRITABLE
+               BY VALUE SIZE AUTO LB-CALL-READABLE
+               BY REFERENCE LB-CALL-LABEL
+               BY VALUE SIZE AUTO LB-LABEL-LEN
+               BY REFERENCE LB-REQUEST
+               BY VALUE SIZE AUTO LB-REQUEST-ROOM
+               RETURNING LB-ANSWER.
+
+       WRITE-AND-COMPARE.
+           PERFORM ASK-WRITE
+           IF LB-ANSWER NOT = EXPECTED-LEN
+                   OR LB-REQUEST (1:EXPECTED-LEN) NOT =
+                      EXPECTED-LINE (1:EXPECTED-LEN)
+                   OR LB-REQUEST (EXPECTED-LEN + 1:) NOT = ALL X"FF"
+               PERFORM FAIL
+           END-IF.
 
        FAIL.
            DISPLAY "LAYOUT: failed: " TESTED UPON SYSERR

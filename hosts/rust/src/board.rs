@@ -1,4 +1,5 @@
-use crate::{entry, Line, Refusal, Word, IMAGE_LEN, JOURNAL_LINE, JOURNAL_ROOM, PROGRAMS};
+use crate::{entry, Line, Refusal, Word};
+use crate::{FILES, IMAGE_LEN, JOURNAL_LINE, JOURNAL_ROOM, LABEL_LEN, PROGRAMS};
 use std::error;
 use std::fmt;
 
@@ -16,14 +17,19 @@ pub struct Reply {
     journal: Vec<u8>,
 }
 
-/// Why there is no board, or no reply.
+/// Why there is no board, no reply or no request line.
 #[derive(Clone, Copy, Debug, PartialEq, Eq)]
 #[non_exhaustive]
 pub enum Error {
     /// The image has this many bytes and not [`IMAGE_LEN`].
     ImageLength(usize),
-    /// Refused with 1 or 2: the board is as it was and nothing was written.
+    /// Refused with 1 or 2: the board is as it was and nothing was written. Or a
+    /// [`Request`](crate::Request) with 8 or 6: there is no such line.
     Refused(Refusal),
+    /// The label of an ENTER has this many bytes, more than [`LABEL_LEN`].
+    LabelLength(usize),
+    /// This file of a claim is not 1 to [`FILES`].
+    ClaimedFile(u8),
     /// The library wrote something that is no journal line: it is not the one that this crate is for.
     Journal,
 }
@@ -178,6 +184,12 @@ impl fmt::Display for Error {
         match self {
             Error::ImageLength(len) => write!(f, "an image has {IMAGE_LEN} bytes, not {len}"),
             Error::Refused(refusal) => write!(f, "refusal {}: {refusal}", refusal.number()),
+            Error::LabelLength(len) => {
+                write!(f, "a label has at most {LABEL_LEN} bytes, not {len}")
+            }
+            Error::ClaimedFile(file) => {
+                write!(f, "file {file} is out of range; files are 1 to {FILES}")
+            }
             Error::Journal => f.write_str("the library wrote no journal line"),
         }
     }

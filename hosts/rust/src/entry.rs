@@ -1,13 +1,22 @@
 //! The entry of `libhost.a` on slices, as it is: for hosts that keep image and journal themselves.
 //!
 //! Slices cannot be null, and the borrow checker keeps these from overlapping; the board checks
-//! all else. So any bytes, lengths and place are safe. No function keeps any state.
+//! all else. So any bytes, lengths and numbers are safe. No function keeps any state.
 
 /// The answer for refusal 1.
 pub const UNSOUND: u64 = u64::MAX;
 
 /// The answer for refusal 2.
 pub const JOURNAL_FULL: u64 = u64::MAX - 1;
+
+/// The answer for refusal 3.
+pub const NO_VERB: u64 = u64::MAX - 2;
+
+/// The answer for refusal 6.
+pub const BAD_LABEL: u64 = u64::MAX - 5;
+
+/// The answer for refusal 8.
+pub const OUT_OF_RANGE: u64 = u64::MAX - 7;
 
 /// The answer for refusal 17.
 pub const BUFFER_SHORT: u64 = u64::MAX - 16;
@@ -29,6 +38,17 @@ mod c {
             image_len: usize,
             order: *mut u8,
             order_len: usize,
+        ) -> u64;
+        pub fn lock_board_write(
+            verb: u64,
+            program: u64,
+            file: u64,
+            writable: u64,
+            readable: u64,
+            label: *const u8,
+            label_len: usize,
+            line: *mut u8,
+            line_len: usize,
         ) -> u64;
     }
 }
@@ -92,4 +112,44 @@ pub fn order(image: &[u8], order: &mut [u8]) -> u64 {
     // SAFETY: the slices give pointers that are not null and their own lengths; `order` is
     // borrowed for this call alone, so the two do not overlap.
     unsafe { c::lock_board_order(image.as_ptr(), image.len(), order.as_mut_ptr(), order.len()) }
+}
+
+/// Writes the request line of a call, from the buffer's start on and without a byte 10, and answers
+/// its length, [`NO_VERB`], [`OUT_OF_RANGE`], [`BAD_LABEL`] or [`BUFFER_SHORT`]. The verbs are
+/// those of [`Verb::number`](crate::Verb::number); in the two sets file 1 is the lowest bit. What a
+/// verb does not use is not looked at. [`Request`](crate::Request) is easier to use.
+///
+/// ```
+/// use lock_board::{entry, Verb, LONGEST_LINE};
+///
+/// let mut line = [0; LONGEST_LINE];
+/// assert_eq!(entry::write(Verb::Enter.number(), 2, 0, 2, 1, b"ORDERS  ", &mut line), 29);
+/// assert_eq!(&line[..30], b"ENTER   2ORDERS    1  1  2  1\0");
+/// assert_eq!(entry::write(Verb::Leave.number(), 2, 0, 0, 0, b"", &mut line[..8]), entry::BUFFER_SHORT);
+/// assert_eq!(entry::write(6, 2, 0, 0, 0, b"", &mut line), entry::NO_VERB);
+/// ```
+pub fn write(
+    verb: u64,
+    program: u64,
+    file: u64,
+    writable: u64,
+    readable: u64,
+    label: &[u8],
+    line: &mut [u8],
+) -> u64 {
+    // SAFETY: the slices give pointers that are not null and their own lengths; `line` is
+    // borrowed for this call alone, so the two do not overlap.
+    unsafe {
+        c::lock_board_write(
+            verb,
+            program,
+            file,
+            writable,
+            readable,
+            label.as_ptr(),
+            label.len(),
+            line.as_mut_ptr(),
+            line.len(),
+        )
+    }
 }

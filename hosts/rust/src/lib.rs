@@ -1,4 +1,4 @@
-//! The lock board, for hosts in Rust: a safe wrapper of the three functions of `libhost.a`.
+//! The lock board, for hosts in Rust: a safe wrapper of the four functions of `libhost.a`.
 //!
 //! A [`Board`] serves request lines and gives back the journal lines of each:
 //!
@@ -24,6 +24,15 @@
 //! assert_eq!(Refusal::IsAbsent.to_string(), "The program has not entered");
 //! # Ok::<(), lock_board::Error>(())
 //! ```
+//!
+//! A [`Request`] writes the lines, so that nobody counts columns:
+//!
+//! ```
+//! # use lock_board::Request;
+//! let line = Request::enter(1).label("STOCK").write([3]).line()?;
+//! assert_eq!(line, b"ENTER   1STOCK     1  0  3");
+//! # Ok::<(), lock_board::Error>(())
+//! ```
 #![deny(unsafe_op_in_unsafe_fn)]
 #![deny(missing_docs)]
 
@@ -31,11 +40,13 @@ mod board;
 pub mod entry;
 mod journal;
 mod refusal;
+mod request;
 mod view;
 
 pub use board::{Board, Error, Reply};
 pub use journal::{Line, Word};
 pub use refusal::Refusal;
+pub use request::{Enter, Request, Verb};
 pub use view::{Favoured, Files, Program, Standing};
 
 /// The bytes of a board's image.
@@ -61,3 +72,6 @@ pub const PROGRAMS: usize = 32;
 
 /// The highest number of a file.
 pub const FILES: usize = 64;
+
+/// The bytes of the label in an ENTER line.
+pub const LABEL_LEN: usize = 8;

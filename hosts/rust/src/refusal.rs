@@ -9,13 +9,13 @@ pub enum Refusal {
     NotSound = 1,
     /// The place is above 1,000,000,000, or place + 512 is above the journal's length.
     JournalFull,
-    /// The line has under 6 bytes, or columns 1–6 are no verb.
+    /// The line has under 6 bytes, or columns 1–6 are no verb; or a line of no verb is to be written.
     NoVerb,
     /// The line has not the length that its verb, and for ENTER its counts, ask for.
     BadLength,
     /// A number is not in form or range.
     BadNumber,
-    /// A byte of the label is outside 32 to 126.
+    /// A byte of the label is outside 32 to 126; or one to be written has not eight bytes.
     BadLabel,
     /// The files of one group are not strictly rising.
     NotRising,
@@ -37,7 +37,7 @@ pub enum Refusal {
     IsOpen,
     /// The file is not open by the program.
     NotOpen,
-    /// The buffer for an order is shorter than the order.
+    /// The buffer for an order or a line is shorter than that.
     BufferShort,
 }
 

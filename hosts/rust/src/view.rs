@@ -37,6 +37,12 @@ impl Files {
         (1..=FILES as u8).filter(move |&file| self.has(file))
     }
 
+    /// The set with this file; `None` for a number that is no file.
+    pub(crate) fn with(self, file: u8) -> Option<Files> {
+        let place = file.checked_sub(1)?;
+        Some(Files(self.0 | 1u64.checked_shl(place.into())?))
+    }
+
     /// The set as bits: file 1 is the lowest.
     pub fn bits(self) -> u64 {
         self.0

@@ -1,7 +1,8 @@
-//! Compares the library, through its C entry, with a model of document 01: on
-//! random sessions, damaged lines, damaged images and all kinds of journals.
-//! Every answer, image and journal byte is compared, with guard bytes around
-//! each buffer. Compares also what the hosts show for a person.
+//! Compares the library, through its C entry, with a model of the documents: on
+//! random sessions, damaged lines, damaged images and all kinds of journals, and
+//! on lines that it writes. Every answer, image, journal byte and written byte
+//! is compared, with guard bytes around each buffer. Compares also what the
+//! hosts show for a person.
 //!
 //! LOCK_BOARD_SEED chooses another seed, LOCK_BOARD_LINES another number of
 //! calls (200,000). A difference is printed as the smallest session that shows

@@ -9,6 +9,7 @@ use crate::compare::call::Call;
 use crate::compare::counters::Counters;
 use crate::compare::programs;
 use crate::generate::images::{pool, DAMAGES};
+use crate::generate::numbers::{self, NUMBERS};
 use crate::generate::random::Random;
 use crate::generate::sessions::{wild, Cast, PROFILES};
 use crate::generate::{lines, scripts};
@@ -19,37 +20,11 @@ use crate::model::journal::Word;
 use crate::model::{image, line};
 use std::path::{Path, PathBuf};
 
-/// Numbers at the edges of programs and files, and such as would be in range
-/// if they lost their upper bits.
-const NUMBERS: [usize; 21] = [
-    0,
-    1,
-    2,
-    3,
-    31,
-    32,
-    33,
-    63,
-    64,
-    65,
-    255,
-    256,
-    256 + 1,
-    256 + 64,
-    (1 << 16) + 1,
-    1 << 32,
-    (1 << 32) + 1,
-    (1 << 32) + 64,
-    1 << 63,
-    usize::MAX - 31,
-    usize::MAX,
-];
-
-fn path() -> Option<PathBuf> {
+pub fn path() -> Option<PathBuf> {
     programs::find("LOCK_BOARD_ASKED", "asked")
 }
 
-fn count(reply: &Reply, met: &mut Counters) {
+pub fn count(reply: &Reply, met: &mut Counters) {
     met.calls += 1;
     if reply.refusal != 0 {
         met.add(&format!("refusal {}", reply.refusal));
@@ -62,7 +37,7 @@ fn count(reply: &Reply, met: &mut Counters) {
     }
 }
 
-fn assert_refusals(met: &Counters, numbers: impl Iterator<Item = usize>) {
+pub fn assert_refusals(met: &Counters, numbers: impl Iterator<Item = usize>) {
     for number in numbers {
         let name = format!("refusal {number}");
         assert!(met.get(&name) > 0, "{name} not met");
@@ -113,11 +88,7 @@ fn astray(request: Request, random: &mut Random) -> Request {
         return request;
     }
     let (p, f) = request.numbers();
-    let [p, f] = [p, f].map(|number| match random.below(4) {
-        0 => NUMBERS[random.below(NUMBERS.len())],
-        1 => random.next() as usize,
-        _ => number,
-    });
+    let [p, f] = [p, f].map(|number| numbers::astray(number, random));
     match request {
         Request::Enter { v, q, .. } => Request::Enter {
             p,

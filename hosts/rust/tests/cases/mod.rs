@@ -11,6 +11,9 @@ mod sessions;
 mod show;
 mod survives;
 mod vectors;
+mod writer;
+mod writer_vectors;
+mod written_lines;
 
 fn number(name: &str, default: u64) -> u64 {
     match std::env::var(name) {

@@ -1,6 +1,6 @@
 //! One line call, made of the library and of the model on the same bytes.
 
-use super::guard::Guarded;
+use super::guard::{spilt, Guarded};
 use super::orders::{self, Asked};
 use crate::generate::random::Random;
 use crate::model::image;
@@ -79,15 +79,12 @@ pub fn library(image: &[u8], call: &Call) -> Outcome {
     let mut line = Guarded::new(&call.line);
     let mut journal = Guarded::new(&call.journal_before());
     let answer = library_line(&mut image, &mut line, &mut journal, call.place);
-    let spilt = [
+    let spilt = spilt([
         (image.intact(), "guard bytes of the image"),
         (line.intact(), "guard bytes of the line"),
         (journal.intact(), "guard bytes of the journal"),
         (line.contents() == call.line, "bytes of the line"),
-    ]
-    .into_iter()
-    .find(|(kept, _)| !kept)
-    .map(|(_, what)| what);
+    ]);
     let (image, journal) = (image.contents().to_vec(), journal.contents().to_vec());
     Outcome {
         answer,

@@ -27,6 +27,13 @@ impl Counters {
         self.counts.get(name).copied().unwrap_or(0)
     }
 
+    /// Ends the test unless each of these was met.
+    pub fn assert_met(&self, names: &[&str]) {
+        for name in names {
+            assert!(self.get(name) > 0, "{name} not met");
+        }
+    }
+
     pub fn get_most(&self, name: &str) -> u64 {
         self.most.get(name).copied().unwrap_or(0)
     }

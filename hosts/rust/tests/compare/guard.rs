@@ -45,3 +45,11 @@ impl Guarded {
             .all(|&byte| byte == MARK)
     }
 }
+
+/// The first of some things that a call may not change and yet has changed;
+/// each comes with whether it was kept.
+pub fn spilt<const N: usize>(kept: [(bool, &'static str); N]) -> Option<&'static str> {
+    kept.into_iter()
+        .find(|(kept, _)| !kept)
+        .map(|(_, what)| what)
+}

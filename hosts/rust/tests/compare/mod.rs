@@ -11,3 +11,4 @@ pub mod programs;
 pub mod report;
 pub mod session;
 pub mod shrink;
+pub mod written;

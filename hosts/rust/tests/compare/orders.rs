@@ -1,7 +1,7 @@
 //! The order of an image, asked of the library and of the model with buffers of
 //! several lengths.
 
-use super::guard::Guarded;
+use super::guard::{spilt, Guarded};
 use crate::model::image;
 
 extern "C" {
@@ -58,14 +58,11 @@ pub fn library(image: &[u8]) -> Vec<Asked> {
         let (mut lent, mut order) = (Guarded::new(image), Guarded::new(&vec![FILL; len]));
         // SAFETY: two buffers of these lengths, apart from each other, none null.
         let answer = unsafe { lock_board_order(lent.start(), image.len(), order.start(), len) };
-        let spilt = [
+        let spilt = spilt([
             (lent.intact(), "guard bytes of the image"),
             (order.intact(), "guard bytes of the order"),
             (lent.contents() == image, "bytes of the image"),
-        ]
-        .into_iter()
-        .find(|(kept, _)| !kept)
-        .map(|(_, what)| what);
+        ]);
         Asked {
             answer,
             buffer: order.contents().to_vec(),

@@ -1,7 +1,9 @@
-//! Random sessions, and damage to lines and images.
+//! Random sessions, damage to lines and images, and what the writer is handed.
 
 pub mod images;
 pub mod lines;
+pub mod numbers;
 pub mod random;
 pub mod scripts;
 pub mod sessions;
+pub mod writings;

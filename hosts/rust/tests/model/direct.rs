@@ -75,7 +75,7 @@ fn carried(board: &Board) -> Vec<usize> {
 }
 
 /// "Program or file out of range"; enter and leave have no file.
-fn out_of_range(request: &Request) -> bool {
+pub fn out_of_range(request: &Request) -> bool {
     let (p, f) = request.numbers();
     let has_file = !matches!(request, Request::Enter { .. } | Request::Leave { .. });
     !(1..=PROGRAMS).contains(&p) || has_file && !(1..=FILES).contains(&f)

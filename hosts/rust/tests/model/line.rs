@@ -43,7 +43,7 @@ fn enter(line: &[u8]) -> Result<Request, usize> {
         return Err(4);
     }
     let p = number(&line[6..9], 1, PROGRAMS)?;
-    if !line[9..17].iter().all(|byte| (32..=126).contains(byte)) {
+    if !is_label(&line[9..17]) {
         return Err(6);
     }
     let w = number(&line[17..20], 0, FILES)?;
@@ -61,6 +61,11 @@ fn enter(line: &[u8]) -> Result<Request, usize> {
         v: group(v)?,
         q: group(q)?,
     })
+}
+
+/// Eight bytes, none outside 32 to 126.
+pub fn is_label(bytes: &[u8]) -> bool {
+    bytes.len() == 8 && bytes.iter().all(|byte| (32..=126).contains(byte))
 }
 
 /// The set of one group, whose files must rise strictly.
@@ -81,7 +86,7 @@ pub fn label(line: &[u8]) -> &[u8] {
 }
 
 /// The line of a request; the label is used for ENTER only.
-pub fn write(request: &Request, label: &[u8; 8]) -> Vec<u8> {
+pub fn write(request: &Request, label: &[u8]) -> Vec<u8> {
     let (verb, (p, f)) = match request {
         Request::Enter { .. } => (b"ENTER ", request.numbers()),
         Request::Open { .. } => (b"OPEN  ", request.numbers()),

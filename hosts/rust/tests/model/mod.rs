@@ -1,6 +1,6 @@
-//! A model of the lock board, written from the text of document 01 alone and
-//! kept apart from the library: it shares no code with it. Each module holds
-//! one part of the document.
+//! A model of the lock board, written from the text of documents 01 and 02
+//! alone and kept apart from the library: it shares no code with it. Each module
+//! holds one part of 01; `writer` has 02's first request.
 
 pub mod board;
 pub mod direct;
@@ -12,3 +12,4 @@ pub mod order;
 pub mod program;
 pub mod settle;
 pub mod sound;
+pub mod writer;

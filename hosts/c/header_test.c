@@ -1,0 +1,61 @@
+/* Tests that the names of lock_board.h for verbs, answers and refusals stand for what the board
+ * answers. */
+#include "lock_board.h"
+
+#include <stdio.h>
+#include <stdlib.h>
+#include <string.h>
+
+static uint8_t line[LOCK_BOARD_LONGEST_LINE];
+
+/* Writes the line of program 7 with file 9, the claims {1, 64} and {2}, and this label. */
+static uint64_t write_line(uint64_t verb, const char *label, size_t line_len) {
+    memset(line, '#', sizeof line);
+    return lock_board_write(verb, 7, 9, (uint64_t)1 << 63 | 1, 2, (const uint8_t *)label,
+                            strlen(label), line, line_len);
+}
+
+static void fail(const char *what) {
+    fprintf(stderr, "header_test: %s\n", what);
+    exit(1);
+}
+
+static void test_verb(uint64_t verb, const char *expected) {
+    const size_t len = strlen(expected);
+    if (write_line(verb, "LABEL   ", sizeof line) != len || memcmp(line, expected, len) != 0 ||
+        line[len] != '#')
+        fail(expected);
+}
+
+/* An answer is the one that its name says, and leads back to the refusal's number. */
+static void test_refused(const char *what, uint64_t answer, uint64_t name, int refusal,
+                         uint64_t number) {
+    if (answer != name || answer + number != 0 || (uint64_t)refusal != number ||
+        LOCK_BOARD_REFUSED(answer) != number || line[0] != '#')
+        fail(what);
+}
+
+int main(void) {
+    uint8_t image[LOCK_BOARD_IMAGE_LEN], journal[LOCK_BOARD_JOURNAL_ROOM];
+    test_verb(LOCK_BOARD_ENTER, "ENTER   7LABEL     2  1  1 64  2");
+    test_verb(LOCK_BOARD_OPEN, "OPEN    7  9");
+    test_verb(LOCK_BOARD_CLOSE, "CLOSE   7  9");
+    test_verb(LOCK_BOARD_DROP, "DROP    7  9");
+    test_verb(LOCK_BOARD_LEAVE, "LEAVE   7");
+    test_refused("no verb", write_line(LOCK_BOARD_LEAVE + 1, "", sizeof line), LOCK_BOARD_NO_VERB,
+                 LOCK_BOARD_REFUSAL_NO_VERB, 3);
+    test_refused("bad label", write_line(LOCK_BOARD_ENTER, "LABEL", sizeof line),
+                 LOCK_BOARD_BAD_LABEL, LOCK_BOARD_REFUSAL_BAD_LABEL, 6);
+    test_refused("buffer short", write_line(LOCK_BOARD_LEAVE, "", 8), LOCK_BOARD_BUFFER_SHORT,
+                 LOCK_BOARD_REFUSAL_BUFFER_SHORT, 17);
+    test_refused("out of range",
+                 lock_board_write(LOCK_BOARD_LEAVE, 33, 0, 0, 0, line, 0, journal, sizeof journal),
+                 LOCK_BOARD_OUT_OF_RANGE, LOCK_BOARD_REFUSAL_OUT_OF_RANGE, 8);
+    test_refused("not sound", lock_board_empty(image, 1), LOCK_BOARD_UNSOUND,
+                 LOCK_BOARD_REFUSAL_NOT_SOUND, 1);
+    lock_board_empty(image, sizeof image);
+    test_refused("journal full",
+                 lock_board_line(image, sizeof image, line, 0, journal, sizeof journal, 1),
+                 LOCK_BOARD_JOURNAL_FULL, LOCK_BOARD_REFUSAL_JOURNAL_FULL, 2);
+    return 0;
+}

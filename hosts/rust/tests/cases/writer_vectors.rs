@@ -1,0 +1,150 @@
+//! The vectors of the writer, through the library and the model; their form is
+//! told in vectors-writer/README.md.
+
+use crate::compare::asked::Asking;
+use crate::compare::call::{self, Call};
+use crate::compare::written::{expect, library, model, Written};
+use crate::model::board::{only, Files};
+use crate::model::journal::{Entry, Word};
+use crate::model::line;
+use crate::model::writer::{Writing, VERBS};
+use std::collections::BTreeSet;
+use std::path::Path;
+
+/// The cases of a file, each with its answer.
+fn cases(name: &str) -> Vec<(String, String)> {
+    let folder = Path::new(env!("CARGO_MANIFEST_DIR")).join("tests/vectors-writer");
+    let [cases, answers] = ["in", "out"].map(|ending| {
+        let path = folder.join(format!("{name}.{ending}"));
+        let text = std::fs::read_to_string(&path)
+            .unwrap_or_else(|error| panic!("{}: {error}", path.display()));
+        text.lines().map(String::from).collect::<Vec<String>>()
+    });
+    assert_eq!(cases.len(), answers.len(), "{name}");
+    assert!(!cases.is_empty(), "{name}");
+    cases.into_iter().zip(answers).collect()
+}
+
+fn number(word: &str) -> u64 {
+    word.parse()
+        .unwrap_or_else(|_| panic!("no number: {word:?}"))
+}
+
+fn bytes(word: &str) -> Vec<u8> {
+    if word == "-" {
+        return Vec::new();
+    }
+    assert!(word.len() % 2 == 0, "no bytes: {word:?}");
+    let byte = |at| u8::from_str_radix(&word[at..at + 2], 16);
+    (0..word.len())
+        .step_by(2)
+        .map(|at| byte(at).unwrap_or_else(|_| panic!("no bytes: {word:?}")))
+        .collect()
+}
+
+fn set(word: &str) -> Files {
+    if word == "-" {
+        return 0;
+    }
+    let files = word.split(',').map(|f| only(number(f) as usize));
+    files.fold(0, |set, one| set | one)
+}
+
+/// VERB program file record label V Q J, of which record and J are not used.
+fn writing(words: &[&str]) -> Writing {
+    let [verb, program, file, _, label, v, q, _] = *words else {
+        panic!("not eight words: {words:?}");
+    };
+    let verb = VERBS.iter().position(|&text| text == verb);
+    Writing {
+        verb: verb.unwrap_or_else(|| panic!("no verb: {words:?}")) as u64 + 1,
+        program: number(program),
+        file: number(file),
+        v: set(v),
+        q: set(q),
+        label: bytes(label),
+    }
+}
+
+/// What `refusal length kept line` says of a buffer.
+fn expected(answer: &str, before: &[u8]) -> Written {
+    let words: Vec<&str> = answer.splitn(4, ' ').collect();
+    match words[..] {
+        ["0", length, "kept", line] => {
+            assert_eq!(number(length), line.len() as u64, "{answer}");
+            Written::line(line.as_bytes(), before)
+        }
+        [refusal, "0", "kept"] => Written::refused(number(refusal), before),
+        _ => panic!("no answer: {answer:?}"),
+    }
+}
+
+#[test]
+fn vectors_are_written() {
+    let (mut refusals, mut verbs) = (BTreeSet::new(), BTreeSet::new());
+    for name in ["write-1", "write-1-contest"] {
+        for (case, answer) in cases(name) {
+            let words: Vec<&str> = case.split(' ').collect();
+            let (buffer, words) = words.split_last().expect("a case");
+            let (writing, before) = (writing(words), vec![170; number(buffer) as usize]);
+            let expected = expected(&answer, &before);
+            for side in [model, library] {
+                expect(&expected, &side(&writing, &before), &writing, &before);
+            }
+            refusals.insert(number(answer.split(' ').next().unwrap_or_default()));
+            verbs.insert(writing.verb);
+        }
+    }
+    assert_eq!(refusals, BTreeSet::from([0, 6, 8, 17]));
+    assert_eq!(verbs, BTreeSet::from([1, 2, 3, 4, 5]));
+}
+
+/// The journal line for a line's values on the empty board: another verb than
+/// ENTER finds its program absent.
+fn answered(writing: &Writing) -> Entry {
+    let (p, f) = (writing.program as usize, writing.file as usize);
+    match writing.verb {
+        1 if writing.v & writing.q != 0 => Entry::refused(10, p, 0),
+        1 => Entry::new(Word::Admit, p, 0),
+        _ => Entry::refused(11, p, f),
+    }
+}
+
+#[test]
+fn vectors_are_read_and_written_back() {
+    let (mut taken, mut refused) = (BTreeSet::new(), BTreeSet::new());
+    for (case, answer) in cases("back-1") {
+        let (text, words) = (bytes(&case), answer.split(' ').collect::<Vec<&str>>());
+        let entry = match words[..] {
+            [refusal] => {
+                let number = number(refusal) as usize;
+                assert_eq!(line::read(&text), Err(number), "{case}");
+                refused.insert(number);
+                Entry::refused(number, 0, 0)
+            }
+            _ => {
+                assert_eq!(words[0], "0", "{answer}");
+                let writing = writing(&words[1..]);
+                written_back(&text, &writing);
+                taken.insert(writing.verb);
+                answered(&writing)
+            }
+        };
+        let outcome = call::library(&Asking::new().board, &Call::plain(&text));
+        let journal = &outcome.journal[..outcome.answer as usize];
+        assert_eq!(journal, entry.bytes(), "{case}");
+    }
+    assert_eq!(taken, BTreeSet::from([1, 2, 3, 4, 5]));
+    assert_eq!(refused, BTreeSet::from([3, 4, 5, 6]));
+}
+
+/// The model reads these values in the line, and both sides write them back.
+fn written_back(text: &[u8], writing: &Writing) {
+    let request = line::read(text).expect("a line in form");
+    assert_eq!(Writing::of(&request, line::label(text)), *writing);
+    let before = vec![170; text.len()];
+    let expected = Written::line(text, &before);
+    for side in [model, library] {
+        expect(&expected, &side(writing, &before), writing, &before);
+    }
+}
