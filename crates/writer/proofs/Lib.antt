@@ -1,3 +1,4 @@
--- The laws of written lines.
+-- The laws of written lines, and a table of them.
 pub mod Laws
 pub mod Law
+pub mod Cases
