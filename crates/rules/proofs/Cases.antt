@@ -1,4 +1,4 @@
--- The cases (a) to (j) of 01, and more, as one table with one theorem over it: each case is computed from the definitions.
+-- The cases (a) to (j) of 01, and more, with those of 02's CR 2, as one table with one theorem over it: each case is computed from the definitions.
 -- Assumes nothing.
 use Prim.Native.Nat.{ℕ}
 use mathlib.Core.Path.{_≡_, refl, sym, ap, _∙_}
@@ -18,9 +18,9 @@ use Rattle.rules.specs.Orders.{heldBack, carriedFrom, carried, withGiven
 use Rattle.rules.specs.Soundness.{setsSound, standingSound, programSound, noConflict, lineSound, waiterSound, noneFavoured, someFavoured, sound}
 use Rattle.rules.specs.Settling.{line, unfavour, resume, tryGive, pass, candidate, favour, runHeld, choose, settle}
 use Rattle.rules.specs.Replies.{reply, refuse, refuseUnsound, wordOf, linesOf, orderOf}
-use Rattle.rules.specs.Checks.{enterCheck, openCheck, closeCheck, leaveCheck}
-use Rattle.rules.specs.Calls.{enter, wait, openFile, done, closeFile, dropFile, countLeave, leave, apply, direct}
-use Rattle.rules.specs.Calls.{Call, Enter, Open, Close, Drop, Leave, programOf, fileOf}
+use Rattle.rules.specs.Checks.{enterCheck, openCheck, closeCheck, leaveCheck, cancelCheck}
+use Rattle.rules.specs.Calls.{enter, wait, openFile, done, closeFile, dropFile, countLeave, leave, countCancel, cancel, apply, direct}
+use Rattle.rules.specs.Calls.{Call, Enter, Open, Close, Drop, Leave, Cancel, programOf, fileOf}
 use Rattle.rules.proofs.Tables.{set}
 
 -- ---- what a list of direct calls, from the empty board, comes to
@@ -44,8 +44,8 @@ unfolding any all keep first padded rising listed distinct without same names
     heldBack carriedFrom carried withGiven inUse safe canGive
     setsSound standingSound programSound noConflict lineSound waiterSound noneFavoured someFavoured sound
     unfavour resume tryGive pass candidate favour runHeld choose settle
-    reply refuse refuseUnsound enterCheck openCheck closeCheck leaveCheck
-    enter wait openFile done closeFile dropFile countLeave leave apply direct
+    reply refuse refuseUnsound enterCheck openCheck closeCheck leaveCheck cancelCheck
+    enter wait openFile done closeFile dropFile countLeave leave countCancel cancel apply direct
 toldFrom b o [] = record { told = []; order = o; favoured = b .favoured ∷ b .initial ∷ b .leaves ∷ [] }
 toldFrom b o (c ∷ cs) =
     let r = direct b c in
@@ -381,9 +381,116 @@ u =
       favoured = nobody;
     }
 
+-- ---- CR 2, cancel
+
+-- 01's session before its last call, 1 and 2 admitted: 2 waits for file 2 and is favoured, 3 is held
+favoured2 : List Told → List Told
+unfolding yes set writer gets
+favoured2 more =
+    writer 1 (1 ∷ 2 ∷ 3 ∷ [])
+    ∷ writer 2 (1 ∷ 2 ∷ [])
+    ∷ gets 1 1
+    ∷ gets 1 3
+    ∷ yes (Open 2 2) Answer.Unsafe []
+    ∷ yes (Close 1 3) Answer.Done (line Word.Favour 2 2 ∷ [])
+    ∷ yes (Enter 3 noFiles (set (2 ∷ []))) Answer.Held []
+    ∷ more
+
+-- (v) the favoured program is cancelled, and nobody else waits: nobody is favoured any more, and settling lets the held one run
+v : Case
+unfolding favoured2 nobody yes
+v =
+    record {
+      told = favoured2 (yes (Cancel 2) Answer.Done (line Word.Admit 3 0 ∷ []) ∷ []);
+      order = 1 ∷ 3 ∷ [];
+      favoured = nobody;
+    }
+
+-- (w) a held program is cancelled, which counts nowhere; a running one gets 18, an absent one 11, and 8 comes first
+w : Case
+unfolding favoured2 yes no
+w =
+    record {
+      told =
+          favoured2
+          (yes (Cancel 3) Answer.Done []
+          ∷ no (Cancel 1) Refusal.IsRunning
+          ∷ no (Cancel 3) Refusal.IsAbsent
+          ∷ no (Cancel 0) Refusal.OutOfRange
+          ∷ no (Cancel 33) Refusal.OutOfRange
+          ∷ []);
+      order = 1 ∷ 2 ∷ [];
+      favoured = 2 ∷ 2 ∷ 0 ∷ [];
+    }
+
+-- (x) a waiter is cancelled while another is favoured: it counts as a leave
+x : Case
+unfolding yes writer gets
+x =
+    record {
+      told =
+          writer 1 (1 ∷ 2 ∷ 3 ∷ [])
+          ∷ writer 2 (1 ∷ 2 ∷ [])
+          ∷ writer 4 (1 ∷ [])
+          ∷ gets 1 1
+          ∷ gets 1 3
+          ∷ yes (Open 4 1) Answer.Wait []
+          ∷ yes (Open 2 2) Answer.Unsafe []
+          ∷ yes (Close 1 3) Answer.Done (line Word.Favour 2 2 ∷ [])
+          ∷ yes (Cancel 4) Answer.Done []
+          ∷ [];
+      order = 1 ∷ 2 ∷ [];
+      favoured = 2 ∷ 3 ∷ 1 ∷ [];
+    }
+
+-- (y) the favoured program is cancelled, and the next waiter is favoured by the same call: its numbers begin anew, and 3 stays held
+y : Case
+unfolding yes set writer gets
+y =
+    record {
+      told =
+          writer 1 (1 ∷ 2 ∷ 3 ∷ [])
+          ∷ writer 2 (1 ∷ 2 ∷ [])
+          ∷ writer 4 (1 ∷ 2 ∷ [])
+          ∷ gets 1 1
+          ∷ gets 1 3
+          ∷ yes (Open 2 2) Answer.Unsafe []
+          ∷ yes (Open 4 2) Answer.Unsafe []
+          ∷ yes (Close 1 3) Answer.Done (line Word.Favour 2 2 ∷ [])
+          ∷ yes (Enter 3 noFiles (set (2 ∷ []))) Answer.Held []
+          ∷ yes (Cancel 2) Answer.Done (line Word.Favour 4 2 ∷ [])
+          ∷ [];
+      order = 1 ∷ 4 ∷ [];
+      favoured = 4 ∷ 2 ∷ 0 ∷ [];
+    }
+
+-- (z) a waiter with an open file is cancelled, and the file goes to the next who waits for it; the cancel that leads to favouring is not
+-- counted; the number is free at once, for a program that is now held
+z : Case
+unfolding yes set writer gets
+z =
+    record {
+      told =
+          writer 1 (1 ∷ 2 ∷ 3 ∷ [])
+          ∷ writer 2 (1 ∷ 2 ∷ [])
+          ∷ writer 4 (3 ∷ 5 ∷ [])
+          ∷ writer 6 (5 ∷ [])
+          ∷ gets 1 1
+          ∷ gets 1 3
+          ∷ gets 4 5
+          ∷ yes (Open 2 2) Answer.Unsafe []
+          ∷ yes (Open 4 3) Answer.Wait []
+          ∷ yes (Open 6 5) Answer.Wait []
+          ∷ yes (Cancel 4) Answer.Done (line Word.Given 6 5 ∷ line Word.Favour 2 2 ∷ [])
+          ∷ yes (Enter 4 (set (3 ∷ [])) noFiles) Answer.Held []
+          ∷ [];
+      order = 1 ∷ 2 ∷ 6 ∷ [];
+      favoured = 2 ∷ 3 ∷ 0 ∷ [];
+    }
+
 table : List Case
-unfolding a b c d e f g h i j k l m n o p q r s t u
-table = a ∷ b ∷ c ∷ d ∷ e ∷ f ∷ g ∷ h ∷ i ∷ j ∷ k ∷ l ∷ m ∷ n ∷ o ∷ p ∷ q ∷ r ∷ s ∷ t ∷ u ∷ []
+unfolding a b c d e f g h i j k l m n o p q r s t u v w x y z
+table = a ∷ b ∷ c ∷ d ∷ e ∷ f ∷ g ∷ h ∷ i ∷ j ∷ k ∷ l ∷ m ∷ n ∷ o ∷ p ∷ q ∷ r ∷ s ∷ t ∷ u ∷ v ∷ w ∷ x ∷ y ∷ z ∷ []
 
 -- the calls of a case
 calls : Case → List Call

@@ -1,4 +1,4 @@
--- The five calls: what each does once its checks have passed, and the direct call with its checks.
+-- The six calls: what each does once its checks have passed, and the direct call with its checks.
 -- Assumes nothing.
 use Prim.Native.Nat.{ℕ, _+_}
 use mathlib.Core.Bool.{cond}
@@ -15,13 +15,13 @@ use Rattle.rules.specs.declared.Check.{Check}
 use Rattle.rules.specs.declared.Answer.{Answer}
 use Rattle.rules.specs.declared.Word.{Word}
 use Rattle.rules.specs.declared.Reply.{Reply}
-use Rattle.rules.specs.Lists.{names}
+use Rattle.rules.specs.Lists.{names, without}
 use Rattle.rules.specs.Boards.{noProgram, at, setProgram, setWaiting, setEntry, setFavour, setStanding, closing, dropping}
 use Rattle.rules.specs.Orders.{withGiven, inUse, safe}
 use Rattle.rules.specs.Soundness.{sound}
 use Rattle.rules.specs.Settling.{line, settle}
 use Rattle.rules.specs.Replies.{reply, refuse, refuseUnsound}
-use Rattle.rules.specs.Checks.{enterCheck, openCheck, closeCheck, leaveCheck}
+use Rattle.rules.specs.Checks.{enterCheck, openCheck, closeCheck, leaveCheck, cancelCheck}
 
 -- ---- what an accepted call does
 
@@ -68,15 +68,31 @@ countLeave b = cond (eqb (b .favoured) 0) b (setFavour b (b .favoured) (b .initi
 unfoldable pub leave : Board → ℕ → Reply
 leave b p = done (countLeave (setProgram b p noProgram)) p 0
 
+-- "A cancelled favoured program is favoured no longer. Otherwise a cancel of an admitted program counts as a leave"
+unfoldable pub countCancel : Board → ℕ → Board
+countCancel b p = cond (eqb (b .favoured) p) (setFavour b 0 0 0) (countLeave b)
+
+-- "The program goes with its files and claims", out of its line; "a cancel of a held one counts nowhere"
+abbrev pub withdrawn : Board → ℕ → Standing → Board
+withdrawn b p Standing.Absent = b
+withdrawn b p Standing.Running = b
+withdrawn b p (Standing.Waiting f) = countCancel (setWaiting (setProgram b p noProgram) (without p (names (b .waiting)))) p
+withdrawn b p Standing.Held = setEntry (setProgram b p noProgram) (without p (names (b .entry)))
+
+-- Cancel: "the answer is DONE, and the board settles"
+unfoldable pub cancel : Board → ℕ → Reply
+cancel b p = done (withdrawn b p (at b p .standing)) p 0
+
 -- ---- calls
 
--- the five kinds of direct call, with any numbers and claims
+-- the six kinds of direct call, with any numbers and claims
 pub data Call : Type 0 where
   Enter : ℕ → FileSet → FileSet → Call
   Open : ℕ → ℕ → Call
   Close : ℕ → ℕ → Call
   Drop : ℕ → ℕ → Call
   Leave : ℕ → Call
+  Cancel : ℕ → Call
 
 -- the call with a verb and these numbers and claims
 abbrev pub callWith : Verb → ℕ → ℕ → FileSet → FileSet → Call
@@ -85,6 +101,7 @@ callWith Verb.Open p f v q = Open p f
 callWith Verb.Close p f v q = Close p f
 callWith Verb.Drop p f v q = Drop p f
 callWith Verb.Leave p f v q = Leave p
+callWith Verb.Cancel p f v q = Cancel p
 
 -- the call that is asked for
 abbrev pub callOf : Asked → Call
@@ -97,6 +114,7 @@ programOf (Open p f) = p
 programOf (Close p f) = p
 programOf (Drop p f) = p
 programOf (Leave p) = p
+programOf (Cancel p) = p
 
 -- the file that it names, and 0 where it names none
 abbrev pub fileOf : Call → ℕ
@@ -105,14 +123,16 @@ fileOf (Open p f) = f
 fileOf (Close p f) = f
 fileOf (Drop p f) = f
 fileOf (Leave p) = 0
+fileOf (Cancel p) = 0
 
--- the first of checks 8 to 16 that applies
+-- the first of checks 8 to 16 and 18 that applies
 abbrev pub checked : Board → Call → Check
 checked b (Enter p v q) = enterCheck b p v q
 checked b (Open p f) = openCheck b p f
 checked b (Close p f) = closeCheck b p f
 checked b (Drop p f) = openCheck b p f
 checked b (Leave p) = leaveCheck b p
+checked b (Cancel p) = cancelCheck b p
 
 -- what the call does if it is accepted
 abbrev pub accepted : Board → Call → Reply
@@ -121,13 +141,14 @@ accepted b (Open p f) = openFile b p f
 accepted b (Close p f) = closeFile b p f
 accepted b (Drop p f) = dropFile b p f
 accepted b (Leave p) = leave b p
+accepted b (Cancel p) = cancel b p
 
 -- the reply unless refused
 abbrev pub unless : Board → Check → Reply → Reply
 unless b Check.Passed r = r
 unless b (Check.Failed n) r = refuse b n
 
--- the rules applied to a board: checks 8 to 16, then the call
+-- the rules applied to a board: checks 8 to 16 and 18, then the call
 unfoldable pub apply : Board → Call → Reply
 apply b c = unless b (checked b c) (accepted b c)
 

@@ -1,4 +1,4 @@
--- Checks 8 to 16 of a direct call: "Checks run downwards; the first that applies wins."
+-- Checks 8 to 16 and 18 of a direct call: "Checks run downwards; the first that applies wins."
 -- Assumes nothing.
 use Prim.Native.Nat.{ℕ}
 use mathlib.Core.Bool.{Bool, true, false, not, _&&_}
@@ -47,3 +47,14 @@ closeCheck b p f =
 -- 8, 11 to 13
 unfoldable pub leaveCheck : Board → ℕ → Check
 leaveCheck b p = refuseIf (not (isProgram p)) Refusal.OutOfRange (unlessRunning (at b p .standing) Check.Passed)
+
+-- 11, 18; then the next check; "12 and 13 don't apply to it"
+abbrev pub unlessStopped : Standing → Check → Check
+unlessStopped Standing.Absent next = Check.Failed Refusal.IsAbsent
+unlessStopped Standing.Held next = next
+unlessStopped (Standing.Waiting f) next = next
+unlessStopped Standing.Running next = Check.Failed Refusal.IsRunning
+
+-- 8, 11, 18
+unfoldable pub cancelCheck : Board → ℕ → Check
+cancelCheck b p = refuseIf (not (isProgram p)) Refusal.OutOfRange (unlessStopped (at b p .standing) Check.Passed)

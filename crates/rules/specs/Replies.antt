@@ -17,7 +17,7 @@ use Rattle.rules.specs.Settling.{line}
 
 -- ---- numbers and words
 
--- 01's number of each refusal ("Where each check is made")
+-- the number of each refusal: 01's ("Where each check is made"), and 18 for a cancel of a running program
 abbrev pub number : Refusal → ℕ
 number Refusal.NotSound = 1
 number Refusal.JournalFull = 2
@@ -35,6 +35,7 @@ number Refusal.IsWaiting = 13
 number Refusal.NotClaimed = 14
 number Refusal.IsOpen = 15
 number Refusal.NotOpen = 16
+number Refusal.IsRunning = 18
 
 -- the number of a refusal, and 0 for any other answer
 abbrev pub refusalOf : Answer → ℕ

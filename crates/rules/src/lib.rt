@@ -24,7 +24,8 @@ pub struct Program {
 }
 
 // Program p stands at index p - 1. The waiting line and the entry line are oldest first, and then 0.
-// favoured is the favoured program or 0, initial the number admitted when it was favoured, leaves the accepted leaves since.
+// favoured is the favoured program or 0, initial the number admitted when it was favoured, leaves the accepted leaves since,
+// with the cancels that count as leaves.
 pub struct Board {
     pub programs: [Program; 32],
     pub waiting: [u8; 32],
@@ -34,13 +35,14 @@ pub struct Board {
     pub leaves: u8,
 }
 
-// The five calls.
+// The six calls.
 pub enum Verb {
     Enter,
     Open,
     Close,
     Drop,
     Leave,
+    Cancel,
 }
 
 // What a call asks. The file counts for open, close and drop only, the claims (V and Q) for enter only.
@@ -52,7 +54,7 @@ pub struct Asked {
     pub readable: FileSet,
 }
 
-// Why a call is refused, in the order of 01's numbers 1 to 16.
+// Why a call is refused, in the order of their numbers: 01's 1 to 16, and 18 for a cancel of a running program.
 pub enum Refusal {
     NotSound,
     JournalFull,
@@ -70,6 +72,7 @@ pub enum Refusal {
     NotClaimed,
     IsOpen,
     NotOpen,
+    IsRunning,
 }
 
 // Whether the checks of a call refuse it.

@@ -26,6 +26,7 @@ impl Refusal {
             Refusal::NotClaimed => 14,
             Refusal::IsOpen => 15,
             Refusal::NotOpen => 16,
+            Refusal::IsRunning => 18,
         }
     }
 }

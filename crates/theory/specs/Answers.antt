@@ -17,7 +17,7 @@ use Rattle.rules.specs.Soundness.{sound}
 use Rattle.rules.specs.Settling.{line, settle}
 use Rattle.rules.specs.Replies.{refused, wordOf, blank, reply, refuse, refuseUnsound, linesOf, settlingLines}
 use Rattle.rules.specs.Calls.{enter, openFile, done, closeFile, dropFile, countLeave, leave, Call, Enter, Open, Close, Drop, Leave}
-use Rattle.rules.specs.Calls.{programOf, fileOf, checked, accepted, direct}
+use Rattle.rules.specs.Calls.{Cancel, withdrawn, cancel, programOf, fileOf, checked, accepted, direct}
 use Rattle.theory.specs.Calls.{take-padded, by-check, apply-accepted, apply-refused}
 
 -- ══ The statement ══
@@ -51,7 +51,7 @@ unfolding done
 done-answered b c = replied (settle b .board) c Answer.Done (settle b .lines) refl
 
 pub accepted-answered : (b : Board) (c : Call) → Answered c (accepted b c)
-unfolding enter openFile closeFile dropFile leave
+unfolding enter openFile closeFile dropFile leave cancel
 accepted-answered b (Enter p v q) =
     by-test (eqb (b .favoured) 0) (λ e. rw e (replied _ (Enter p v q) Answer.Admit [] refl))
     (λ e. rw e (replied _ (Enter p v q) Answer.Held [] refl))
@@ -62,6 +62,7 @@ accepted-answered b (Open p f) =
 accepted-answered b (Close p f) = done-answered (setProgram b p (closing (at b p) f)) (Close p f)
 accepted-answered b (Drop p f) = done-answered (setProgram b p (dropping (at b p) f)) (Drop p f)
 accepted-answered b (Leave p) = done-answered (countLeave (setProgram b p noProgram)) (Leave p)
+accepted-answered b (Cancel p) = done-answered (withdrawn b p (at b p .standing)) (Cancel p)
 
 pub answer-first : AnswerFirst
 unfolding direct refuseUnsound refuse reply

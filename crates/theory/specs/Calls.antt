@@ -4,7 +4,7 @@ use Prim.Native.Nat.{ℕ, suc, _≤_, _+_, _-_}
 use native.Mathlib.Omega.{arith}
 use mathlib.Core.Path.{_≡_, refl, sym, _∙_, ap, ap₂, subst}
 use mathlib.Core.Logic.{_≢_, _⊎_, inl, inr, ⊎-elim}
-use mathlib.Core.Bool.{Bool, true, false, not, _&&_}
+use mathlib.Core.Bool.{Bool, true, false, not, cond, _&&_}
 use mathlib.Core.List.{List, [], _∷_, _++_, List·Memᴰ·tail, List·Memᴰ·not-nil, List·Memᴰ·append-cases, List·Memᴰ·eq-of-singleton}
 use lib.Dec.{eqb}
 use lib.ListN.{length, take, drop, replicate, length-append}
@@ -21,19 +21,20 @@ use Rattle.rules.specs.declared.Answer.{Answer}
 use Rattle.rules.specs.declared.Word.{Word}
 use Rattle.rules.specs.declared.Line.{Line}
 use Rattle.rules.specs.declared.Reply.{Reply}
-use Rattle.rules.specs.Lists.{names, padded}
-use Rattle.rules.specs.Boards.{noProgram, isAbsent, isHeld, isWaiting, isProgram, awaitedOf, everyone, at, awaited, claims, hasOpen}
-use Rattle.rules.specs.Boards.{setProgram, setEntry, setFavour, setStanding, closing, dropping}
+use Rattle.rules.specs.Lists.{without, names, padded}
+use Rattle.rules.specs.Boards.{noProgram, isAbsent, isHeld, isWaiting, isAdmitted, isProgram, awaitedOf, everyone, at, awaited, claims}
+use Rattle.rules.specs.Boards.{hasOpen, setProgram, setWaiting, setEntry, setFavour, setStanding, closing, dropping}
 use Rattle.rules.specs.Orders.{withGiven, inUse, safe, canGive}
 use Rattle.rules.specs.Settling.{line, Step, settle}
 use Rattle.rules.specs.Replies.{settlingLines, blank, linesOf, reply, refuse}
-use Rattle.rules.specs.Checks.{refuseIf, unlessRunning, enterCheck, openCheck, closeCheck, leaveCheck}
+use Rattle.rules.specs.Checks.{refuseIf, unlessRunning, unlessStopped, enterCheck, openCheck, closeCheck, leaveCheck, cancelCheck}
 use Rattle.rules.specs.Calls.{newcomer, enter, wait, openFile, done, closeFile, dropFile, countLeave, leave, Call, Enter, Open, Close, Drop}
-use Rattle.rules.specs.Calls.{Leave, checked, accepted, unless, apply}
+use Rattle.rules.specs.Calls.{Leave, Cancel, countCancel, withdrawn, cancel, checked, accepted, unless, apply}
 use Rattle.theory.specs.Lists.{_∈_, Pairs, NoRepeat, by-mem, Pairs-append, no-longer, length-rising}
-use Rattle.theory.specs.Programs.{Is, is-of, mem-everyone, prog, put, put-other, put-case, give, can, canGive-is}
-use Rattle.theory.specs.Loose.{stands, waitsIn, heldAt, absent-is, waiting-file, Asked, LooseIn, Loose, Free, Good, test-same}
-use Rattle.theory.specs.Loose.{loose-close, loose-drop, loose-leave, loose-open, stuck-open, loose-wait, stuck-wait, loose-enter}
+use Rattle.theory.specs.Programs.{Is, is-of, mem-everyone, prog, put, put-same, put-other, put-case, give, can, canGive-is}
+use Rattle.theory.specs.Loose.{stands, waitsIn, heldAt, absent-is, held-is, waiting-file, Asked, LooseIn, Loose, Free, Good}
+use Rattle.theory.specs.Loose.{test-same, loose-close, loose-drop, loose-leave, loose-withdraw, loose-unhold, loose-open, stuck-open}
+use Rattle.theory.specs.Loose.{loose-wait, stuck-wait, loose-enter}
 use Rattle.theory.specs.Loose.{stuck-enter, loose-hold, stuck-hold}
 use Rattle.theory.specs.Settling.{Favour, NoFavour, Newly, Ended, Settled, settle-settled}
 
@@ -68,12 +69,17 @@ pub record EndedIn (b : Board) (s : Step) : Type 0 where
   pub line-there : line Word.Given (b .favoured) (awaited b (b .favoured)) ∈ drop 1 (s .lines)
   pub runs : stands (s .board .programs) (b .favoured) ≡ Standing.Running
 
--- What a call makes of b, if it counts k leaves.
-pub record Stepped (b : Board) (k : ℕ) (s : Step) : Type 0 where
+-- The favoured program was cancelled, and no longer waits.
+pub record Withdrew (b : Board) (x : ℕ) (s : Step) : Type 0 where
+  pub own : b .favoured ≡ x
+  pub over : waitsIn (s .board .programs) (b .favoured) ≡ false
+
+-- What a call makes of b, if it counts k leaves and cancels program x (0 for none).
+pub record Stepped (b : Board) (k x : ℕ) (s : Step) : Type 0 where
   pub good : Good (s .board)
   pub many : length (s .lines) ≤ 32
   pub fav : ((p : ℕ) × Newly s p) ⊎ (((s .board .favoured ≡ 0) ⊎ FavourMore b (s .board) k) × NoFavour (s .lines))
-  pub ended : b .favoured ≢ 0 → FavourMore b (s .board) k ⊎ EndedIn b s
+  pub ended : b .favoured ≢ 0 → FavourMore b (s .board) k ⊎ (EndedIn b s ⊎ Withdrew b x s)
   pub file-stays : b .favoured ≢ 0 → s .board .favoured ≡ b .favoured → awaited (s .board) (b .favoured) ≡ awaited b (b .favoured)
 
 -- ── Calls without settling ──
@@ -81,7 +87,7 @@ pub record Stepped (b : Board) (k : ℕ) (s : Step) : Type 0 where
 -- One line that is no FAVOUR, and the favouring as before.
 plain : (b c : Board) (ls : List Line) → Good c → length ls ≤ 32 → NoFavour ls → c .favoured ≡ b .favoured
     → c .initial ≡ b .initial → c .leaves ≡ b .leaves
-    → (b .favoured ≢ 0 → awaited c (b .favoured) ≡ awaited b (b .favoured)) → Stepped b 0 (record { board = c; lines = ls })
+    → (b .favoured ≢ 0 → awaited c (b .favoured) ≡ awaited b (b .favoured)) → Stepped b 0 0 (record { board = c; lines = ls })
 plain b c ls g m n x y z a = record {
   good = g;
   many = m;
@@ -170,6 +176,23 @@ leave-may b p e =
     let (s, _) = running-passed (at b p .standing) _ e₁ in
     record { is = is-of p (not-of (isProgram p) a); runs = s }
 
+pub stopped-passed : (s : Standing) (k : Check) → unlessStopped s k ≡ Check.Passed → (isWaiting s ≡ true) ⊎ (isHeld s ≡ true)
+stopped-passed Standing.Absent k e = failed-passed Refusal.IsAbsent e
+stopped-passed Standing.Held k e = inr refl
+stopped-passed (Standing.Waiting f) k e = inl refl
+stopped-passed Standing.Running k e = failed-passed Refusal.IsRunning e
+
+pub record CancelMay (b : Board) (p : ℕ) : Type 0 where
+  pub is : Is p
+  pub stopped : (isWaiting (stands (b .programs) p) ≡ true) ⊎ (isHeld (stands (b .programs) p) ≡ true)
+
+pub cancel-may : (b : Board) (p : ℕ) → cancelCheck b p ≡ Check.Passed → CancelMay b p
+unfolding cancelCheck
+cancel-may b p e = let (a, e₁) = if-passed (not (isProgram p)) Refusal.OutOfRange _ e in record {
+  is = is-of p (not-of (isProgram p) a);
+  stopped = stopped-passed (at b p .standing) _ e₁;
+}
+
 -- ── Calls that settle ──
 
 -- The waiting, the held and one more program are at most 32.
@@ -198,50 +221,48 @@ crowd b p k c w h =
     both = Pairs-append (λ a b. a ≢ b) (names (b .waiting)) (names (b .entry)) (k .waits .once) (k .helds .once)
         (λ x y i j d. apart (stands (b .programs) x) (k .waits .of x i .1) (ap (heldAt (b .programs)) d ∙ k .helds .of y j .1))
 
-done-stepped : (b c : Board) (p f k : ℕ) → Loose c → Is p → waitsIn (c .programs) p ≡ false
+-- DONE stands before settling's lines, and what these say of favouring stays.
+done-not-favour : Word.Done ≡ Word.Favour → ⊥
+done-not-favour e = let z : _≡_ {A = ℕ} 0 1 = cc in omega arith
+
+done-newly : (p f : ℕ) (s : Step) (q : ℕ) → Newly s q → Newly (record { board = s .board; lines = line Word.Done p f ∷ s .lines }) q
+done-newly p f s q n = record {
+  file = n .file;
+  line-there = List·Memᴰ·tail (n .line-there);
+  no-other = λ j m d. by-mem m (λ o. absurd (done-not-favour (ap (λ (y : Line). y .word) (sym o) ∙ d))) (λ o. n .no-other j o d);
+  is = n .is;
+  now = n .now;
+  waits = n .waits;
+  counted = n .counted;
+  none-left = n .none-left;
+}
+
+done-quiet : (p f : ℕ) (ls : List Line) → NoFavour ls → NoFavour (line Word.Done p f ∷ ls)
+done-quiet p f ls n j m d = by-mem m (λ o. done-not-favour (ap (λ (y : Line). y .word) (sym o) ∙ d)) (λ o. n j o d)
+
+done-stepped : (b c : Board) {x : ℕ} (p f k : ℕ) → Loose c → Is p → waitsIn (c .programs) p ≡ false
     → heldAt (c .programs) p ≡ false → FavourMore b c k
     → (b .favoured ≢ 0 → awaited c (b .favoured) ≡ awaited b (b .favoured))
-    → Stepped b k (record { board = settle c .board; lines = line Word.Done p f ∷ settle c .lines })
+    → Stepped b k x (record { board = settle c .board; lines = line Word.Done p f ∷ settle c .lines })
 done-stepped b c p f k l i w h x a = record {
   good = r .good;
   many = let m = r .many in let n = crowd c p l i w h in omega arith;
-  fav = ⊎-elim
-      (λ v. let q = v .1 in inl (
-        v .0,
-        record {
-          file = q .file;
-          line-there = List·Memᴰ·tail (q .line-there);
-          no-other = λ j m d. by-mem m (λ o. absurd (done-not-favour (ap (λ (y : Line). y .word) (sym o) ∙ d)))
-              (λ o. q .no-other j o d);
-          is = q .is;
-          now = q .now;
-          waits = q .waits;
-          counted = q .counted;
-          none-left = q .none-left;
-        },
-      ))
-      (λ v. inr (
-        ⊎-elim inl (λ q. inr (more q)) (v .0),
-        λ j m d. by-mem m
-            (λ o. done-not-favour (ap (λ (y : Line). y .word) (sym o) ∙ d)) (λ o. v .1 j o d),
-      ))
+  fav = ⊎-elim (λ v. inl (v .0, done-newly p f (settle c) (v .0) (v .1)))
+      (λ v. inr (⊎-elim inl (λ q. inr (more q)) (v .0), done-quiet p f (settle c .lines) (v .1)))
       (r .fav);
   ended = λ n. ⊎-elim (λ q. inl (more q))
-      (λ (q : Ended c (settle c)). inr (record {
+      (λ (q : Ended c (settle c)). inr (inl (record {
         line-there = subst (λ j. j ∈ settle c .lines)
             (ap₂ (line Word.Given) (x .who) (ap (awaited c) (x .who) ∙ a n)) (q .line-there);
         runs =
             ap (stands (settle c .board .programs)) (sym (x .who)) ∙ q .runs;
-      }))
+      })))
       (r .ended (λ d. n (sym (x .who) ∙ d)));
   file-stays = λ n d. ap awaitedOf (kept n d) ∙ a n;
 }
   where
     r : Settled c (settle c)
     r = settle-settled c l
-
-    done-not-favour : Word.Done ≡ Word.Favour → ⊥
-    done-not-favour e = let z : _≡_ {A = ℕ} 0 1 = cc in omega arith
 
     more : Favour c (settle c .board) → FavourMore b (settle c .board) k
     more q = record { who = q .who ∙ x .who; number = q .number ∙ x .number; left = λ n. q .left ∙ x .left n }
@@ -253,7 +274,7 @@ done-stepped b c p f k l i w h x a = record {
         let t : stands (settle c .board .programs) (b .favoured) ≡ Standing.Waiting g =
         ap (stands (settle c .board .programs)) (sym d) ∙ u in t ∙ sym (r .waited (b .favoured) g (subst Is d j) t)
 
--- ── The five calls ──
+-- ── Each call ──
 
 -- How the favoured program awaits its file where another program is put anew.
 file-put : (b : Board) (p : ℕ) (x : Program) → Loose b → Is p → waitsIn (b .programs) p ≡ false → b .favoured ≢ 0
@@ -280,14 +301,14 @@ unfolding enter
 enter-hold b p v q n = rw (ne-eqb (b .favoured) 0 n)
 
 -- A step of a reply that is given by its board, its answer and its lines.
-stepped-reply : (b c : Board) (k : ℕ) (a : Answer) (ls : List Line) → Stepped b k (record { board = c; lines = ls })
-    → Stepped b k (stepOf (reply c a ls))
-stepped-reply b c k a ls s = subst (Stepped b k) (sym (reply-step c a ls)) s
+stepped-reply : (b c : Board) {x : ℕ} (k : ℕ) (a : Answer) (ls : List Line) → Stepped b k x (record { board = c; lines = ls })
+    → Stepped b k x (stepOf (reply c a ls))
+stepped-reply b c {x} k a ls s = subst (Stepped b k x) (sym (reply-step c a ls)) s
 
-enter-stepped : (b : Board) (p : ℕ) (v q : FileSet) → Good b → EnterMay b p v q → Stepped b 0 (stepOf (enter b p v q))
+enter-stepped : (b : Board) (p : ℕ) (v q : FileSet) → Good b → EnterMay b p v q → Stepped b 0 0 (stepOf (enter b p v q))
 enter-stepped b p v q g m = by-test (eqb (b .favoured) 0)
     (λ t. let e = eqb-true (b .favoured) 0 t in let x = newcomer v q Standing.Running in
-    subst (λ r. Stepped b 0 (stepOf r)) (sym (enter-run b p v q e)) (stepped-reply b (setProgram b p x) 0 Answer.Admit
+    subst (λ r. Stepped b 0 0 (stepOf r)) (sym (enter-run b p v q e)) (stepped-reply b (setProgram b p x) 0 Answer.Admit
     (line Word.Admit p 0 ∷ [])
     (plain b (setProgram b p x) _
     (record {
@@ -300,7 +321,7 @@ enter-stepped b p v q g m = by-test (eqb (b .favoured) 0)
     (file-put b p x k c (ap isWaiting s)))))
     (λ t. let n = eqb-false (b .favoured) 0 t in let x = newcomer v q Standing.Held in
     let d = setEntry (setProgram b p x) (names (b .entry) ++ (p ∷ [])) in
-    subst (λ r. Stepped b 0 (stepOf r)) (sym (enter-hold b p v q n)) (stepped-reply b d 0 Answer.Held (line Word.Held p 0 ∷ [])
+    subst (λ r. Stepped b 0 0 (stepOf r)) (sym (enter-hold b p v q n)) (stepped-reply b d 0 Answer.Held (line Word.Held p 0 ∷ [])
     (plain b d _
     (record {
       loose = loose-hold (b .programs) (b .waiting) (b .entry) (b .favoured) (b .initial) (b .leaves) p v q c s (m .claims-apart) n k;
@@ -344,14 +365,14 @@ wait-good b p f g m u = record {
 }
 
 wait-plain : (b : Board) (p f : ℕ) (w : Word) → Good b → OpenMay b p f → can (b .programs) p f ≡ false
-    → (w ≡ Word.Favour → ⊥) → Stepped b 0 (record { board = wait b p f; lines = line w p f ∷ [] })
+    → (w ≡ Word.Favour → ⊥) → Stepped b 0 0 (record { board = wait b p f; lines = line w p f ∷ [] })
 unfolding wait
 wait-plain b p f w g m u n = plain b (wait b p f) _ (wait-good b p f g m u) (omega arith)
     (one (line w p f) n) refl refl refl (file-put b p (setStanding (at b p) (Standing.Waiting f)) (g .loose) (m .is)
     (ap isWaiting (m .runs)))
 
 open-plain : (b : Board) (p f : ℕ) → Good b → OpenMay b p f → can (b .programs) p f ≡ true
-    → Stepped b 0 (record { board = withGiven b p f; lines = line Word.Given p f ∷ [] })
+    → Stepped b 0 0 (record { board = withGiven b p f; lines = line Word.Given p f ∷ [] })
 unfolding withGiven give
 open-plain b p f g m u = plain b (withGiven b p f) _
     (record {
@@ -368,19 +389,19 @@ pub can-tests : (b : Board) (p f : ℕ) → can (b .programs) p f ≡ not (inUse
 unfolding canGive
 can-tests b p f = sym (canGive-is b p f)
 
-open-stepped : (b : Board) (p f : ℕ) → Good b → OpenMay b p f → Stepped b 0 (stepOf (openFile b p f))
+open-stepped : (b : Board) (p f : ℕ) → Good b → OpenMay b p f → Stepped b 0 0 (stepOf (openFile b p f))
 open-stepped b p f g m = by-test (inUse b p f)
-    (λ t. subst (λ r. Stepped b 0 (stepOf r)) (sym (open-wait b p f t)) (stepped-reply b (wait b p f) 0 Answer.Wait
+    (λ t. subst (λ r. Stepped b 0 0 (stepOf r)) (sym (open-wait b p f t)) (stepped-reply b (wait b p f) 0 Answer.Wait
     (line Word.Wait p f ∷ []) (wait-plain b p f Word.Wait g m (can-tests b p f ∙ rw t)
     (λ d. let z : _≡_ {A = ℕ} 0 1 = cc in omega arith))))
     (λ t. by-test (safe b p f)
-    (λ u. subst (λ r. Stepped b 0 (stepOf r)) (sym (open-given b p f t u))
+    (λ u. subst (λ r. Stepped b 0 0 (stepOf r)) (sym (open-given b p f t u))
     (stepped-reply b (withGiven b p f) 0 Answer.Given (line Word.Given p f ∷ []) (open-plain b p f g m (can-tests b p f ∙ rw (t, u)))))
-    (λ u. subst (λ r. Stepped b 0 (stepOf r)) (sym (open-unsafe b p f t u)) (stepped-reply b (wait b p f) 0 Answer.Unsafe
+    (λ u. subst (λ r. Stepped b 0 0 (stepOf r)) (sym (open-unsafe b p f t u)) (stepped-reply b (wait b p f) 0 Answer.Unsafe
     (line Word.Unsafe p f ∷ []) (wait-plain b p f Word.Unsafe g m (can-tests b p f ∙ rw (t, u))
     (λ d. let z : _≡_ {A = ℕ} 0 1 = cc in omega arith)))))
 
-close-stepped : (b : Board) (p f : ℕ) → Good b → RunsMay b p → Stepped b 0 (stepOf (closeFile b p f))
+close-stepped : (b : Board) (p f : ℕ) → Good b → RunsMay b p → Stepped b 0 0 (stepOf (closeFile b p f))
 unfolding closeFile done closing
 close-stepped b p f g m = stepped-reply b (settle c .board) 0 Answer.Done (line Word.Done p f ∷ settle c .lines)
     (done-stepped b c p f 0 (loose-close (b .programs) (b .waiting) (b .entry) (b .favoured) (b .initial)
@@ -395,7 +416,7 @@ close-stepped b p f g m = stepped-reply b (settle c .board) 0 Answer.Done (line 
     c : Board
     c = setProgram b p x
 
-drop-stepped : (b : Board) (p f : ℕ) → Good b → OpenMay b p f → Stepped b 0 (stepOf (dropFile b p f))
+drop-stepped : (b : Board) (p f : ℕ) → Good b → OpenMay b p f → Stepped b 0 0 (stepOf (dropFile b p f))
 unfolding dropFile done dropping
 drop-stepped b p f g m = stepped-reply b (settle c .board) 0 Answer.Done (line Word.Done p f ∷ settle c .lines)
     (done-stepped b c p f 0 (loose-drop (b .programs) (b .waiting) (b .entry) (b .favoured) (b .initial) (b .leaves) p f
@@ -443,7 +464,7 @@ leave-left b p g m = by-test (eqb (b .favoured) 0)
           record { who = refl; number = refl; left = λ _. omega arith };
     }))
 
-leave-stepped : (b : Board) (p : ℕ) → Good b → RunsMay b p → Stepped b 1 (stepOf (leave b p))
+leave-stepped : (b : Board) (p : ℕ) → Good b → RunsMay b p → Stepped b 1 0 (stepOf (leave b p))
 unfolding leave done
 leave-stepped b p g m = stepped-reply b (settle c .board) 1 Answer.Done (line Word.Done p 0 ∷ settle c .lines)
     (done-stepped b c p 0 1 (l .l-loose) (m .is)
@@ -458,6 +479,143 @@ leave-stepped b p g m = stepped-reply b (settle c .board) 1 Answer.Done (line Wo
     l : Left b c p
     l = leave-left b p g m
 
+-- ── Cancel ──
+
+-- 1 where the cancel of p counts as a leave: p is admitted, and not favoured
+abbrev pub cancelCount : Board → ℕ → ℕ
+cancelCount b p = cond (eqb (b .favoured) p) 0 (cond (isAdmitted (at b p .standing)) 1 0)
+
+-- The favoured program p is cancelled.
+own-stepped : (b c : Board) (p k : ℕ) → Loose c → Is p → stands (c .programs) p ≡ Standing.Absent → b .favoured ≡ p → c .favoured ≡ 0
+    → Stepped b k p (record { board = settle c .board; lines = line Word.Done p 0 ∷ settle c .lines })
+own-stepped b c p k l i s e o = record {
+  good = r .good;
+  many = let m = r .many in let n = crowd c p l i (ap isWaiting s) (ap isHeld s) in omega arith;
+  fav = ⊎-elim (λ v. inl (v .0, done-newly p 0 (settle c) (v .0) (v .1)))
+      (λ v. inr (
+        inl (⊎-elim (λ q. q) (λ (q : Favour c (settle c .board)). q .who ∙ o) (v .0)),
+        done-quiet p 0 (settle c .lines) (v .1),
+      ))
+      (r .fav);
+  ended = λ n. inr (inr (record { own = e; over = ap (waitsIn (settle c .board .programs)) e ∙ not-again }));
+  file-stays = λ n d. absurd (again n d);
+}
+  where
+    r : Settled c (settle c)
+    r = settle-settled c l
+
+    not-again : waitsIn (settle c .board .programs) p ≡ false
+    not-again = ap (λ (x : Program). isWaiting (x .standing)) (r .others p i (ap isWaiting s) (ap isHeld s)) ∙ ap isWaiting s
+
+    again : b .favoured ≢ 0 → settle c .board .favoured ≡ b .favoured → ⊥
+    again n d =
+        let (_, v) = r .good .loose .fav-waits (λ q. n (sym d ∙ q)) in
+        never v (ap (waitsIn (settle c .board .programs)) (d ∙ e) ∙ not-again)
+
+-- The three ways of counting.
+count-own : (b : Board) (p : ℕ) → b .favoured ≡ p → countCancel b p ≡ setFavour b 0 0 0
+unfolding countCancel
+count-own b p e = rw (eq-eqb (b .favoured) p e)
+
+count-nobody : (b : Board) (p : ℕ) → b .favoured ≢ p → b .favoured ≡ 0 → countCancel b p ≡ b
+unfolding countCancel countLeave
+count-nobody b p n e = rw (ne-eqb (b .favoured) p n, eq-eqb (b .favoured) 0 e)
+
+count-other : (b : Board) (p : ℕ) → b .favoured ≢ p → b .favoured ≢ 0 → countCancel b p ≡ setFavour b (b .favoured) (b .initial) (b .leaves
+    + 1)
+unfolding countCancel countLeave
+count-other b p n e = rw (ne-eqb (b .favoured) p n, ne-eqb (b .favoured) 0 e)
+
+-- The board c of a cancel, before settling: p is gone. If p was favoured nobody is now; otherwise the favouring goes on with what is counted.
+pub record Withdrawn (b c : Board) (p : ℕ) : Type 0 where
+  pub w-loose : Loose c
+  pub w-programs : c .programs ≡ put (b .programs) p noProgram
+  pub w-favour : b .favoured ≢ p → FavourMore b c (cancelCount b p)
+  pub w-own : b .favoured ≡ p → c .favoured ≡ 0
+
+waiting-withdrawn : (b : Board) (p f : ℕ) → Good b → Is p → stands (b .programs) p ≡ Standing.Waiting f → Withdrawn b (withdrawn b p
+    (Standing.Waiting f)) p
+waiting-withdrawn b p f g c s = by-test (eqb (b .favoured) p)
+    (λ t. let e = eqb-true (b .favoured) p t in subst (λ d. Withdrawn b d p) (sym (count-own d p e))
+    (record {
+      w-loose = gone 0 0 0 (λ m. absurd (m refl)) (λ _. (refl, refl));
+      w-programs = refl;
+      w-favour = λ n. absurd (n e);
+      w-own
+          = λ _. refl;
+    }))
+    (λ t. let n = eqb-false (b .favoured) p t in by-test (eqb (b .favoured) 0)
+    (λ u. let e = eqb-true (b .favoured) 0 u in subst (λ d. Withdrawn b d p) (sym (count-nobody d p n e))
+    (record {
+      w-loose = gone (b .favoured) (b .initial) (b .leaves) (λ m. absurd (m e)) (k .nobody);
+      w-programs = refl;
+      w-favour
+          = λ _. record { who = refl; number = refl; left = λ m. absurd (m e) };
+      w-own = λ q. absurd (n q);
+    }))
+    (λ u. let m = eqb-false (b .favoured) 0 u in subst (λ d. Withdrawn b d p) (sym (count-other d p n m))
+    (record {
+      w-loose = gone (b .favoured) (b .initial) (b .leaves + 1) (λ _. (refl, n, refl, refl)) (λ e. absurd (m e));
+      w-programs
+          = refl;
+      w-favour = λ _. record {
+        who = refl;
+        number = refl;
+        left = λ _. let q : cancelCount b p ≡ 1 = rw (t, ap isAdmitted s) in omega arith;
+      };
+      w-own = λ q. absurd (n q);
+    })))
+  where
+    k : Loose b
+    k = g .loose
+
+    d : Board
+    d = setWaiting (setProgram b p noProgram) (without p (names (b .waiting)))
+
+    gone : (fav n l : ℕ) → (fav ≢ 0 → (fav ≡ b .favoured) × (b .favoured ≢ p) × (n ≡ b .initial) × (l ≡ b .leaves + 1)) → (fav ≡ 0 → (n
+        ≡ 0) × (l ≡ 0)) → Loose (setFavour d fav n l)
+    gone fav n l x y = loose-withdraw (b .programs) (b .waiting) (b .entry) (b .favoured) (b .initial) (b .leaves) fav n l p f c s x y k
+
+held-withdrawn : (b : Board) (p : ℕ) → Good b → Is p → stands (b .programs) p ≡ Standing.Held → Withdrawn b (withdrawn b p Standing.Held) p
+held-withdrawn b p g c s = record {
+  w-loose = loose-unhold (b .programs) (b .waiting) (b .entry) (b .favoured) (b .initial) (b .leaves) p c s (g .loose);
+  w-programs = refl;
+  w-favour = λ n. record {
+    who = refl;
+    number = refl;
+    left = λ _. let q : cancelCount b p ≡ 0 = rw (ne-eqb (b .favoured) p n, ap isAdmitted s) in omega arith;
+  };
+  w-own = λ e. absurd (never {t = false} (sym (ap isWaiting s) ∙ sym (ap (waitsIn (b .programs)) e) ∙ g .loose .fav-waits (λ z. let v
+      = c .least in omega arith) .1) refl);
+}
+
+pub cancel-withdrawn : (b : Board) (p : ℕ) → Good b → CancelMay b p → Withdrawn b (withdrawn b p (at b p .standing)) p
+cancel-withdrawn b p g m = ⊎-elim
+    (λ w. let (f, s) = waiting-file (at b p .standing) w in subst (λ t. Withdrawn b (withdrawn b p t) p) (sym s) (waiting-withdrawn b p f g
+    (m .is) s))
+    (λ h. let s = held-is (at b p .standing) h in subst (λ t. Withdrawn b (withdrawn b p t) p) (sym s) (held-withdrawn b p g (m .is) s))
+    (m .stopped)
+
+cancel-stepped : (b : Board) (p : ℕ) → Good b → CancelMay b p → Stepped b (cancelCount b p) p (stepOf (cancel b p))
+unfolding cancel done
+cancel-stepped b p g m = stepped-reply b (settle c .board) (cancelCount b p) Answer.Done (line Word.Done p 0 ∷ settle c .lines)
+    (by-test (eqb (b .favoured) p)
+    (λ t. let e = eqb-true (b .favoured) p t in own-stepped b c p (cancelCount b p) (l .w-loose) (m .is) gone e (l .w-own e))
+    (λ t. let n = eqb-false (b .favoured) p t in done-stepped b c p 0 (cancelCount b p) (l .w-loose) (m .is) (ap isWaiting gone)
+    (ap isHeld gone) (l .w-favour n)
+    (λ z. ap (λ P. awaitedOf (stands P (b .favoured))) (l .w-programs) ∙ ap (λ (q : Program). awaitedOf (q .standing)) (put-other
+    (b .programs) p (b .favoured) noProgram (m .is) (g .loose .fav-waits z .0) n))))
+  where
+    c : Board
+    c = withdrawn b p (at b p .standing)
+
+    l : Withdrawn b c p
+    l = cancel-withdrawn b p g m
+
+    gone : stands (c .programs) p ≡ Standing.Absent
+    gone = ap (λ P. stands P p) (l .w-programs) ∙ ap (λ (q : Program). q .standing) (put-same (b .programs) p noProgram
+        (g .loose .base .size) (m .is))
+
 -- ── Any call ──
 
 pub apply-accepted : (b : Board) (c : Call) → checked b c ≡ Check.Passed → apply b c ≡ accepted b c
@@ -468,15 +626,25 @@ pub apply-refused : (b : Board) (c : Call) (r : Refusal) → checked b c ≡ Che
 unfolding apply
 apply-refused b c r e = ap (λ k. unless b k (accepted b c)) e
 
--- 1 for a leave, 0 for another call
-abbrev pub leaveCount : Call → ℕ
-leaveCount (Enter p v q) = 0
-leaveCount (Open p f) = 0
-leaveCount (Close p f) = 0
-leaveCount (Drop p f) = 0
-leaveCount (Leave p) = 1
+-- what the call counts if it is accepted: 1 for a leave, and for a cancel that counts as one
+abbrev pub leaveCount : Board → Call → ℕ
+leaveCount b (Enter p v q) = 0
+leaveCount b (Open p f) = 0
+leaveCount b (Close p f) = 0
+leaveCount b (Drop p f) = 0
+leaveCount b (Leave p) = 1
+leaveCount b (Cancel p) = cancelCount b p
 
--- the leaves that the call counts: 1 for an accepted leave
+-- the program that the call cancels; 0 for none
+abbrev pub cancelOf : Call → ℕ
+cancelOf (Enter p v q) = 0
+cancelOf (Open p f) = 0
+cancelOf (Close p f) = 0
+cancelOf (Drop p f) = 0
+cancelOf (Leave p) = 0
+cancelOf (Cancel p) = p
+
+-- n for an accepted call
 abbrev pub countIf : Check → ℕ → ℕ
 countIf Check.Passed n = n
 countIf (Check.Failed r) n = 0
@@ -486,24 +654,29 @@ none-counted Check.Passed = refl
 none-counted (Check.Failed r) = refl
 
 abbrev pub leavesBy : Board → Call → ℕ
-leavesBy b c = countIf (checked b c) (leaveCount c)
+leavesBy b c = countIf (checked b c) (leaveCount b c)
 
-accepted-stepped : (b : Board) (c : Call) → Good b → checked b c ≡ Check.Passed → Stepped b (leaveCount c) (stepOf (accepted b c))
+abbrev pub cancelledBy : Board → Call → ℕ
+cancelledBy b c = countIf (checked b c) (cancelOf c)
+
+accepted-stepped : (b : Board) (c : Call) → Good b → checked b c ≡ Check.Passed → Stepped b (leaveCount b c) (cancelOf c) (stepOf
+    (accepted b c))
 accepted-stepped b (Enter p v q) g e = enter-stepped b p v q g (enter-may b p v q e)
 accepted-stepped b (Open p f) g e = open-stepped b p f g (open-may b p f e)
 accepted-stepped b (Close p f) g e = close-stepped b p f g (close-may b p f e)
 accepted-stepped b (Drop p f) g e = drop-stepped b p f g (open-may b p f e)
 accepted-stepped b (Leave p) g e = leave-stepped b p g (leave-may b p e)
+accepted-stepped b (Cancel p) g e = cancel-stepped b p g (cancel-may b p e)
 
-refused-stepped : (b : Board) (r : Refusal) → Good b → Stepped b 0 (stepOf (refuse b r))
+refused-stepped : (b : Board) (r : Refusal) → Good b → Stepped b 0 0 (stepOf (refuse b r))
 unfolding refuse
-refused-stepped b r g = stepped-reply b b 0 (Answer.Refuse r) [] (plain b b [] g (omega arith)
-    (λ k m. absurd (List·Memᴰ·not-nil m)) refl refl refl (λ _. refl))
+refused-stepped b r g = stepped-reply b b 0 (Answer.Refuse r) [] (plain b b [] g (omega arith) (λ k m. absurd
+    (List·Memᴰ·not-nil m)) refl refl refl (λ _. refl))
 
 -- Every call, accepted or refused, keeps a board sound.
-pub apply-stepped : (b : Board) (c : Call) → Good b → Stepped b (leavesBy b c) (stepOf (apply b c))
+pub apply-stepped : (b : Board) (c : Call) → Good b → Stepped b (leavesBy b c) (cancelledBy b c) (stepOf (apply b c))
 apply-stepped b c g = by-check (checked b c)
-    (λ e. subst (λ r. Stepped b (leavesBy b c) (stepOf r)) (sym (apply-accepted b c e))
-    (subst (λ n. Stepped b n (stepOf (accepted b c))) (sym (ap (λ k. countIf k (leaveCount c)) e)) (accepted-stepped b c g e)))
-    (λ r e. subst (λ q. Stepped b (leavesBy b c) (stepOf q)) (sym (apply-refused b c r e))
-    (subst (λ n. Stepped b n (stepOf (refuse b r))) (sym (ap (λ k. countIf k (leaveCount c)) e)) (refused-stepped b r g)))
+    (λ e. subst (λ r. Stepped b (leavesBy b c) (cancelledBy b c) (stepOf r)) (sym (apply-accepted b c e)) (subst (λ k. Stepped b (countIf k
+    (leaveCount b c)) (countIf k (cancelOf c)) (stepOf (accepted b c))) (sym e) (accepted-stepped b c g e)))
+    (λ r e. subst (λ q. Stepped b (leavesBy b c) (cancelledBy b c) (stepOf q)) (sym (apply-refused b c r e)) (subst (λ k. Stepped b
+    (countIf k (leaveCount b c)) (countIf k (cancelOf c)) (stepOf (refuse b r))) (sym e) (refused-stepped b r g)))

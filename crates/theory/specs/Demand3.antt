@@ -5,16 +5,17 @@ use mathlib.Core.Path.{_≡_}
 use mathlib.Core.Logic.{_↔_, _≢_, _⊎_}
 use mathlib.Core.Bool.{true, false, cond}
 use mathlib.Core.List.{List, [], _∷_, _++_}
+use lib.Dec.{eqb}
 use lib.ListN.{length}
 use Rattle.rules.specs.declared.Board.{Board}
 use Rattle.rules.specs.declared.Answer.{Answer}
 use Rattle.rules.specs.declared.Word.{Word}
 use Rattle.rules.specs.declared.Reply.{Reply}
-use Rattle.rules.specs.Boards.{isWaiting, emptyBoard, at, admitted, opening}
+use Rattle.rules.specs.Boards.{isWaiting, isAdmitted, emptyBoard, at, admitted, opening}
 use Rattle.rules.specs.Orders.{conflict, holdsBack, withGiven}
 use Rattle.rules.specs.Settling.{line}
 use Rattle.rules.specs.Replies.{settlingLines, refused, linesOf, orderOf}
-use Rattle.rules.specs.Calls.{Call, Enter, Open, Close, Drop, Leave, apply}
+use Rattle.rules.specs.Calls.{Call, Enter, Open, Close, Drop, Leave, Cancel, apply}
 use Rattle.rules.specs.Worked.{worked, repliesFrom, directFrom}
 use Rattle.theory.specs.Lists.{_∈_}
 use Rattle.theory.specs.Order.{Names}
@@ -43,18 +44,27 @@ ConflictingUse b p f = (i : ℕ) × Is i × (i ≢ p) × (conflict (at b i) (ope
 abbrev pub admittedAfter : List Call → ℕ
 admittedAfter xs = length (admitted (worked xs))
 
--- 1 if the call is an accepted leave, and 0 otherwise; xs are the calls before it.
-abbrev pub acceptedLeave : List Call → Call → ℕ
-acceptedLeave xs (Enter p v q) = 0
-acceptedLeave xs (Open p f) = 0
-acceptedLeave xs (Close p f) = 0
-acceptedLeave xs (Drop p f) = 0
-acceptedLeave xs (Leave p) = cond (refused (replyAfter xs (Leave p) .answer)) 0 1
+-- 1 if the call counts as a leave while p is favoured, and 0 otherwise; xs are the calls before it. An accepted leave counts. So does an
+-- accepted cancel of an admitted program that isn't p: "A cancelled favoured program is favoured no longer. Otherwise a cancel of an admitted
+-- program counts as a leave, also in the bound for favoured programs ..; a cancel of a held one counts nowhere."
+abbrev pub acceptedLeave : ℕ → List Call → Call → ℕ
+acceptedLeave p xs (Enter q v r) = 0
+acceptedLeave p xs (Open q f) = 0
+acceptedLeave p xs (Close q f) = 0
+acceptedLeave p xs (Drop q f) = 0
+acceptedLeave p xs (Leave q) = cond (refused (replyAfter xs (Leave q) .answer)) 0 1
+acceptedLeave p xs (Cancel q) =
+    cond (refused (replyAfter xs (Cancel q) .answer)) 0
+    (cond (eqb p q) 0 (cond (isAdmitted (at (worked xs) q .standing)) 1 0))
 
--- The number of accepted leave calls among ys, which come after the calls xs.
-unfoldable pub leavesIn : List Call → List Call → ℕ
-leavesIn xs [] = 0
-leavesIn xs (c ∷ ys) = acceptedLeave xs c + leavesIn (xs ++ (c ∷ [])) ys
+-- The number of those calls among ys, which come after the calls xs.
+unfoldable pub leavesIn : ℕ → List Call → List Call → ℕ
+leavesIn p xs [] = 0
+leavesIn p xs (c ∷ ys) = acceptedLeave p xs c + leavesIn p (xs ++ (c ∷ [])) ys
+
+-- p is favoured before the first of the calls ys, which come after the calls xs, and after each of them.
+abbrev pub FavouredThrough : List Call → List Call → ℕ → Type 0
+FavouredThrough xs ys p = (us vs : List Call) → ys ≡ us ++ vs → worked (xs ++ us) .favoured ≡ p
 
 -- The call c after the calls xs has a FAVOUR line for p, with the file f.
 abbrev pub Favours : List Call → Call → ℕ → ℕ → Type 0
@@ -81,8 +91,8 @@ pub record LastOrder (cs : List Call) : Type 0 where
   pub first-not-waiting : (p : ℕ) (rest : List ℕ) → orderOf last ≡ p ∷ rest → isWaiting (at (worked cs) p .standing) ≡ false
 
 -- "While a program is favoured, the accepted leaves after the call that favoured it and the programs now admitted add up to the number
--- admitted after that call." xs are the calls up to now. "The call that favoured a program is the latest of these whose lines have FAVOUR
--- for it."
+-- admitted after that call", with the cancels that count as leaves. xs are the calls up to now. "The call that favoured a program is the
+-- latest of these whose lines have FAVOUR for it."
 pub record FavouredBy (xs : List Call) (p : ℕ) : Type 0 where
   pub before : List Call
   pub call : Call
@@ -91,21 +101,33 @@ pub record FavouredBy (xs : List Call) (p : ℕ) : Type 0 where
   pub file : ℕ
   pub favours : Favours before call p file
   pub latest : (us vs : List Call) (d : Call) (f : ℕ) → after ≡ us ++ (d ∷ vs) → Favours (before ++ (call ∷ us)) d p f → ⊥
-  pub adds-up : leavesIn (before ++ (call ∷ [])) after + admittedAfter xs ≡ admittedAfter (before ++ (call ∷ []))
+  pub adds-up : leavesIn p (before ++ (call ∷ [])) after + admittedAfter xs ≡ admittedAfter (before ++ (call ∷ []))
   -- "the board's two numbers are the number admitted after that call and the count of these leaves"
   pub number : worked xs .initial ≡ admittedAfter (before ++ (call ∷ []))
-  pub count : worked xs .leaves ≡ leavesIn (before ++ (call ∷ [])) after
+  pub count : worked xs .leaves ≡ leavesIn p (before ++ (call ∷ [])) after
   -- while it is favoured, those leaves have not yet come to that number less one
-  pub to-come : leavesIn (before ++ (call ∷ [])) after + 2 ≤ admittedAfter (before ++ (call ∷ []))
+  pub to-come : leavesIn p (before ++ (call ∷ [])) after + 2 ≤ admittedAfter (before ++ (call ∷ []))
 
--- A call of ys, which come after the calls xs, gives p the file f by "a GIVEN line of settling", and "that wait is then over".
+-- A call of ys, which come after the calls xs, gives p the file f by "a GIVEN line of settling", and "that wait is then over": p was favoured
+-- until then.
 pub record GetsFile (xs ys : List Call) (p f : ℕ) : Type 0 where
   pub before : List Call
   pub call : Call
   pub after : List Call
   pub split : ys ≡ before ++ (call ∷ after)
+  pub that-wait : FavouredThrough xs before p
   pub given : line Word.Given p f ∈ settlingLines (replyAfter (xs ++ before) call)
   pub wait-over : isWaiting (at (worked (xs ++ (before ++ (call ∷ [])))) p .standing) ≡ false
+
+-- "a wait now also ends with its own cancel": a call of ys, which come after the calls xs, is an accepted cancel of p, which was favoured
+-- until then and waits no longer.
+pub record CancelledIn (xs ys : List Call) (p : ℕ) : Type 0 where
+  pub before : List Call
+  pub after : List Call
+  pub split : ys ≡ before ++ (Cancel p ∷ after)
+  pub that-wait : FavouredThrough xs before p
+  pub accepted : Accepted (xs ++ before) (Cancel p)
+  pub wait-over : isWaiting (at (worked (xs ++ (before ++ (Cancel p ∷ [])))) p .standing) ≡ false
 
 pub record Demand3 (cs : List Call) : Type 0 where
   -- "each answer is the one that 01's rules give when worked through the list": the replies of direct calls, the first handed the
@@ -122,7 +144,7 @@ pub record Demand3 (cs : List Call) : Type 0 where
   -- the sentence on the sum, after each call of the list
   pub favoured : (xs ys : List Call) (p : ℕ) → cs ≡ xs ++ ys → p ≢ 0 → worked xs .favoured ≡ p → FavouredBy xs p
   -- "It gets its file at the latest with the leave that brings those leaves to that number less one, and that wait is then over."
-  -- c favours p with the file f, and `Leave q` is that leave.
-  pub gets : (xs ys zs : List Call) (c : Call) (p f q : ℕ) → cs ≡ xs ++ (c ∷ (ys ++ (Leave q ∷ zs))) → Favours xs c p f
-      → Accepted (xs ++ (c ∷ ys)) (Leave q) → leavesIn (xs ++ (c ∷ [])) (ys ++ (Leave q ∷ [])) + 1 ≡ admittedAfter (xs ++ (c ∷ []))
-      → GetsFile (xs ++ (c ∷ [])) (ys ++ (Leave q ∷ [])) p f
+  -- c favours p with the file f, and d is that leave, or the cancel that counts as one. "a wait now also ends with its own cancel"
+  pub gets : (xs ys zs : List Call) (c d : Call) (p f : ℕ) → cs ≡ xs ++ (c ∷ (ys ++ (d ∷ zs))) → Favours xs c p f
+      → acceptedLeave p (xs ++ (c ∷ ys)) d ≡ 1 → leavesIn p (xs ++ (c ∷ [])) (ys ++ (d ∷ [])) + 1 ≡ admittedAfter (xs ++ (c ∷ []))
+      → GetsFile (xs ++ (c ∷ [])) (ys ++ (d ∷ [])) p f ⊎ CancelledIn (xs ++ (c ∷ [])) (ys ++ (d ∷ [])) p

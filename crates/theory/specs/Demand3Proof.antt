@@ -9,6 +9,7 @@ use mathlib.Core.List.{List, [], _∷_, _++_, append-nil, append-assoc}
 use lib.ListN.{length}
 use Rattle.files.proofs.Tests.{by-test, never}
 use Rattle.rules.specs.declared.Board.{Board}
+use Rattle.rules.specs.declared.Check.{Check}
 use Rattle.rules.specs.declared.Answer.{Answer}
 use Rattle.rules.specs.declared.Word.{Word}
 use Rattle.rules.specs.declared.Line.{Line}
@@ -17,21 +18,23 @@ use Rattle.rules.specs.Boards.{isWaiting, emptyBoard, at, awaited, awaitedOf, a
 use Rattle.rules.specs.Orders.{holdsBack, withGiven, inUse, safe}
 use Rattle.rules.specs.Settling.{line}
 use Rattle.rules.specs.Replies.{settlingLines, refused, reply, orderOf}
-use Rattle.rules.specs.Calls.{openFile, done, leave, Call, Enter, Open, Close, Drop, Leave, checked, apply}
+use Rattle.rules.specs.Calls.{openFile, done, leave, cancel, Call, Enter, Open, Close, Drop, Leave, Cancel, checked, apply}
 use Rattle.rules.specs.Worked.{workedFrom, worked, repliesFrom, directFrom}
 use Rattle.theory.specs.Lists.{_∈_, Pairs, Pairs-split}
 use Rattle.theory.specs.Order.{Names, IsOrder}
 use Rattle.theory.specs.Programs.{admitted-is, inUse-is, used-by, by-used}
 use Rattle.theory.specs.Loose.{stands}
 use Rattle.theory.specs.Settling.{Newly}
-use Rattle.theory.specs.Calls.{stepOf, by-check, FavourMore, EndedIn, Stepped, countIf, none-counted, leavesBy, apply-accepted, apply-stepped}
+use Rattle.theory.specs.Calls.{stepOf, by-check, FavourMore, EndedIn, Withdrew, Stepped, cancelCount, countIf, none-counted, leavesBy}
+use Rattle.theory.specs.Calls.{cancelledBy, apply-accepted, apply-stepped}
 use Rattle.theory.specs.Carried.{holdsOn, EveryOrderHeld, unsafe-iff}
 use Rattle.theory.specs.Worked.{worked-good, worked-snoc, direct-worked, replies-split, passed-of}
 use Rattle.theory.specs.Worked.{order-of-reply, first-runs, favoured-bound}
 use Rattle.theory.specs.Demand3.{replyAfter, Accepted, Waits, ConflictingUse, admittedAfter, acceptedLeave, leavesIn, Favours}
-use Rattle.theory.specs.Demand3.{StandsAt, LastOrder, FavouredBy, GetsFile, Demand3}
+use Rattle.theory.specs.Demand3.{FavouredThrough, StandsAt, LastOrder, FavouredBy, GetsFile, CancelledIn, Demand3}
 
-step : (xs : List Call) (c : Call) → Stepped (worked xs) (leavesBy (worked xs) c) (stepOf (replyAfter xs c))
+step : (xs : List Call) (c : Call) → Stepped (worked xs) (leavesBy (worked xs) c) (cancelledBy (worked xs) c)
+    (stepOf (replyAfter xs c))
 step xs c = apply-stepped (worked xs) c (worked-good xs)
 
 -- ── Lists from their end ──
@@ -60,8 +63,12 @@ leave-answer : (b : Board) (p : ℕ) → refused (leave b p .answer) ≡ false
 unfolding leave done reply
 leave-answer b p = refl
 
--- What the rules count is what the list counts.
-leaves-same : (xs : List Call) (c : Call) → leavesBy (worked xs) c ≡ acceptedLeave xs c
+cancel-answer : (b : Board) (p : ℕ) → refused (cancel b p .answer) ≡ false
+unfolding cancel done reply
+cancel-answer b p = refl
+
+-- What the rules count is what the list counts for the favoured program.
+leaves-same : (xs : List Call) (c : Call) → leavesBy (worked xs) c ≡ acceptedLeave (worked xs .favoured) xs c
 leaves-same xs (Enter p v q) = none-counted (checked (worked xs) (Enter p v q))
 leaves-same xs (Open p f) = none-counted (checked (worked xs) (Open p f))
 leaves-same xs (Close p f) = none-counted (checked (worked xs) (Close p f))
@@ -71,14 +78,58 @@ leaves-same xs (Leave p) = by-test (refused (replyAfter xs (Leave p) .answer))
     (λ e. never t (ap (λ (r : Reply). refused (r .answer)) (apply-accepted (worked xs) (Leave p) e) ∙ leave-answer (worked xs) p))
     (λ r e. ap (λ k. countIf k 1) e)))
     (λ t. rw t (ap (λ k. countIf k 1) (passed-of (worked xs) (Leave p) t)))
+leaves-same xs (Cancel p) = by-test (refused (replyAfter xs (Cancel p) .answer))
+    (λ t. rw t (by-check (checked (worked xs) (Cancel p))
+    (λ e. never t (ap (λ (r : Reply). refused (r .answer)) (apply-accepted (worked xs) (Cancel p) e) ∙ cancel-answer (worked xs) p))
+    (λ r e. ap (λ k. countIf k (cancelCount (worked xs) p)) e)))
+    (λ t. rw t (ap (λ k. countIf k (cancelCount (worked xs) p)) (passed-of (worked xs) (Cancel p) t)))
 
-leavesIn-snoc : (xs ys : List Call) (c : Call) → leavesIn xs (ys ++ (c ∷ [])) ≡ leavesIn xs ys + acceptedLeave (xs ++ ys) c
+-- ── Favoured through some calls ──
+
+through-none : (xs us vs : List Call) (p : ℕ) → worked xs .favoured ≡ p → [] ≡ us ++ vs → worked (xs ++ us) .favoured ≡ p
+through-none xs [] vs p e k = ap (λ l. worked l .favoured) (append-nil xs) ∙ e
+through-none xs (u ∷ us) vs p e k = absurd (let j = ap length k in omega arith)
+
+through-one : (xs us vs ys : List Call) (c : Call) (p : ℕ) → worked xs .favoured ≡ p → FavouredThrough (xs ++ (c ∷ [])) ys p
+    → c ∷ ys ≡ us ++ vs → worked (xs ++ us) .favoured ≡ p
+through-one xs [] vs ys c p e t k = ap (λ l. worked l .favoured) (append-nil xs) ∙ e
+through-one xs (u ∷ us) vs ys c p e t k =
+    let d : c ≡ u = cc in
+    let j : ys ≡ us ++ vs = cc in
+    ap (λ l. worked l .favoured) (ap (λ h. xs ++ (h ∷ us)) (sym d) ∙ sym (append-assoc xs (c ∷ []) us)) ∙ t us vs j
+
+-- ── Cancels ──
+
+-- The call that cancels p.
+cancelled-is : (b : Board) (c : Call) (p : ℕ) → p ≢ 0 → p ≡ cancelledBy b c → (c ≡ Cancel p) × (checked b c ≡ Check.Passed)
+cancelled-is b (Enter q v w) p z d = absurd (z (d ∙ none-counted (checked b (Enter q v w))))
+cancelled-is b (Open q f) p z d = absurd (z (d ∙ none-counted (checked b (Open q f))))
+cancelled-is b (Close q f) p z d = absurd (z (d ∙ none-counted (checked b (Close q f))))
+cancelled-is b (Drop q f) p z d = absurd (z (d ∙ none-counted (checked b (Drop q f))))
+cancelled-is b (Leave q) p z d = absurd (z (d ∙ none-counted (checked b (Leave q))))
+cancelled-is b (Cancel q) p z d = by-check (checked b (Cancel q))
+    (λ e. (ap Cancel (sym (d ∙ ap (λ k. countIf k q) e)), e)) (λ r e. absurd (z (d ∙ ap (λ k. countIf k q) e)))
+
+own-cancel : (xs es : List Call) (c : Call) (p : ℕ) → p ≢ 0 → worked xs .favoured ≡ p → p ≡ cancelledBy (worked xs) c
+    → isWaiting (at (replyAfter xs c .board) p .standing) ≡ false → CancelledIn xs (c ∷ es) p
+own-cancel xs es c p z v d w = let (e, k) = cancelled-is (worked xs) c p z d in record {
+  before = [];
+  after = es;
+  split = ap (_∷ es) e;
+  that-wait = λ us vs k. through-none xs us vs p v k;
+  accepted = subst (λ l. Accepted l (Cancel p)) (sym (append-nil xs)) (ap (λ (r : Reply). refused (r .answer))
+      (apply-accepted (worked xs) (Cancel p) (subst (λ h. checked (worked xs) h ≡ Check.Passed) e k)) ∙ cancel-answer (worked xs) p);
+  wait-over = ap (λ h. isWaiting (at (worked (xs ++ (h ∷ []))) p .standing)) (sym e)
+      ∙ ap (λ b. isWaiting (at b p .standing)) (worked-snoc xs c) ∙ w;
+}
+
+leavesIn-snoc : (p : ℕ) (xs ys : List Call) (c : Call) → leavesIn p xs (ys ++ (c ∷ [])) ≡ leavesIn p xs ys + acceptedLeave p (xs ++ ys) c
 unfolding leavesIn
-leavesIn-snoc xs [] c = rw (append-nil xs) (omega arith)
-leavesIn-snoc xs (y ∷ ys) c =
-    let i = leavesIn-snoc (xs ++ (y ∷ [])) ys c in
-    let j : acceptedLeave ((xs ++ (y ∷ [])) ++ ys) c ≡ acceptedLeave (xs ++ (y ∷ ys)) c =
-    ap (λ l. acceptedLeave l c) (append-assoc xs (y ∷ []) ys) in
+leavesIn-snoc p xs [] c = rw (append-nil xs) (omega arith)
+leavesIn-snoc p xs (y ∷ ys) c =
+    let i = leavesIn-snoc p (xs ++ (y ∷ [])) ys c in
+    let j : acceptedLeave p ((xs ++ (y ∷ [])) ++ ys) c ≡ acceptedLeave p (xs ++ (y ∷ ys)) c =
+    ap (λ l. acceptedLeave p l c) (append-assoc xs (y ∷ []) ys) in
     omega arith
 
 -- ── Each answer ──
@@ -218,8 +269,11 @@ favoured-still xs c p z e m quiet r = record {
     start : List Call
     start = r .before ++ (r .call ∷ [])
 
+    same-one : worked xs .favoured ≡ p
+    same-one = sym (ap (λ (b : Board). b .favoured) (worked-snoc xs c) ∙ m .who) ∙ e
+
     fav : worked xs .favoured ≢ 0
-    fav d = z (sym e ∙ ap (λ (b : Board). b .favoured) (worked-snoc xs c) ∙ m .who ∙ d)
+    fav d = z (sym same-one ∙ d)
 
     number : worked (xs ++ (c ∷ [])) .initial ≡ admittedAfter start
     number = ap (λ (b : Board). b .initial) (worked-snoc xs c) ∙ m .number ∙ r .number
@@ -227,10 +281,11 @@ favoured-still xs c p z e m quiet r = record {
     here-now : start ++ r .after ≡ xs
     here-now = append-assoc (r .before) (r .call ∷ []) (r .after) ∙ sym (r .split)
 
-    count : worked (xs ++ (c ∷ [])) .leaves ≡ leavesIn start (r .after ++ (c ∷ []))
-    count = let a = ap (λ (b : Board). b .leaves) (worked-snoc xs c) ∙ m .left fav in let b = leaves-same xs c in
-        let d = r .count in let g = leavesIn-snoc start (r .after) c in
-        let h : acceptedLeave (start ++ r .after) c ≡ acceptedLeave xs c = ap (λ l. acceptedLeave l c) here-now in omega arith
+    count : worked (xs ++ (c ∷ [])) .leaves ≡ leavesIn p start (r .after ++ (c ∷ []))
+    count = let a = ap (λ (b : Board). b .leaves) (worked-snoc xs c) ∙ m .left fav in
+        let b = leaves-same xs c ∙ ap (λ n. acceptedLeave n xs c) same-one in
+        let d = r .count in let g = leavesIn-snoc p start (r .after) c in
+        let h : acceptedLeave p (start ++ r .after) c ≡ acceptedLeave p xs c = ap (λ l. acceptedLeave p l c) here-now in omega arith
 
 favoured-by : (xs : List Call) (p : ℕ) → p ≢ 0 → worked xs .favoured ≡ p → FavouredBy xs p
 unfolding worked workedFrom
@@ -253,7 +308,7 @@ favoured-by xs = by-end (λ l. (p : ℕ) → p ≢ 0 → worked l .favoured ≡ 
 -- ── The favoured program gets its file ──
 
 gets-file : (xs es : List Call) (p f : ℕ) → p ≢ 0 → worked xs .favoured ≡ p → awaited (worked xs) p ≡ f
-    → worked xs .initial ≤ worked xs .leaves + leavesIn xs es + 1 → GetsFile xs es p f
+    → worked xs .initial ≤ worked xs .leaves + leavesIn p xs es + 1 → GetsFile xs es p f ⊎ CancelledIn xs es p
 unfolding leavesIn
 gets-file xs [] p f z e a k = absurd (let b = favoured-bound (worked xs) (worked-good xs) (λ d. z (sym e ∙ d)) in omega arith)
 gets-file xs (c ∷ es) p f z e a k = ⊎-elim
@@ -264,34 +319,48 @@ gets-file xs (c ∷ es) p f z e a k = ⊎-elim
     ∙ step xs c .file-stays fav now ∙ ap (awaited (worked xs)) e ∙ a in
     let i = ap (λ (b : Board). b .initial) s ∙ m .number in
     let l = ap (λ (b : Board). b .leaves) s ∙ m .left fav in
-    let q = leaves-same xs c in
+    let q = leaves-same xs c ∙ ap (λ n. acceptedLeave n xs c) e in
     let r = gets-file (xs ++ (c ∷ [])) es p f z (ap (λ (b : Board). b .favoured) s ∙ now ∙ e) (ap (λ b. awaited b p) s ∙ w) (omega arith) in
-    record {
+    ⊎-elim (λ (r : GetsFile (xs ++ (c ∷ [])) es p f). inl (record {
       before = c ∷ r .before;
       call = r .call;
       after = r .after;
       split = ap (c ∷_) (r .split);
+      that-wait = λ us vs k. through-one xs us vs (r .before) c p e (r .that-wait) k;
       given = subst (λ h. line Word.Given p f ∈ settlingLines (replyAfter h (r .call))) (append-assoc xs (c ∷ []) (r .before)) (r .given);
       wait-over = subst (λ h. isWaiting (at (worked h) p .standing) ≡ false) (append-assoc xs (c ∷ [])
           (r .before ++ (r .call ∷ []))) (r .wait-over);
-    })
-    (λ (m : EndedIn (worked xs) (stepOf (replyAfter xs c))). record {
+    }))
+    (λ (r : CancelledIn (xs ++ (c ∷ [])) es p). inr (record {
+      before = c ∷ r .before;
+      after = r .after;
+      split = ap (c ∷_) (r .split);
+      that-wait = λ us vs k. through-one xs us vs (r .before) c p e (r .that-wait) k;
+      accepted = subst (λ h. Accepted h (Cancel p)) (append-assoc xs (c ∷ []) (r .before)) (r .accepted);
+      wait-over = subst (λ h. isWaiting (at (worked h) p .standing) ≡ false) (append-assoc xs (c ∷ [])
+          (r .before ++ (Cancel p ∷ []))) (r .wait-over);
+    })) r)
+    (⊎-elim (λ (m : EndedIn (worked xs) (stepOf (replyAfter xs c))). inl (record {
       before = [];
       call = c;
       after = es;
       split = refl;
+      that-wait = λ us vs k. through-none xs us vs p e k;
       given = subst (λ h. line Word.Given p f ∈ settlingLines (replyAfter h c)) (sym (append-nil xs))
           (subst (λ h. h ∈ settlingLines (replyAfter xs c)) (ap₂ (line Word.Given) e (ap (awaited (worked xs)) e ∙ a)) (m .line-there));
       wait-over = ap (λ b. isWaiting (at b p .standing)) (worked-snoc xs c)
           ∙ ap isWaiting (ap (stands (replyAfter xs c .board .programs)) (sym e) ∙ m .runs);
-    })
+    }))
+    (λ (m : Withdrew (worked xs) (cancelledBy (worked xs) c) (stepOf (replyAfter xs c))). inr (own-cancel xs es c p z e (sym e ∙ m .own)
+    (ap (λ q. isWaiting (at (replyAfter xs c .board) q .standing)) (sym e) ∙ m .over))))
     (step xs c .ended fav)
   where
     fav : worked xs .favoured ≢ 0
     fav d = z (sym e ∙ d)
 
 favoured-gets : (xs es : List Call) (c : Call) (p f : ℕ) → Favours xs c p f
-    → leavesIn (xs ++ (c ∷ [])) es + 1 ≡ admittedAfter (xs ++ (c ∷ [])) → GetsFile (xs ++ (c ∷ [])) es p f
+    → leavesIn p (xs ++ (c ∷ [])) es + 1 ≡ admittedAfter (xs ++ (c ∷ []))
+    → GetsFile (xs ++ (c ∷ [])) es p f ⊎ CancelledIn (xs ++ (c ∷ [])) es p
 favoured-gets xs es c p f h k = ⊎-elim
     (λ w. let n = w .1 in
     let d : line Word.Favour p f ≡ line Word.Favour (w .0) (n .file) = n .no-other (line Word.Favour p f) h refl in
@@ -316,5 +385,5 @@ demand3 cs n = record {
   order = last-order cs n;
   waits = λ xs ys p f _ a. open-waits xs p f a;
   favoured = λ xs ys p _ z e. favoured-by xs p z e;
-  gets = λ xs ys zs c p f q _ h _ k. favoured-gets xs (ys ++ (Leave q ∷ [])) c p f h k;
+  gets = λ xs ys zs c d p f _ h _ k. favoured-gets xs (ys ++ (d ∷ [])) c p f h k;
 }

@@ -155,6 +155,19 @@ test-other T P p x c i k n = ap (λ (y : Program). T (y .standing)) (put-other P
 pub test-same : (T : Standing → Bool) (P : Progs) (p : ℕ) (x : Program) → Sized P → Is p → T (stands (put P p x) p) ≡ T (x .standing)
 test-same T P p x z c = ap (λ (y : Program). T (y .standing)) (put-same P p x z c)
 
+-- p is put anew, and doesn't wait: whoever waits then is another ..
+pub other-waits : (P : Progs) (p : ℕ) (x : Program) → Sized P → Is p → isWaiting (x .standing) ≡ false
+    → (y g : ℕ) → stands (put P p x) y ≡ Standing.Waiting g → y ≢ p
+other-waits P p x z c n y g u q = never {t = false} (sym n ∙ sym (test-same isWaiting P p x z c)
+    ∙ ap (λ j. isWaiting (stands (put P p x) j)) (sym q) ∙ ap isWaiting u) refl
+
+-- .. with its file as before.
+asked-put : (P : Progs) (p : ℕ) (x : Program) → Sized P → Is p → isWaiting (x .standing) ≡ false
+    → ((y g : ℕ) → Is y → stands P y ≡ Standing.Waiting g → Asked (prog P y) g)
+    → (y g : ℕ) → Is y → stands (put P p x) y ≡ Standing.Waiting g → Asked (prog (put P p x) y) g
+asked-put P p x z c n f y g i u = let e = put-other P p y x c i (other-waits P p x z c n y g u) in
+    subst (λ q. Asked q g) (sym e) (f y g i (ap (λ (q : Program). q .standing) (sym e) ∙ u))
+
 -- A running program is put anew, running, with no more than it had: close and drop.
 pub loose-shrink : (P : Progs) (w e : List ℕ) (fav n l p : ℕ) (x : Program) → Is p → stands P p ≡ Standing.Running
     → x .standing ≡ Standing.Running → Within x (prog P p) → Own x → LooseIn P w e fav n l → LooseIn (put P p x) w e fav n l
@@ -162,10 +175,7 @@ loose-shrink P w e fav n l p x c r s d o k = record {
   base = base-shrink P p x c d o (ap isAdmitted s ∙ sym (ap isAdmitted r)) (k .base);
   waits = line-same w _ _ (test-put isWaiting P p x z c (ap isWaiting s ∙ sym (ap isWaiting r))) (k .waits);
   helds = line-same e _ _ (test-put isHeld P p x z c (ap isHeld s ∙ sym (ap isHeld r))) (k .helds);
-  asked = λ y g i u. let m : y ≢ p = (λ q. never {t = false} (sym (ap isWaiting s) ∙ sym (test-same isWaiting P p x z c)
-      ∙ ap (λ j. isWaiting (stands (put P p x) j)) (sym q) ∙ ap isWaiting u) refl) in
-      subst (λ q. Asked q g) (sym (put-other P p y x c i m)) (k .asked y g i (ap (λ (q : Program). q .standing)
-      (sym (put-other P p y x c i m)) ∙ u));
+  asked = asked-put P p x z c (ap isWaiting s) (k .asked);
   fav-waits = λ m. let (i, u) = k .fav-waits m in (i, test-put isWaiting P p x z c (ap isWaiting s ∙ sym (ap isWaiting r)) fav i ∙ u);
   count = λ m. let (i, u) = k .count m in (ap (λ q. l + length q) (ins-same P p x z c (ap isAdmitted s ∙ sym (ap isAdmitted r))) ∙ i, u);
   nobody = k .nobody;
@@ -237,14 +247,49 @@ loose-leave P w e fav n l l′ p c r up stay k = record {
   base = base-leave P p noProgram c (record { in-v = none-⊑ _; in-q = none-⊑ _; in-w = none-⊑ _; in-r = none-⊑ _ }) none-own refl (k .base);
   waits = line-same w _ _ (test-put isWaiting P p noProgram z c (sym (ap isWaiting r))) (k .waits);
   helds = line-same e _ _ (test-put isHeld P p noProgram z c (sym (ap isHeld r))) (k .helds);
-  asked = λ y g i u. let m : y ≢ p = (λ q. never {t = false} (sym (test-same isWaiting P p noProgram z c)
-      ∙ ap (λ j. isWaiting (stands (put P p noProgram) j)) (sym q) ∙ ap isWaiting u) refl) in
-      subst (λ q. Asked q g) (sym (put-other P p y noProgram c i m))
-      (k .asked y g i (ap (λ (q : Program). q .standing) (sym (put-other P p y noProgram c i m)) ∙ u));
+  asked = asked-put P p noProgram z c refl (k .asked);
   fav-waits = λ m. let (i, u) = k .fav-waits m in (i, test-put isWaiting P p noProgram z c (sym (ap isWaiting r)) fav i ∙ u);
   count = λ m. let (i, u) = k .count m in let d = length-without p (ins P) (ins-once P) (mem-ins P p c (ap isAdmitted r)) in
       let q = ap length (ins-out P p noProgram z c refl) in let v = up m in (omega arith, u);
   nobody = λ m. let (i, u) = k .nobody m in (i, stay m ∙ u);
+}
+  where
+    z : Sized P
+    z = k .base .size
+
+-- ── Cancel ──
+
+-- A waiting program goes; fav′, n′ and l′ are the three numbers of favouring after it.
+pub loose-withdraw : (P : Progs) (w e : List ℕ) (fav n l fav′ n′ l′ p f : ℕ) → Is p → stands P p ≡ Standing.Waiting f
+    → (fav′ ≢ 0 → (fav′ ≡ fav) × (fav ≢ p) × (n′ ≡ n) × (l′ ≡ l + 1)) → (fav′ ≡ 0 → (n′ ≡ 0) × (l′ ≡ 0))
+    → LooseIn P w e fav n l → LooseIn (put P p noProgram) (padded 0 (without p (names w))) e fav′ n′ l′
+loose-withdraw P w e fav n l fav′ n′ l′ p f c s keep stop k = record {
+  base = base-leave P p noProgram c (record { in-v = none-⊑ _; in-q = none-⊑ _; in-w = none-⊑ _; in-r = none-⊑ _ }) none-own refl (k .base);
+  waits = line-less w _ _ p (test-same isWaiting P p noProgram z c) (test-other isWaiting P p noProgram c) (k .waits);
+  helds = line-same e _ _ (test-put isHeld P p noProgram z c (sym (ap isHeld s))) (k .helds);
+  asked = asked-put P p noProgram z c refl (k .asked);
+  fav-waits = λ m. let (d, x, _, _) = keep m in let (i, v) = k .fav-waits (λ q. m (d ∙ q)) in subst (λ j. Is j × (waitsIn
+      (put P p noProgram) j ≡ true)) (sym d) (i, test-other isWaiting P p noProgram c fav i x ∙ v);
+  count = λ m. let (d, _, x, y) = keep m in let (i, v) = k .count (λ q. m (d ∙ q)) in let a = length-without p (ins P) (ins-once P)
+      (mem-ins P p c (ap isAdmitted s)) in let q = ap length (ins-out P p noProgram z c refl) in (omega arith, omega arith);
+  nobody = stop;
+}
+  where
+    z : Sized P
+    z = k .base .size
+
+-- A held program goes.
+pub loose-unhold : (P : Progs) (w e : List ℕ) (fav n l p : ℕ) → Is p → stands P p ≡ Standing.Held → LooseIn P w e fav n l → LooseIn
+    (put P p noProgram) w (padded 0 (without p (names e))) fav n l
+loose-unhold P w e fav n l p c s k = record {
+  base = base-shrink P p noProgram c (record { in-v = none-⊑ _; in-q = none-⊑ _; in-w = none-⊑ _; in-r = none-⊑ _ }) none-own (sym
+      (ap isAdmitted s)) (k .base);
+  waits = line-same w _ _ (test-put isWaiting P p noProgram z c (sym (ap isWaiting s))) (k .waits);
+  helds = line-less e _ _ p (test-same isHeld P p noProgram z c) (test-other isHeld P p noProgram c) (k .helds);
+  asked = asked-put P p noProgram z c refl (k .asked);
+  fav-waits = λ m. let (i, u) = k .fav-waits m in (i, test-put isWaiting P p noProgram z c (sym (ap isWaiting s)) fav i ∙ u);
+  count = λ m. let (i, u) = k .count m in (ap (λ q. l + length q) (ins-same P p noProgram z c (sym (ap isAdmitted s))) ∙ i, u);
+  nobody = k .nobody;
 }
   where
     z : Sized P
@@ -375,11 +420,7 @@ loose-open P w e fav n l p f c r m u k = record {
   base = base-give P p f c m (ap isAdmitted r) u (k .base);
   waits = line-same w _ _ (test-put isWaiting P p x z c (ap isWaiting o)) (k .waits);
   helds = line-same e _ _ (test-put isHeld P p x z c (ap isHeld o)) (k .helds);
-  asked = λ y g i v. let m : y ≢ p =
-      (λ q. never {t = false} (sym (ap isWaiting (o ∙ r)) ∙ sym (test-same isWaiting P p x z c)
-      ∙ ap (λ j. isWaiting (stands (put P p x) j)) (sym q) ∙ ap isWaiting v) refl) in
-      subst (λ q. Asked q g) (sym (put-other P p y x c i m)) (k .asked y g i (ap (λ (q : Program). q .standing)
-      (sym (put-other P p y x c i m)) ∙ v));
+  asked = asked-put P p x z c (ap isWaiting (o ∙ r)) (k .asked);
   fav-waits = λ m. let (i, v) = k .fav-waits m in (i, test-put isWaiting P p x z c (ap isWaiting o) fav i ∙ v);
   count = λ m. let (i, v) = k .count m in (ap (λ q. l + length q) (ins-same P p x z c (ap isAdmitted o)) ∙ i, v);
   nobody = k .nobody;
@@ -486,10 +527,7 @@ loose-admit P w e e′ n l p x c out a b s o h k = record {
   base = base-enter P p x c out a b o (ap isAdmitted s) (k .base);
   waits = line-same w _ _ (test-put isWaiting P p x z c (ap isWaiting s ∙ sym idle)) (k .waits);
   helds = h;
-  asked = λ y g i u. let m : y ≢ p = (λ q. never {t = false} (sym (ap isWaiting s) ∙ sym (test-same isWaiting P p x z c)
-      ∙ ap (λ j. isWaiting (stands (put P p x) j)) (sym q) ∙ ap isWaiting u) refl) in
-      subst (λ q. Asked q g) (sym (put-other P p y x c i m)) (k .asked y g i (ap (λ (q : Program). q .standing)
-      (sym (put-other P p y x c i m)) ∙ u));
+  asked = asked-put P p x z c (ap isWaiting s) (k .asked);
   fav-waits = λ m. absurd (m refl);
   count = λ m. absurd (m refl);
   nobody = k .nobody;
@@ -504,8 +542,7 @@ loose-admit P w e e′ n l p x c out a b s o h k = record {
 pub stuck-in : (P : Progs) (p : ℕ) (x : Program) → Sized P → Is p → isIn P p ≡ false → Within (prog P p) x
     → x .standing ≡ Standing.Running → Stuck P → Stuck (put P p x)
 stuck-in P p x z c out d s k y g i u =
-    let m : y ≢ p = (λ q. never {t = false} (sym (ap isWaiting s) ∙ sym (test-same isWaiting P p x z c)
-    ∙ ap (λ j. isWaiting (stands (put P p x) j)) (sym q) ∙ ap isWaiting u) refl) in
+    let m : y ≢ p = other-waits P p x z c (ap isWaiting s) y g u in
     stuck-admit P p x z c out d y g i m (k y g i (ap (λ (q : Program). q .standing) (sym (put-other P p y x c i m)) ∙ u))
 
 -- A newcomer's sets.
@@ -554,10 +591,7 @@ loose-hold P w e fav n l p v q c s m t k = record {
   };
   waits = line-same w _ _ (test-put isWaiting P p x z c (sym (ap isWaiting s))) (k .waits);
   helds = line-more e _ _ p c (ap isHeld s) (test-same isHeld P p x z c) (test-other isHeld P p x c) (k .helds);
-  asked = λ y g i u. let d : y ≢ p = (λ r. never {t = false} (sym (test-same isWaiting P p x z c)
-      ∙ ap (λ j. isWaiting (stands (put P p x) j)) (sym r) ∙ ap isWaiting u) refl) in
-      subst (λ r. Asked r g) (sym (put-other P p y x c i d)) (k .asked y g i (ap (λ (r : Program). r .standing)
-      (sym (put-other P p y x c i d)) ∙ u));
+  asked = asked-put P p x z c refl (k .asked);
   fav-waits = λ d. let (i, u) = k .fav-waits d in (i, test-put isWaiting P p x z c (sym (ap isWaiting s)) fav i ∙ u);
   count = λ d. let (i, u) = k .count d in (ap (λ h. l + length h) (ins-same P p x z c adm) ∙ i, u);
   nobody = k .nobody;
@@ -578,7 +612,6 @@ loose-hold P w e fav n l p v q c s m t k = record {
 pub stuck-hold : (P : Progs) (p : ℕ) (x : Program) → Base P → Is p → stands P p ≡ Standing.Absent
     → x .standing ≡ Standing.Held → Stuck P → Stuck (put P p x)
 stuck-hold P p x b c s r k y g i u =
-    let d : y ≢ p = (λ q. never {t = false} (sym (ap isWaiting r) ∙ sym (test-same isWaiting P p x (b .size) c)
-    ∙ ap (λ j. isWaiting (stands (put P p x) j)) (sym q) ∙ ap isWaiting u) refl) in
+    let d : y ≢ p = other-waits P p x (b .size) c (ap isWaiting r) y g u in
     stuck-put P p x (b .size) c (absent-within (prog P p) x (b .own p c) s) (ap isAdmitted r ∙ sym (ap isAdmitted s)) y g i
     (λ q. absurd (d q)) (k y g i (ap (λ (q : Program). q .standing) (sym (put-other P p y x c i d)) ∙ u))

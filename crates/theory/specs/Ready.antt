@@ -16,12 +16,12 @@ use Rattle.rules.specs.Lists.{names}
 use Rattle.rules.specs.Boards.{noProgram, isHeld, isWaiting, at, setProgram, closing, dropping}
 use Rattle.rules.specs.Soundness.{sound}
 use Rattle.rules.specs.Settling.{settle}
-use Rattle.rules.specs.Checks.{enterCheck, openCheck, closeCheck, leaveCheck}
-use Rattle.rules.specs.Calls.{countLeave}
+use Rattle.rules.specs.Checks.{enterCheck, openCheck, closeCheck, leaveCheck, cancelCheck}
+use Rattle.rules.specs.Calls.{countLeave, withdrawn}
 use Rattle.theory.specs.Programs.{Is, Sized}
 use Rattle.theory.specs.Loose.{waitsIn, heldAt, Loose, Good, test-same, loose-close, loose-drop}
 use Rattle.theory.specs.Settling.{settle-settled}
-use Rattle.theory.specs.Calls.{crowd, enter-may, open-may, close-may, leave-may, leave-left}
+use Rattle.theory.specs.Calls.{crowd, enter-may, open-may, close-may, leave-may, leave-left, cancel-may, cancel-withdrawn}
 use Rattle.theory.specs.Sound.{sound-iff, sound-good}
 
 -- A board that may be settled, with room in the reply for the answer's line and settling's.
@@ -48,7 +48,7 @@ module _ (b : Board) (z : Sized (b .programs)) (s : sound b ≡ true) where
   waiting-room p f e = let m = open-may b p f e in let n = crowd b p (good .loose) (m .is) (ap isWaiting (m .runs))
       (ap isHeld (m .runs)) in omega arith
 
-  -- Close, drop and leave: the board before settling.
+  -- Close, drop, leave and cancel: the board before settling.
   pub close-ready : (p f : ℕ) → closeCheck b p f ≡ Check.Passed → Ready (setProgram b p (closing (at b p) f))
   unfolding closing
   close-ready p f e = let m = close-may b p f e in
@@ -70,6 +70,12 @@ module _ (b : Board) (z : Sized (b .programs)) (s : sound b ≡ true) where
       ready (countLeave (setProgram b p noProgram)) p (l .l-loose) (m .is)
       (ap (λ P. waitsIn P p) (l .l-programs) ∙ test-same isWaiting (b .programs) p noProgram z (m .is))
       (ap (λ P. heldAt P p) (l .l-programs) ∙ test-same isHeld (b .programs) p noProgram z (m .is))
+
+  pub cancel-ready : (p : ℕ) → cancelCheck b p ≡ Check.Passed → Ready (withdrawn b p (at b p .standing))
+  cancel-ready p e = let m = cancel-may b p e in let l = cancel-withdrawn b p good m in
+      ready (withdrawn b p (at b p .standing)) p (l .w-loose) (m .is)
+      (ap (λ P. waitsIn P p) (l .w-programs) ∙ test-same isWaiting (b .programs) p noProgram z (m .is))
+      (ap (λ P. heldAt P p) (l .w-programs) ∙ test-same isHeld (b .programs) p noProgram z (m .is))
 
   -- Leave: the count of leaves does not overflow.
   pub leaves-room : b .leaves ≤ 32

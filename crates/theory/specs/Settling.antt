@@ -125,7 +125,7 @@ pass-given : (p : ℕ) (ps : List ℕ) (b : Board) → canGive b p (awaited b p)
 unfolding pass tryGive
 pass-given p ps b u = rw u
 
-pass-still : (p : ℕ) (ps : List ℕ) (b : Board) → canGive b p (awaited b p) ≡ false → pass (p ∷ ps) b ≡ pass ps b
+pub pass-still : (p : ℕ) (ps : List ℕ) (b : Board) → canGive b p (awaited b p) ≡ false → pass (p ∷ ps) b ≡ pass ps b
 unfolding pass tryGive
 pass-still p ps b u = rw u
 
@@ -331,8 +331,9 @@ pub record Chosen (b : Board) (s : Step) : Type 0 where
   pub fav : ((b .favoured ≡ 0) × ((p : ℕ) × Newly s p)) ⊎ (Favour b (s .board) × NoFavour (s .lines))
   pub runs : (p : ℕ) → Is p → stands (b .programs) p ≡ Standing.Running → stands (s .board .programs) p ≡ Standing.Running
   pub waited : (y g : ℕ) → Is y → stands (s .board .programs) y ≡ Standing.Waiting g → stands (b .programs) y ≡ Standing.Waiting g
+  pub others : (i : ℕ) → Is i → heldAt (b .programs) i ≡ false → prog (s .board .programs) i ≡ prog (b .programs) i
 
-choose-still : (b : Board) → b .favoured ≢ 0 → choose b ≡ still b
+pub choose-still : (b : Board) → b .favoured ≢ 0 → choose b ≡ still b
 unfolding choose
 choose-still b n = rw (ne-eqb (b .favoured) 0 n)
 
@@ -361,6 +362,7 @@ chosen-still b k st n = record {
   fav = inr (favour-refl b, λ q m. absurd (List·Memᴰ·not-nil m));
   runs = λ p c u. u;
   waited = λ y g i u. u;
+  others = λ i c n. refl;
 }
 
 chosen-some : (b : Board) (p : ℕ) → Loose b → Stuck (b .programs) → b .favoured ≡ 0 → p ∈ names (b .waiting) → Chosen b (favour b p)
@@ -405,6 +407,7 @@ chosen-some b p k st e m =
       );
       runs = λ p c u. u;
       waited = λ y g i u. u;
+      others = λ i c n. refl;
     }
 
 chosen-none : (b : Board) → Loose b → Stuck (b .programs) → b .favoured ≡ 0 → Chosen b (runHeld (names (b .entry)) (setEntry b []))
@@ -428,6 +431,7 @@ chosen-none b k st e = record {
   waited = λ y g i u. by-test (listed y (names (b .entry)))
       (λ t. never {t = false} (sym (ap isWaiting (r .now-runs y (listed-mem y (names (b .entry)) t))) ∙ ap isWaiting u) refl)
       (λ t. ap (λ (x : Program). x .standing) (sym (r .others y i (λ m. never (mem-listed y (names (b .entry)) m) t))) ∙ u);
+  others = λ i c n. r .others i c (λ m. never (k .helds .of i m .1) n);
 }
   where
     s : Step
@@ -465,6 +469,8 @@ pub record Settled (b : Board) (s : Step) : Type 0 where
   pub fav : ((p : ℕ) × Newly s p) ⊎ (((s .board .favoured ≡ 0) ⊎ Favour b (s .board)) × NoFavour (s .lines))
   pub ended : b .favoured ≢ 0 → Favour b (s .board) ⊎ Ended b s
   pub waited : (y g : ℕ) → Is y → stands (s .board .programs) y ≡ Standing.Waiting g → stands (b .programs) y ≡ Standing.Waiting g
+  pub others : (i : ℕ) → Is i → waitsIn (b .programs) i ≡ false → heldAt (b .programs) i ≡ false
+      → prog (s .board .programs) i ≡ prog (b .programs) i
 
 pub settle-settled : (b : Board) → Loose b → Settled b (settle b)
 unfolding settle
@@ -503,6 +509,8 @@ settle-settled b k = record {
       }))
       (r .fav);
   waited = λ y g i u. r .waited y g i (q .waited y g i u);
+  others = λ i c w h. let e = r .others i c (λ m. never (k .waits .of i m .1) w) in
+      q .others i c (ap (λ (x : Program). isHeld (x .standing)) e ∙ h) ∙ e;
 }
   where
     s : Step

@@ -23,9 +23,9 @@ use Rattle.rules.specs.Boards.{isAbsent, isWaiting, isProgram, emptyBoard, ever
 use Rattle.rules.specs.Orders.{heldBack, carriedFrom, carried, withGiven, inUse, safe, canGive}
 use Rattle.rules.specs.Soundness.{setsSound, standingSound, programSound, noConflict, lineSound, waiterSound, noneFavoured, someFavoured, sound}
 use Rattle.rules.specs.Replies.{refused, blank, reply, refuse, linesOf, orderOf, number}
-use Rattle.rules.specs.Checks.{refuseIf, unlessRunning, enterCheck, openCheck, closeCheck, leaveCheck}
+use Rattle.rules.specs.Checks.{refuseIf, unlessRunning, unlessStopped, enterCheck, openCheck, closeCheck, leaveCheck, cancelCheck}
 use Rattle.rules.specs.Calls.{enter, openFile, done, closeFile, dropFile, leave, Call, Enter, Open, Close, Drop, Leave, checked, accepted}
-use Rattle.rules.specs.Calls.{apply, direct}
+use Rattle.rules.specs.Calls.{Cancel, cancel, apply, direct}
 use Rattle.rules.specs.Worked.{workedFrom, worked, repliesFrom, directFrom}
 use Rattle.theory.specs.Lists.{_∈_, by-mem, here, no-longer, length-rising}
 use Rattle.theory.specs.Order.{IsOrder}
@@ -106,7 +106,7 @@ unfolding refuse reply
 passed-of b c e = by-check (checked b c) (λ u. u)
     (λ r u. never {t = true} refl (sym (ap (λ (q : Reply). refused (q .answer)) (apply-refused b c r u)) ∙ e))
 
--- Whatever a call is refused for by its own checks, it is one of the refusals 8 to 16.
+-- Whatever a call is refused for by its own checks, it is one of the refusals 8 to 16 and 18.
 if-number : (t : Bool) (r : Refusal) (k : Check) → 8 ≤ number r → ((q : Refusal) → k ≡ Check.Failed q → 8 ≤ number q)
     → (q : Refusal) → refuseIf t r k ≡ Check.Failed q → 8 ≤ number q
 if-number true r k n f q e = subst (λ z. 8 ≤ number z) (let d : r ≡ q = cc in d) n
@@ -118,6 +118,13 @@ running-number Standing.Absent k f q e = subst (λ z. 8 ≤ number z) (let d : R
 running-number Standing.Held k f q e = subst (λ z. 8 ≤ number z) (let d : Refusal.IsHeld ≡ q = cc in d) (omega arith)
 running-number (Standing.Waiting g) k f q e = subst (λ z. 8 ≤ number z) (let d : Refusal.IsWaiting ≡ q = cc in d) (omega arith)
 running-number Standing.Running k f q e = f q e
+
+stopped-number : (s : Standing) (k : Check) → ((q : Refusal) → k ≡ Check.Failed q → 8 ≤ number q) → (q : Refusal)
+    → unlessStopped s k ≡ Check.Failed q → 8 ≤ number q
+stopped-number Standing.Absent k f q e = subst (λ z. 8 ≤ number z) (let d : Refusal.IsAbsent ≡ q = cc in d) (omega arith)
+stopped-number Standing.Held k f q e = f q e
+stopped-number (Standing.Waiting g) k f q e = f q e
+stopped-number Standing.Running k f q e = subst (λ z. 8 ≤ number z) (let d : Refusal.IsRunning ≡ q = cc in d) (omega arith)
 
 passed-number : (q : Refusal) → Check.Passed ≡ Check.Failed q → 8 ≤ number q
 passed-number q e = absurd (let z : _≡_ {A = ℕ} 0 1 = cc in omega arith)
@@ -131,7 +138,7 @@ open-number b p f =
     (if-number (hasOpen (at b p) f) Refusal.IsOpen Check.Passed (omega arith) passed-number)))
 
 pub checked-number : (b : Board) (c : Call) (q : Refusal) → checked b c ≡ Check.Failed q → 8 ≤ number q
-unfolding enterCheck closeCheck leaveCheck
+unfolding enterCheck closeCheck leaveCheck cancelCheck
 checked-number b (Enter p v r) =
     if-number (not (isProgram p)) Refusal.OutOfRange _ (omega arith)
     (if-number (not (isAbsent (at b p .standing))) Refusal.NotAbsent _ (omega arith)
@@ -145,17 +152,21 @@ checked-number b (Drop p f) = open-number b p f
 checked-number b (Leave p) =
     if-number (not (isProgram p)) Refusal.OutOfRange _ (omega arith)
     (running-number (at b p .standing) Check.Passed passed-number)
+checked-number b (Cancel p) =
+    if-number (not (isProgram p)) Refusal.OutOfRange _ (omega arith)
+    (stopped-number (at b p .standing) Check.Passed passed-number)
 
 -- What an accepted call answers is no refusal.
 pub accepted-answer : (b : Board) (c : Call) → refused (accepted b c .answer) ≡ false
-unfolding enter openFile closeFile dropFile leave done reply
+unfolding enter openFile closeFile dropFile leave cancel done reply
 accepted-answer b (Enter p v q) = by-test (eqb (b .favoured) 0) (λ t. rw t) (λ t. rw t)
 accepted-answer b (Open p f) = by-test (inUse b p f) (λ t. rw t) (λ t. by-test (safe b p f) (λ u. rw (t, u)) (λ u. rw (t, u)))
 accepted-answer b (Close p f) = refl
 accepted-answer b (Drop p f) = refl
 accepted-answer b (Leave p) = refl
+accepted-answer b (Cancel p) = refl
 
--- Applied by the rules, a call is refused with 8 to 16 only.
+-- Applied by the rules, a call is refused with 8 to 16 or 18 only.
 pub apply-number : (b : Board) (c : Call) (q : Refusal) → apply b c .answer ≡ Answer.Refuse q → 8 ≤ number q
 unfolding refuse reply
 apply-number b c q e = by-check (checked b c)
@@ -185,13 +196,14 @@ unfolding reply
 made b a ls = record { its-lines = ls; is = refl }
 
 accepted-reply : (b : Board) (c : Call) → IsReply (accepted b c)
-unfolding enter openFile closeFile dropFile leave done
+unfolding enter openFile closeFile dropFile leave cancel done
 accepted-reply b (Enter p v q) = by-test (eqb (b .favoured) 0) (λ t. rw t (made _ _ _)) (λ t. rw t (made _ _ _))
 accepted-reply b (Open p f) = by-test (inUse b p f) (λ t. rw t (made _ _ _)) (λ t. by-test (safe b p f)
     (λ u. rw (t, u) (made _ _ _)) (λ u. rw (t, u) (made _ _ _)))
 accepted-reply b (Close p f) = made _ _ _
 accepted-reply b (Drop p f) = made _ _ _
 accepted-reply b (Leave p) = made _ _ _
+accepted-reply b (Cancel p) = made _ _ _
 
 pub apply-reply : (b : Board) (c : Call) → IsReply (apply b c)
 unfolding refuse
