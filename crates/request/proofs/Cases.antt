@@ -1,13 +1,15 @@
--- Lines that are refused with 3 to 7, as one table: antt computes each from the definitions. Assumes nothing.
+-- Lines that are refused with 3 to 7, as one table, and CANCEL lines that are taken: antt computes each from the definitions. Assumes nothing.
 use Prim.Native.Nat.{ℕ}
 use mathlib.Core.Path.{_≡_, refl}
 use mathlib.Core.List.{List, [], _∷_, map}
 use Rattle.columns.specs.Columns.{digitOf, field3, fieldOf, numberOf}
+use Rattle.files.specs.Sets.{noFiles}
 use Rattle.rules.specs.Lists.{all, same}
 use Rattle.rules.specs.Replies.{number}
+use Rattle.rules.specs.declared.Verb.{Verb}
 use Rattle.request.specs.declared.Reading.{Reading}
-use Rattle.request.specs.Requests.{begins, numberAt, programAt, labelPart, filesIn, risesFrom, addingAll}
-use Rattle.request.specs.Requests.{enterFiles, enterCounts, enterOf, fileOf, leaveOf, requestOf}
+use Rattle.request.specs.Requests.{taken, begins, numberAt, programAt, labelPart, filesIn, risesFrom, addingAll}
+use Rattle.request.specs.Requests.{enterFiles, enterCounts, enterOf, fileOf, aloneOf, requestOf}
 
 -- 01's number of the refusal, 0 for a line that is taken
 refusal : Reading → ℕ
@@ -33,11 +35,24 @@ refused-lines =
     ∷ (69 ∷ 78 ∷ 84 ∷ 69 ∷ 82 ∷ 32 ∷ 32 ∷ 32 ∷ 49 ∷ 83 ∷ 84 ∷ 79 ∷ 67 ∷ 75 ∷ 32 ∷ 32 ∷ 32 ∷ 32 ∷ 32 ∷ 50 ∷ 32 ∷ 32 ∷ 49 ∷ 32 ∷ 32 ∷ 50 ∷ 32 ∷ 32 ∷ 50 ∷ 32 ∷ 54 ∷ 53 ∷ [])
     ∷ (69 ∷ 78 ∷ 84 ∷ 69 ∷ 82 ∷ 32 ∷ 32 ∷ 32 ∷ 49 ∷ 83 ∷ 84 ∷ 79 ∷ 67 ∷ 75 ∷ 32 ∷ 32 ∷ 32 ∷ 32 ∷ 32 ∷ 50 ∷ 32 ∷ 32 ∷ 49 ∷ 32 ∷ 32 ∷ 50 ∷ 32 ∷ 32 ∷ 50 ∷ 32 ∷ 54 ∷ 52 ∷ [])
     ∷ (69 ∷ 78 ∷ 84 ∷ 69 ∷ 82 ∷ 32 ∷ 32 ∷ 32 ∷ 49 ∷ 83 ∷ 84 ∷ 79 ∷ 67 ∷ 75 ∷ 32 ∷ 32 ∷ 32 ∷ 32 ∷ 32 ∷ 49 ∷ 32 ∷ 32 ∷ 50 ∷ 32 ∷ 32 ∷ 49 ∷ 32 ∷ 32 ∷ 51 ∷ 32 ∷ 32 ∷ 50 ∷ [])
+    ∷ (67 ∷ 65 ∷ 78 ∷ 67 ∷ 69 ∷ 88 ∷ 32 ∷ 32 ∷ 55 ∷ [])
+    ∷ (67 ∷ 65 ∷ 78 ∷ 67 ∷ 69 ∷ 76 ∷ [])
+    ∷ (67 ∷ 65 ∷ 78 ∷ 67 ∷ 69 ∷ 76 ∷ 32 ∷ 32 ∷ 32 ∷ 55 ∷ [])
+    ∷ (67 ∷ 65 ∷ 78 ∷ 67 ∷ 69 ∷ 76 ∷ 32 ∷ 32 ∷ 55 ∷ 32 ∷ 32 ∷ 49 ∷ [])
+    ∷ (67 ∷ 65 ∷ 78 ∷ 67 ∷ 69 ∷ 76 ∷ 32 ∷ 32 ∷ 48 ∷ [])
+    ∷ (67 ∷ 65 ∷ 78 ∷ 67 ∷ 69 ∷ 76 ∷ 32 ∷ 51 ∷ 51 ∷ [])
     ∷ []
 
-table : map (λ (l : List ℕ). refusal (requestOf l .reading)) refused-lines ≡ 3 ∷ 3 ∷ 4 ∷ 4 ∷ 5 ∷ 5 ∷ 5 ∷ 5 ∷ 4 ∷ 5 ∷ 6 ∷ 5 ∷ 4 ∷ 5 ∷ 5 ∷ 7 ∷ 7 ∷ []
+table : map (λ (l : List ℕ). refusal (requestOf l .reading)) refused-lines ≡ 3 ∷ 3 ∷ 4 ∷ 4 ∷ 5 ∷ 5 ∷ 5 ∷ 5 ∷ 4 ∷ 5 ∷ 6 ∷ 5 ∷ 4 ∷ 5 ∷ 5 ∷ 7 ∷ 7 ∷ 3 ∷ 4 ∷ 4 ∷ 4 ∷ 5 ∷ 5 ∷ []
 unfolding refusal refused-lines
     digitOf field3 fieldOf numberOf all same
     begins numberAt programAt labelPart filesIn risesFrom addingAll
-    enterFiles enterCounts enterOf fileOf leaveOf requestOf
+    enterFiles enterCounts enterOf fileOf aloneOf requestOf
 table = refl
+
+-- the six letters of CANCEL fill columns 1 to 6, and the program follows at once
+cancel-taken : map requestOf ((67 ∷ 65 ∷ 78 ∷ 67 ∷ 69 ∷ 76 ∷ 32 ∷ 32 ∷ 55 ∷ []) ∷ (67 ∷ 65 ∷ 78 ∷ 67 ∷ 69 ∷ 76 ∷ 32 ∷ 51 ∷ 50 ∷ []) ∷ [])
+    ≡ taken Verb.Cancel 7 0 noFiles noFiles ∷ taken Verb.Cancel 32 0 noFiles noFiles ∷ []
+unfolding digitOf field3 fieldOf numberOf same
+    begins numberAt programAt aloneOf requestOf
+cancel-taken = refl

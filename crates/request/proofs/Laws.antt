@@ -23,7 +23,7 @@ use Rattle.request.specs.declared.Reading.{Reading}
 use Rattle.request.specs.declared.Request.{Request}
 use Rattle.request.specs.declared.Group.{Group}
 use Rattle.request.specs.Requests.{refused, taken, verbColumns, begins, numberAt, programAt, labelByte, labelPart}
-use Rattle.request.specs.Requests.{filesIn, risesFrom, addingAll, enterFiles, enterCounts, enterOf, fileOf, leaveOf, requestOf}
+use Rattle.request.specs.Requests.{filesIn, risesFrom, addingAll, enterFiles, enterCounts, enterOf, fileOf, aloneOf, requestOf}
 use Rattle.request.specs.Requests.{isEntryBy, isEntry}
 use Rattle.request.specs.Groups.{noGroup, joined, groupFrom}
 
@@ -40,6 +40,7 @@ verb-length Verb.Open = refl
 verb-length Verb.Close = refl
 verb-length Verb.Drop = refl
 verb-length Verb.Leave = refl
+verb-length Verb.Cancel = refl
 
 -- columns 1 to 6 from the column after i on
 verb-next : (w l : List ℕ) (i : ℕ) → length w ≡ 6 → 6 ≤ length l → i < 6 → same (drop i (take 6 l)) (drop i w) ≡
@@ -255,18 +256,18 @@ pub file-good : (v : Verb) (l : List ℕ) (p f : ℕ) → length l ≡ 12 → nu
 unfolding fileOf programAt numberAt
 file-good v l p f n e d = rw (eq-eqb (length l) 12 n, e, d)
 
-pub leave-length : (l : List ℕ) → (length l ≡ 9 → ⊥) → leaveOf l ≡ refused Refusal.BadLength
-unfolding leaveOf
-leave-length l n = rw (ne-eqb (length l) 9 n)
+pub alone-length : (v : Verb) (l : List ℕ) → (length l ≡ 9 → ⊥) → aloneOf v l ≡ refused Refusal.BadLength
+unfolding aloneOf
+alone-length v l n = rw (ne-eqb (length l) 9 n)
 
-pub leave-program : (l : List ℕ) → length l ≡ 9 → numberOf 1 32 (take 3 (drop 6 l)) ≡ Field.Bad → leaveOf l ≡ refused Refusal.BadNumber
-unfolding leaveOf programAt numberAt
-leave-program l n e = rw (eq-eqb (length l) 9 n, e)
+pub alone-program : (v : Verb) (l : List ℕ) → length l ≡ 9 → numberOf 1 32 (take 3 (drop 6 l)) ≡ Field.Bad → aloneOf v l ≡ refused Refusal.BadNumber
+unfolding aloneOf programAt numberAt
+alone-program v l n e = rw (eq-eqb (length l) 9 n, e)
 
-pub leave-good : (l : List ℕ) (p : ℕ) → length l ≡ 9 → numberOf 1 32 (take 3 (drop 6 l)) ≡ Field.Number p
-    → leaveOf l ≡ taken Verb.Leave p 0 noFiles noFiles
-unfolding leaveOf programAt numberAt
-leave-good l p n e = rw (eq-eqb (length l) 9 n, e)
+pub alone-good : (v : Verb) (l : List ℕ) (p : ℕ) → length l ≡ 9 → numberOf 1 32 (take 3 (drop 6 l)) ≡ Field.Number p
+    → aloneOf v l ≡ taken v p 0 noFiles noFiles
+unfolding aloneOf programAt numberAt
+alone-good v l p n e = rw (eq-eqb (length l) 9 n, e)
 
 -- a number in three columns is at most the range's end
 pub at-most : (low high : ℕ) (l : List ℕ) (n : ℕ) (f : Field) → f ≡ numberOf low high l → f ≡ Field.Number n → n ≤ high
@@ -289,9 +290,9 @@ file-entry v l h =
     field-cases (numberAt 9 1 64 l) (λ k. rw (e, d, k)) (λ f k. rw (e, d, k) h)))
     (λ e. rw e)
 
-leave-entry : (l : List ℕ) → isEntry (leaveOf l) ≡ false
-unfolding leaveOf
-leave-entry l = by-test (eqb (length l) 9) (λ e. field-cases (programAt l) (λ d. rw (e, d)) (λ p d. rw (e, d))) (λ e. rw e)
+alone-entry : (v : Verb) (l : List ℕ) → isEntryBy Reading.Taken v ≡ false → isEntry (aloneOf v l) ≡ false
+unfolding aloneOf
+alone-entry v l h = by-test (eqb (length l) 9) (λ e. field-cases (programAt l) (λ d. rw (e, d)) (λ p d. rw (e, d) h)) (λ e. rw e)
 
 enter-entry : (l : List ℕ) → isEntry (enterOf l) ≡ true → 23 ≤ length l
 unfolding enterOf
@@ -304,4 +305,6 @@ entry-long l h =
     by-test (begins Verb.Open l) (λ f. never (rw (e, f) at h) (file-entry Verb.Open l refl)) (λ f.
     by-test (begins Verb.Close l) (λ g. never (rw (e, f, g) at h) (file-entry Verb.Close l refl)) (λ g.
     by-test (begins Verb.Drop l) (λ i. never (rw (e, f, g, i) at h) (file-entry Verb.Drop l refl)) (λ i.
-    by-test (begins Verb.Leave l) (λ j. never (rw (e, f, g, i, j) at h) (leave-entry l)) (λ j. never (rw (e, f, g, i, j) at h) refl)))))
+    by-test (begins Verb.Leave l) (λ j. never (rw (e, f, g, i, j) at h) (alone-entry Verb.Leave l refl)) (λ j.
+    by-test (begins Verb.Cancel l) (λ k. never (rw (e, f, g, i, j, k) at h) (alone-entry Verb.Cancel l refl))
+    (λ k. never (rw (e, f, g, i, j, k) at h) refl))))))

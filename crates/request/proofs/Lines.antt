@@ -3,7 +3,7 @@ use Prim.Native.Nat.{ℕ, _+_, _*_, _≤_}
 use mathlib.Core.Path.{_≡_, refl, ap, ap₂, sym, _∙_}
 use mathlib.Core.List.{List, [], _∷_, _++_, append-nil}
 use mathlib.Core.Option.{some}
-use mathlib.Core.Bool.{Bool, true, _&&_}
+use mathlib.Core.Bool.{Bool, true, false, _&&_}
 use lib.Dec.{eqb, ltb}
 use lib.ListN.{length, take, drop, replicate, length-append, length-take, length-drop, take-append-drop}
 use lib.Seq.{take-at, drop-at, drop-drop, take-all}
@@ -17,15 +17,15 @@ use Rattle.files.specs.declared.FileSet.{FileSet}
 use Rattle.files.specs.Sets.{noFiles}
 use Rattle.rules.specs.declared.Refusal.{Refusal}
 use Rattle.rules.specs.Lists.{all, same}
-use Rattle.rules.specs.Calls.{Call, Enter, Open, Close, Drop, Leave}
+use Rattle.rules.specs.Calls.{Call, Enter, Open, Close, Drop, Leave, Cancel}
 use Rattle.rules.specs.declared.Verb.{Verb}
 use Rattle.request.specs.declared.Reading.{Reading}
 use Rattle.request.specs.declared.Request.{Request}
 use Rattle.request.specs.Requests.{refused, taken, requestCall, verbColumns, begins, numberAt, programAt, labelByte, labelPart}
-use Rattle.request.specs.Requests.{filesIn, rises, setOf, enterFiles, enterCounts, enterOf, fileOf, leaveOf, requestOf}
+use Rattle.request.specs.Requests.{filesIn, rises, setOf, enterFiles, enterCounts, enterOf, fileOf, aloneOf, requestOf}
 use Rattle.request.specs.Requests.{isEntry, labelOf, filesOf, filesColumns, lineOf}
 use Rattle.request.specs.Law.{IsLabel, InRange, saying, TakenWith, AsksFor, LineLaw, SayingLaw, LabelLaw}
-use Rattle.request.proofs.Laws.{field-cases, enter-good, counts-good, file-good, leave-good}
+use Rattle.request.proofs.Laws.{verb-length, field-cases, enter-good, counts-good, file-good, alone-good}
 use Rattle.request.proofs.Groups.{set-bits, files-files, files-rise, files-length, set-back, list-back, flat-length, columns-back, files-read}
 
 -- ---- a line that asks for a call is read as this call
@@ -38,27 +38,25 @@ columns-length n = refl
 past : (n k : ℕ) (l x y : List ℕ) → drop n l ≡ x ++ y → length x ≡ k → (take k (drop n l) ≡ x) × (drop (n + k) l ≡ y)
 past n k l x y e h = (rw e (take-at x y k h), sym (drop-drop k n l) ∙ rw e (drop-at x y k h))
 
-open-read : (p f : ℕ) (label : List ℕ) → InRange (Open p f) → requestOf (lineOf (Open p f) label) ≡ saying (Open p f)
-unfolding requestOf begins same lineOf columnsOf
-open-read p f label h =
-    file-good Verb.Open (lineOf (Open p f) label) p f refl (number-columns 1 32 p (omega (arith, h .1)) (h .0) (h .1))
-    (number-columns 1 64 f (omega (arith, h .3)) (h .2) (h .3))
+-- OPEN, CLOSE, DROP
+file-read : (v : Verb) (p f : ℕ) → (1 ≤ p) × (p ≤ 32) × (1 ≤ f) × (f ≤ 64)
+    → fileOf v (verbColumns v ++ (columnsOf p ++ columnsOf f)) ≡ taken v p f noFiles noFiles
+unfolding columnsOf
+file-read v p f h =
+    let l = verbColumns v ++ (columnsOf p ++ columnsOf f) in
+    let n : length l ≡ 12 = length-append (verbColumns v) (columnsOf p ++ columnsOf f) ∙ ap (λ (x : ℕ). x + 6) (verb-length v) in
+    let a = past 6 3 l (columnsOf p) (columnsOf f) (drop-at (verbColumns v) (columnsOf p ++ columnsOf f) 6 (verb-length v)) refl in
+    file-good v l p f n (ap (numberOf 1 32) (a .0) ∙ number-columns 1 32 p (omega (arith, h .1)) (h .0) (h .1))
+    (ap (λ (x : List ℕ). numberOf 1 64 (take 3 x)) (a .1) ∙ number-columns 1 64 f (omega (arith, h .3)) (h .2) (h .3))
 
-close-read : (p f : ℕ) (label : List ℕ) → InRange (Close p f) → requestOf (lineOf (Close p f) label) ≡ saying (Close p f)
-unfolding requestOf begins same lineOf columnsOf
-close-read p f label h =
-    file-good Verb.Close (lineOf (Close p f) label) p f refl (number-columns 1 32 p (omega (arith, h .1)) (h .0) (h .1))
-    (number-columns 1 64 f (omega (arith, h .3)) (h .2) (h .3))
-
-drop-read : (p f : ℕ) (label : List ℕ) → InRange (Drop p f) → requestOf (lineOf (Drop p f) label) ≡ saying (Drop p f)
-unfolding requestOf begins same lineOf columnsOf
-drop-read p f label h =
-    file-good Verb.Drop (lineOf (Drop p f) label) p f refl (number-columns 1 32 p (omega (arith, h .1)) (h .0) (h .1))
-    (number-columns 1 64 f (omega (arith, h .3)) (h .2) (h .3))
-
-leave-read : (p : ℕ) (label : List ℕ) → InRange (Leave p) → requestOf (lineOf (Leave p) label) ≡ saying (Leave p)
-unfolding requestOf begins same lineOf columnsOf
-leave-read p label h = leave-good (lineOf (Leave p) label) p refl (number-columns 1 32 p (omega (arith, h .1)) (h .0) (h .1))
+-- LEAVE, CANCEL
+alone-read : (v : Verb) (p : ℕ) → (1 ≤ p) × (p ≤ 32) → aloneOf v (verbColumns v ++ columnsOf p) ≡ taken v p 0 noFiles noFiles
+unfolding columnsOf
+alone-read v p h =
+    let l = verbColumns v ++ columnsOf p in
+    let n : length l ≡ 9 = length-append (verbColumns v) (columnsOf p) ∙ ap (λ (x : ℕ). x + 3) (verb-length v) in
+    let d = drop-at (verbColumns v) (columnsOf p) 6 (verb-length v) in
+    alone-good v l p n (ap (λ (x : List ℕ). numberOf 1 32 (take 3 x)) d ∙ number-columns 1 32 p (omega (arith, h .1)) (h .0) (h .1))
 
 -- the parts of an ENTER line
 record Parts (p : ℕ) (v q : FileSet) (given l : List ℕ) : Type 0 where
@@ -122,11 +120,13 @@ enter-read p v q label h k =
 
 -- THE LAW, one way: the line that asks for a call within range is taken, and says this call
 pub line-read : SayingLaw
+unfolding requestOf begins same lineOf
 line-read (Enter p v q) label h k = enter-read p v q label h k
-line-read (Open p f) label h k = open-read p f label h
-line-read (Close p f) label h k = close-read p f label h
-line-read (Drop p f) label h k = drop-read p f label h
-line-read (Leave p) label h k = leave-read p label h
+line-read (Open p f) label h k = file-read Verb.Open p f h
+line-read (Close p f) label h k = file-read Verb.Close p f h
+line-read (Drop p f) label h k = file-read Verb.Drop p f h
+line-read (Leave p) label h k = alone-read Verb.Leave p h
+line-read (Cancel p) label h k = alone-read Verb.Cancel p h
 
 -- and its label is the one that stands in it
 pub label-read : LabelLaw
@@ -165,22 +165,46 @@ pub record Says (l : List ℕ) (q : Request) : Type 0 where
   pub line : l ≡ lineOf (requestCall q) (labelPart l)
   pub label : isEntry q ≡ true → IsLabel (labelPart l)
 
--- LEAVE
-leave-says : (l : List ℕ) → begins Verb.Leave l ≡ true → leaveOf l .reading ≡ Reading.Taken → Says l (leaveOf l)
-unfolding leaveOf programAt numberAt lineOf
-leave-says l b h =
+pub call-back : (c : Call) → requestCall (saying c) ≡ c
+call-back (Enter p v q) = refl
+call-back (Open p f) = refl
+call-back (Close p f) = refl
+call-back (Drop p f) = refl
+call-back (Leave p) = refl
+call-back (Cancel p) = refl
+
+-- a line of another verb than ENTER says a call
+other-says : (l : List ℕ) (q : Request) (c : Call) → isEntry (saying c) ≡ false → q ≡ saying c → InRange c → l ≡ lineOf c (labelPart l) → Says l q
+other-says l q c h e r n =
+    rw e (record {
+      call = ap saying (sym (call-back c));
+      range = rw (call-back c) r;
+      line = rw (call-back c) n;
+      label = λ z. never z h;
+    })
+
+-- LEAVE, CANCEL: the number
+record One (v : Verb) (l : List ℕ) : Type 0 where
+  p : ℕ
+  range : (1 ≤ p) × (p ≤ 32)
+  says : aloneOf v l ≡ taken v p 0 noFiles noFiles
+  line : l ≡ verbColumns v ++ columnsOf p
+
+one : (v : Verb) (l : List ℕ) → begins v l ≡ true → aloneOf v l .reading ≡ Reading.Taken → One v l
+unfolding aloneOf programAt numberAt
+one v l b h =
     by-test (eqb (length l) 9)
     (λ e. field-cases (numberOf 1 32 (take 3 (drop 6 l))) (λ d. not-taken Refusal.BadNumber (rw (e, d) at h))
     (λ p d.
     let n = number-is 1 32 (take 3 (drop 6 l)) p d in
-    let i = cut 0 6 l (verbColumns Verb.Leave) (verb-is Verb.Leave l b) in
+    let i = cut 0 6 l (verbColumns v) (verb-is v l b) in
     let j = cut-last 6 3 l (columnsOf p) (eqb-true (length l) 9 e) (n .2) in
-    rw (e, d) (record {
-      call = refl;
+    record {
+      p = p;
       range = (n .0, n .1);
-      line = i ∙ ap (λ (x : List ℕ). verbColumns Verb.Leave ++ x) j;
-      label = λ z. never z refl;
-    })))
+      says = rw (e, d);
+      line = i ∙ ap (λ (x : List ℕ). verbColumns v ++ x) j;
+    }))
     (λ e. not-taken Refusal.BadLength (rw e at h))
 
 -- OPEN, CLOSE, DROP: the numbers
@@ -211,18 +235,6 @@ two v l b h =
       line = i ∙ ap (λ (x : List ℕ). verbColumns v ++ x) (j ∙ ap (λ (x : List ℕ). columnsOf p ++ x) o);
     })))
     (λ e. not-taken Refusal.BadLength (rw e at h))
-
-open-says : (l : List ℕ) → Two Verb.Open l → Says l (fileOf Verb.Open l)
-unfolding lineOf
-open-says l t = rw (t .says) (record { call = refl; range = t .range; line = t .line; label = λ z. never z refl })
-
-close-says : (l : List ℕ) → Two Verb.Close l → Says l (fileOf Verb.Close l)
-unfolding lineOf
-close-says l t = rw (t .says) (record { call = refl; range = t .range; line = t .line; label = λ z. never z refl })
-
-drop-says : (l : List ℕ) → Two Verb.Drop l → Says l (fileOf Verb.Drop l)
-unfolding lineOf
-drop-says l t = rw (t .says) (record { call = refl; range = t .range; line = t .line; label = λ z. never z refl })
 
 -- ENTER: the numbers and the files
 record Entry (l : List ℕ) : Type 0 where
@@ -317,23 +329,22 @@ entry-says l b t =
 
 -- THE LAW, the other way: a line that is taken is the line that asks for the call it says, with its own label
 pub read-line : (l : List ℕ) → requestOf l .reading ≡ Reading.Taken → Says l (requestOf l)
-unfolding requestOf
+unfolding requestOf lineOf
 read-line l h =
     by-test (begins Verb.Enter l) (λ e. rw e (entry-says l e (entry l (rw e at h)))) (λ e.
-    by-test (begins Verb.Open l) (λ f. rw (e, f) (open-says l (two Verb.Open l f (rw (e, f) at h)))) (λ f.
-    by-test (begins Verb.Close l) (λ g. rw (e, f, g) (close-says l (two Verb.Close l g (rw (e, f, g) at h)))) (λ g.
-    by-test (begins Verb.Drop l) (λ i. rw (e, f, g, i) (drop-says l (two Verb.Drop l i (rw (e, f, g, i) at h)))) (λ i.
-    by-test (begins Verb.Leave l) (λ j. rw (e, f, g, i, j) (leave-says l j (rw (e, f, g, i, j) at h)))
-    (λ j. not-taken Refusal.NoVerb (rw (e, f, g, i, j) at h))))))
+    by-test (begins Verb.Open l) (λ f. let t = two Verb.Open l f (rw (e, f) at h) in
+    rw (e, f) (other-says l _ (Open (t .p) (t .f)) (refl {a = false}) (t .says) (t .range) (t .line))) (λ f.
+    by-test (begins Verb.Close l) (λ g. let t = two Verb.Close l g (rw (e, f, g) at h) in
+    rw (e, f, g) (other-says l _ (Close (t .p) (t .f)) (refl {a = false}) (t .says) (t .range) (t .line))) (λ g.
+    by-test (begins Verb.Drop l) (λ i. let t = two Verb.Drop l i (rw (e, f, g, i) at h) in
+    rw (e, f, g, i) (other-says l _ (Drop (t .p) (t .f)) (refl {a = false}) (t .says) (t .range) (t .line))) (λ i.
+    by-test (begins Verb.Leave l) (λ j. let t = one Verb.Leave l j (rw (e, f, g, i, j) at h) in
+    rw (e, f, g, i, j) (other-says l _ (Leave (t .p)) (refl {a = false}) (t .says) (t .range) (t .line))) (λ j.
+    by-test (begins Verb.Cancel l) (λ k. let t = one Verb.Cancel l k (rw (e, f, g, i, j, k) at h) in
+    rw (e, f, g, i, j, k) (other-says l _ (Cancel (t .p)) (refl {a = false}) (t .says) (t .range) (t .line)))
+    (λ k. not-taken Refusal.NoVerb (rw (e, f, g, i, j, k) at h)))))))
 
 -- ---- both ways in one
-
-pub call-back : (c : Call) → requestCall (saying c) ≡ c
-call-back (Enter p v q) = refl
-call-back (Open p f) = refl
-call-back (Close p f) = refl
-call-back (Drop p f) = refl
-call-back (Leave p) = refl
 
 pub taken-back : (c : Call) → saying c .reading ≡ Reading.Taken
 taken-back (Enter p v q) = refl
@@ -341,6 +352,7 @@ taken-back (Open p f) = refl
 taken-back (Close p f) = refl
 taken-back (Drop p f) = refl
 taken-back (Leave p) = refl
+taken-back (Cancel p) = refl
 
 -- the label matters to ENTER only
 pub some-label : (c : Call) (l : List ℕ) → (isEntry (saying c) ≡ true → IsLabel l) → (label : List ℕ) × IsLabel label × (lineOf c l ≡ lineOf c label)
@@ -350,6 +362,7 @@ some-label (Open p f) l h = (replicate 8 32, (refl, refl), refl)
 some-label (Close p f) l h = (replicate 8 32, (refl, refl), refl)
 some-label (Drop p f) l h = (replicate 8 32, (refl, refl), refl)
 some-label (Leave p) l h = (replicate 8 32, (refl, refl), refl)
+some-label (Cancel p) l h = (replicate 8 32, (refl, refl), refl)
 
 asks-of-taken : (l : List ℕ) (c : Call) → TakenWith l c → AsksFor l c
 asks-of-taken l c h =

@@ -9,7 +9,7 @@ use lib.ListN.{length}
 use Rattle.files.specs.declared.FileSet.{FileSet}
 use Rattle.files.specs.Sets.{noFiles, OfFiles}
 use Rattle.rules.specs.Lists.{all}
-use Rattle.rules.specs.Calls.{Call, Enter, Open, Close, Drop, Leave}
+use Rattle.rules.specs.Calls.{Call, Enter, Open, Close, Drop, Leave, Cancel}
 use Rattle.rules.specs.declared.Verb.{Verb}
 use Rattle.request.specs.declared.Reading.{Reading}
 use Rattle.request.specs.declared.Request.{Request}
@@ -26,6 +26,7 @@ InRange (Open p f) = (1 ≤ p) × (p ≤ 32) × (1 ≤ f) × (f ≤ 64)
 InRange (Close p f) = (1 ≤ p) × (p ≤ 32) × (1 ≤ f) × (f ≤ 64)
 InRange (Drop p f) = (1 ≤ p) × (p ≤ 32) × (1 ≤ f) × (f ≤ 64)
 InRange (Leave p) = (1 ≤ p) × (p ≤ 32)
+InRange (Cancel p) = (1 ≤ p) × (p ≤ 32)
 
 -- what a line that asks for a call says
 abbrev pub saying : Call → Request
@@ -34,6 +35,7 @@ saying (Open p f) = taken Verb.Open p f noFiles noFiles
 saying (Close p f) = taken Verb.Close p f noFiles noFiles
 saying (Drop p f) = taken Verb.Drop p f noFiles noFiles
 saying (Leave p) = taken Verb.Leave p 0 noFiles noFiles
+saying (Cancel p) = taken Verb.Cancel p 0 noFiles noFiles
 
 -- the line is taken, and c is the call it asks for
 abbrev pub TakenWith : List ℕ → Call → Type 0

@@ -12,7 +12,7 @@ use Rattle.files.specs.declared.FileSet.{FileSet}
 use Rattle.files.specs.Sets.{noFiles, member, adding}
 use Rattle.rules.specs.declared.Refusal.{Refusal}
 use Rattle.rules.specs.Lists.{all, keep, withFound, rising, same}
-use Rattle.rules.specs.Calls.{Call, Enter, Open, Close, Drop, Leave, callWith}
+use Rattle.rules.specs.Calls.{Call, Enter, Open, Close, Drop, Leave, Cancel, callWith}
 use Rattle.rules.specs.declared.Verb.{Verb}
 use Rattle.request.specs.declared.Reading.{Reading}
 use Rattle.request.specs.declared.Request.{Request}
@@ -42,13 +42,14 @@ requestCall q = callWith (q .verb) (q .program) (q .file) (q .writable) (q .read
 
 -- ---- columns
 
--- "Columns 1–6: ENTER, OPEN, CLOSE, DROP or LEAVE, blanks after."
+-- "Columns 1–6: ENTER, OPEN, CLOSE, DROP or LEAVE, blanks after."; "CANCEL is a sixth verb"
 abbrev pub verbColumns : Verb → List ℕ
 verbColumns Verb.Enter = 69 ∷ 78 ∷ 84 ∷ 69 ∷ 82 ∷ 32 ∷ []
 verbColumns Verb.Open = 79 ∷ 80 ∷ 69 ∷ 78 ∷ 32 ∷ 32 ∷ []
 verbColumns Verb.Close = 67 ∷ 76 ∷ 79 ∷ 83 ∷ 69 ∷ 32 ∷ []
 verbColumns Verb.Drop = 68 ∷ 82 ∷ 79 ∷ 80 ∷ 32 ∷ 32 ∷ []
 verbColumns Verb.Leave = 76 ∷ 69 ∷ 65 ∷ 86 ∷ 69 ∷ 32 ∷ []
+verbColumns Verb.Cancel = 67 ∷ 65 ∷ 78 ∷ 67 ∷ 69 ∷ 76 ∷ []
 
 -- columns 1 to 6 are those of the verb; never so in a line under 6 bytes
 unfoldable pub begins : Verb → List ℕ → Bool
@@ -127,11 +128,11 @@ fileOf v l =
     taken v p f noFiles noFiles)))
     (refused Refusal.BadLength)
 
--- LEAVE
-unfoldable pub leaveOf : List ℕ → Request
-leaveOf l =
+-- LEAVE, and CANCEL "with a 9-byte line": the program alone
+unfoldable pub aloneOf : Verb → List ℕ → Request
+aloneOf v l =
     cond (eqb (length l) 9)
-    (onNumber (programAt l) (refused Refusal.BadNumber) (λ p. taken Verb.Leave p 0 noFiles noFiles))
+    (onNumber (programAt l) (refused Refusal.BadNumber) (λ p. taken v p 0 noFiles noFiles))
     (refused Refusal.BadLength)
 
 -- what a line says, or the first of refusals 3 to 7 that applies
@@ -141,7 +142,8 @@ requestOf l =
     (cond (begins Verb.Open l) (fileOf Verb.Open l)
     (cond (begins Verb.Close l) (fileOf Verb.Close l)
     (cond (begins Verb.Drop l) (fileOf Verb.Drop l)
-    (cond (begins Verb.Leave l) (leaveOf l) (refused Refusal.NoVerb)))))
+    (cond (begins Verb.Leave l) (aloneOf Verb.Leave l)
+    (cond (begins Verb.Cancel l) (aloneOf Verb.Cancel l) (refused Refusal.NoVerb))))))
 
 -- the line is taken, and its verb is ENTER
 abbrev pub isEntryBy : Reading → Verb → Bool
@@ -151,6 +153,7 @@ isEntryBy Reading.Taken Verb.Open = false
 isEntryBy Reading.Taken Verb.Close = false
 isEntryBy Reading.Taken Verb.Drop = false
 isEntryBy Reading.Taken Verb.Leave = false
+isEntryBy Reading.Taken Verb.Cancel = false
 
 abbrev pub isEntry : Request → Bool
 isEntry q = isEntryBy (q .reading) (q .verb)
@@ -183,3 +186,4 @@ lineOf (Open p f) label = verbColumns Verb.Open ++ (columnsOf p ++ columnsOf f)
 lineOf (Close p f) label = verbColumns Verb.Close ++ (columnsOf p ++ columnsOf f)
 lineOf (Drop p f) label = verbColumns Verb.Drop ++ (columnsOf p ++ columnsOf f)
 lineOf (Leave p) label = verbColumns Verb.Leave ++ columnsOf p
+lineOf (Cancel p) label = verbColumns Verb.Cancel ++ columnsOf p

@@ -10,7 +10,7 @@ ghost use Rattle.columns.specs.Columns.{numberOf};
 ghost use Rattle.rules.specs.Lists.{all};
 ghost use Rattle.request.specs.Groups.{noGroup, joined, groupFrom};
 ghost use Rattle.request.specs.Requests.{refused, taken, verbColumns, begins, labelByte, enterFiles, enterCounts, enterOf, fileOf};
-ghost use Rattle.request.specs.Requests.{leaveOf, requestOf, isEntry, labelOf};
+ghost use Rattle.request.specs.Requests.{aloneOf, requestOf, isEntry, labelOf};
 
 // Whether a line is taken.
 pub enum Reading {
@@ -60,6 +60,7 @@ pub fn verb_bytes(v: Verb) -> [u8; 6]
         Verb::Close => [67, 76, 79, 83, 69, 32],
         Verb::Drop => [68, 82, 79, 80, 32, 32],
         Verb::Leave => [76, 69, 65, 86, 69, 32],
+        Verb::Cancel => [67, 65, 78, 67, 69, 76],
     }
 }
 
@@ -244,9 +245,9 @@ fn read_file(line: &[u8], verb: Verb) -> Request
     }
 }
 
-// LEAVE: program.
-fn read_leave(line: &[u8]) -> Request
-    ensures { λ q. ⌜ q ≡ leaveOf (now (line .entry)) ⌝ }
+// LEAVE and CANCEL: the program alone.
+fn read_alone(line: &[u8], verb: Verb) -> Request
+    ensures { λ q. ⌜ q ≡ aloneOf verb (now (line .entry)) ⌝ }
 {
     if line.len() != 9 {
         return refusing(Refusal::BadLength);
@@ -257,7 +258,7 @@ fn read_leave(line: &[u8]) -> Request
     };
     Request {
         reading: Reading::Taken,
-        verb: Verb::Leave,
+        verb,
         program: p as u8,
         file: 0,
         writable: FileSet::EMPTY,
@@ -282,7 +283,10 @@ pub fn read(line: &[u8]) -> Request
         return read_file(line, Verb::Drop);
     }
     if is_verb(line, Verb::Leave) {
-        return read_leave(line);
+        return read_alone(line, Verb::Leave);
+    }
+    if is_verb(line, Verb::Cancel) {
+        return read_alone(line, Verb::Cancel);
     }
     refusing(Refusal::NoVerb)
 }
@@ -302,6 +306,7 @@ fn is_entry(q: Request) -> bool
         Verb::Close => false,
         Verb::Drop => false,
         Verb::Leave => false,
+        Verb::Cancel => false,
     }
 }
 

@@ -7,7 +7,7 @@ use Rattle.columns.specs.Columns.{columnsOf, flat}
 use Rattle.files.specs.Sets.{noFiles, adding}
 use Rattle.files.specs.declared.FileSet.{FileSet}
 use Rattle.rules.specs.Lists.{all, keep, rising}
-use Rattle.rules.specs.Calls.{Call, Enter, Open, Close, Drop, Leave}
+use Rattle.rules.specs.Calls.{Call, Enter, Open, Close, Drop, Leave, Cancel}
 use Rattle.request.specs.Requests.{verbColumns, filesOf, lineOf}
 use Rattle.writer.specs.declared.Unwritten.{Unwritten}
 use Rattle.writer.specs.declared.Writing.{Writing}
@@ -58,8 +58,14 @@ table =
     (68 ∷ 82 ∷ 79 ∷ 80 ∷ 32 ∷ 32 ∷ 32 ∷ 51 ∷ 50 ∷ 32 ∷ 54 ∷ 52 ∷ 170 ∷ [])
     ∷ row (Leave 1) [] 9 (Writing.Wrote 9)
     (76 ∷ 69 ∷ 65 ∷ 86 ∷ 69 ∷ 32 ∷ 32 ∷ 32 ∷ 49 ∷ [])
+    ∷ row (Cancel 7) [] 9 (Writing.Wrote 9)
+    (67 ∷ 65 ∷ 78 ∷ 67 ∷ 69 ∷ 76 ∷ 32 ∷ 32 ∷ 55 ∷ [])
+    ∷ row (Cancel 32) (127 ∷ []) 11 (Writing.Wrote 9)
+    (67 ∷ 65 ∷ 78 ∷ 67 ∷ 69 ∷ 76 ∷ 32 ∷ 51 ∷ 50 ∷ 170 ∷ 170 ∷ [])
     -- 8: programs 0 and 33, files 0 and 65; before 6 and 17
     ∷ refusing (Leave 0) [] 9 Unwritten.OutOfRange
+    ∷ refusing (Cancel 0) [] 8 Unwritten.OutOfRange
+    ∷ refusing (Cancel 33) [] 9 Unwritten.OutOfRange
     ∷ refusing (Open 1 65) [] 12 Unwritten.OutOfRange
     ∷ refusing (Close 1 0) [] 0 Unwritten.OutOfRange
     ∷ refusing (Enter 33 noFiles noFiles) (115 ∷ 104 ∷ 111 ∷ 114 ∷ 116 ∷ []) 0 Unwritten.OutOfRange
@@ -68,6 +74,7 @@ table =
     ∷ refusing (Enter 1 noFiles noFiles) (83 ∷ 84 ∷ 79 ∷ 67 ∷ 75 ∷ 127 ∷ 32 ∷ 32 ∷ []) 22 Unwritten.BadLabel
     -- 17: one byte too short
     ∷ refusing (Leave 1) [] 8 Unwritten.BufferShort
+    ∷ refusing (Cancel 7) [] 8 Unwritten.BufferShort
     ∷ refusing (Enter 1 (set (1 ∷ [])) noFiles) (83 ∷ 84 ∷ 79 ∷ 67 ∷ 75 ∷ 32 ∷ 32 ∷ 32 ∷ []) 25 Unwritten.BufferShort
     ∷ []
 

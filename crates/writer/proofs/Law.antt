@@ -13,7 +13,7 @@ use Rattle.files.proofs.Tests.{by-test, never, and-left, and-right, and-both}
 use Rattle.files.proofs.Bits.{is-number, least, most}
 use Rattle.rules.specs.declared.Verb.{Verb}
 use Rattle.rules.specs.Lists.{all}
-use Rattle.rules.specs.Calls.{Call, Enter, Open, Close, Drop, Leave}
+use Rattle.rules.specs.Calls.{Call, Enter, Open, Close, Drop, Leave, Cancel}
 use Rattle.request.specs.declared.Reading.{Reading}
 use Rattle.request.specs.declared.Request.{Request}
 use Rattle.request.specs.Requests.{requestCall, labelByte, requestOf, isEntry, labelPart, labelOf, lineOf}
@@ -22,10 +22,10 @@ use Rattle.request.proofs.Groups.{files-length}
 use Rattle.request.proofs.Lines.{line-read, label-read, read-line, call-back, taken-back, some-label}
 use Rattle.writer.specs.declared.Writing.{Writing}
 use Rattle.writer.specs.Writer.{unwrittenNumber, inRange, isLabel, labelGood, writingOf, bufferAfter}
-use Rattle.writer.specs.Rows.{fileLine, leaveLine}
+use Rattle.writer.specs.Rows.{fileLine, aloneLine}
 use Rattle.writer.specs.Law.{ClaimsOfFiles, labelIn, WritesInto, ReadsBack, WritesBack, Written, WrittenIsTaken, LongestLine}
 use Rattle.writer.specs.Law.{AlwaysWritten, BytesAfterKept, RefusalFillsNothing}
-use Rattle.writer.proofs.Laws.{leave-length, file-length, enter-length}
+use Rattle.writer.proofs.Laws.{alone-length, file-length, enter-length}
 
 -- ---- numbers and labels, as tests and as facts
 
@@ -41,6 +41,7 @@ in-range (Open p f) k h = two-numbers p f h
 in-range (Close p f) k h = two-numbers p f h
 in-range (Drop p f) k h = two-numbers p f h
 in-range (Leave p) k h = (least 32 p h, most 32 p h)
+in-range (Cancel p) k h = (least 32 p h, most 32 p h)
 
 both-numbers : (p f : ℕ) → (1 ≤ p) × (p ≤ 32) × (1 ≤ f) × (f ≤ 64) → (isNumber 32 p && isNumber 64 f) ≡ true
 both-numbers p f h = and-both (isNumber 32 p) (isNumber 64 f) (is-number 32 p (h .0) (h .1)) (is-number 64 f (h .2) (h .3))
@@ -51,6 +52,7 @@ range-test (Open p f) h = both-numbers p f h
 range-test (Close p f) h = both-numbers p f h
 range-test (Drop p f) h = both-numbers p f h
 range-test (Leave p) h = is-number 32 p (h .0) (h .1)
+range-test (Cancel p) h = is-number 32 p (h .0) (h .1)
 
 range-claims : (c : Call) → InRange c → ClaimsOfFiles c
 range-claims (Enter p v q) h = (h .2, h .3)
@@ -58,6 +60,7 @@ range-claims (Open p f) h = Prim.tt
 range-claims (Close p f) h = Prim.tt
 range-claims (Drop p f) h = Prim.tt
 range-claims (Leave p) h = Prim.tt
+range-claims (Cancel p) h = Prim.tt
 
 label-fact : (label : List ℕ) → isLabel label ≡ true → IsLabel label
 label-fact label h =
@@ -69,6 +72,7 @@ good-label (Open p f) label h e = never e refl
 good-label (Close p f) label h e = never e refl
 good-label (Drop p f) label h e = never e refl
 good-label (Leave p) label h e = never e refl
+good-label (Cancel p) label h e = never e refl
 
 label-test : (c : Call) (label : List ℕ) → (isEntry (saying c) ≡ true → IsLabel label) → labelGood c label ≡ true
 label-test (Enter p v q) label h = let k = h refl in and-both (eqb (length label) 8) (all labelByte label) (eq-eqb (length label) 8 (k .0)) (k .1)
@@ -76,6 +80,7 @@ label-test (Open p f) label h = refl
 label-test (Close p f) label h = refl
 label-test (Drop p f) label h = refl
 label-test (Leave p) label h = refl
+label-test (Cancel p) label h = refl
 
 -- ---- what was written
 
@@ -137,6 +142,7 @@ label-back (Open p f) label r h e = rw e
 label-back (Close p f) label r h e = rw e
 label-back (Drop p f) label r h e = rw e
 label-back (Leave p) label r h e = rw e
+label-back (Cancel p) label r h e = rw e
 
 pub reads-back : ReadsBack
 reads-back c label buffer n k h =
@@ -160,6 +166,7 @@ no-label (Open p f) a b h = refl
 no-label (Close p f) a b h = refl
 no-label (Drop p f) a b h = refl
 no-label (Leave p) a b h = refl
+no-label (Cancel p) a b h = refl
 
 pub writes-back : WritesBack
 unfolding labelOf
@@ -197,7 +204,7 @@ written-is-taken l = (taken-of-written l, written-of-taken l)
 -- ---- the longest line
 
 longest : (c : Call) (label : List ℕ) → labelGood c label ≡ true → length (lineOf c label) ≤ 407
-unfolding lineOf fileLine leaveLine
+unfolding lineOf fileLine aloneLine
 longest (Enter p v q) label g =
     let n = enter-length p v q label (label-fact label g .0) in
     let a = files-length v in
@@ -206,7 +213,8 @@ longest (Enter p v q) label g =
 longest (Open p f) label g = omega (arith, file-length Verb.Open p f)
 longest (Close p f) label g = omega (arith, file-length Verb.Close p f)
 longest (Drop p f) label g = omega (arith, file-length Verb.Drop p f)
-longest (Leave p) label g = omega (arith, leave-length p)
+longest (Leave p) label g = omega (arith, alone-length Verb.Leave p)
+longest (Cancel p) label g = omega (arith, alone-length Verb.Cancel p)
 
 pub longest-line : LongestLine
 unfolding writingOf

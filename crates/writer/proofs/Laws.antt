@@ -2,7 +2,7 @@
 use Prim.Native.Nat.{ℕ, suc, _+_, _-_, _*_, _≤_, _<_}
 use mathlib.Core.Path.{_≡_, refl, ap, sym, _∙_}
 use mathlib.Core.List.{List, [], _∷_, _++_, append-assoc, append-nil}
-use mathlib.Core.Bool.{Bool, true, false, cond}
+use mathlib.Core.Bool.{Bool, true, false, cond, _&&_}
 use lib.Dec.{eqb}
 use lib.ListN.{length, take, drop, length-drop, length-append, take-append-drop, drop-of-length-le}
 use lib.Seq.{take-at, take-all, drop-at, drop-drop, take-length, length-take-le}
@@ -19,13 +19,14 @@ use Rattle.rules.specs.declared.Verb.{Verb}
 use Rattle.rules.specs.declared.Asked.{Asked}
 use Rattle.rules.specs.Lists.{all, keep, rising}
 use Rattle.rules.specs.Boards.{isProgram}
-use Rattle.rules.specs.Calls.{Enter, callOf}
+use Rattle.rules.specs.Calls.{Call, Enter, callWith, callOf}
 use Rattle.request.specs.Requests.{verbColumns, labelByte, filesOf, filesColumns, lineOf}
+use Rattle.request.proofs.Laws.{verb-length}
 use Rattle.request.proofs.Groups.{flat-length}
 use Rattle.writer.specs.declared.Unwritten.{Unwritten}
 use Rattle.writer.specs.declared.Writing.{Writing}
-use Rattle.writer.specs.Writer.{isLabel, placing, placedIn, writingOf, bufferAfter}
-use Rattle.writer.specs.Rows.{putAt, countIf, columnsIf, entryColumns, leaveLine, fileLine, enterWriting, enterFilled, fileWriting, fileFilled}
+use Rattle.writer.specs.Writer.{inRange, isLabel, labelGood, placing, placedIn, writingOf, bufferAfter}
+use Rattle.writer.specs.Rows.{putAt, countIf, columnsIf, entryColumns, aloneLine, fileLine, enterWriting, enterFilled, fileWriting, fileFilled}
 
 -- ---- rows
 
@@ -124,10 +125,11 @@ head-length Verb.Open t = omega arith
 head-length Verb.Close t = omega arith
 head-length Verb.Drop t = omega arith
 head-length Verb.Leave t = omega arith
+head-length Verb.Cancel t = omega arith
 
-pub leave-length : (p : ℕ) → length (leaveLine p) ≡ 9
-unfolding leaveLine
-leave-length p = omega (arith, head-length Verb.Leave (columnsOf p), columns-length p)
+pub alone-length : (v : Verb) (p : ℕ) → length (aloneLine v p) ≡ 9
+unfolding aloneLine
+alone-length v p = omega (arith, head-length v (columnsOf p), columns-length p)
 
 pub file-length : (v : Verb) (p f : ℕ) → length (fileLine v p f) ≡ 12
 unfolding fileLine
@@ -177,13 +179,6 @@ pub head-put : (v : Verb) (p at : ℕ) (row L m r : List ℕ) → 9 ≤ length L
 head-put v p at row L m r room e ea em er =
     let n : length row ≡ 6 = ap length e ∙ verb-length v in
     (omega arith, put-then 0 at row (columnsOf p) L m r (omega arith) em ea er ∙ rw e)
-  where
-    verb-length : (w : Verb) → length (verbColumns w) ≡ 6
-    verb-length Verb.Enter = refl
-    verb-length Verb.Open = refl
-    verb-length Verb.Close = refl
-    verb-length Verb.Drop = refl
-    verb-length Verb.Leave = refl
 
 pub file-put : (v : Verb) (p f at : ℕ) (L m r : List ℕ) → 12 ≤ length L → at ≡ 9 → m ≡ putAt 0 (verbColumns v ++ columnsOf p) L
     → r ≡ putAt at (columnsOf f) m → r ≡ putAt 0 (fileLine v p f) L
@@ -244,11 +239,11 @@ placed-all line buffer after n end e h ee ea =
 
 -- ---- the verbs
 
-pub leave-put : (p end : ℕ) (buffer after : List ℕ) → 9 ≤ length buffer → end ≡ 9
-    → after ≡ putAt 0 (verbColumns Verb.Leave ++ columnsOf p) buffer
-    → (Writing.Wrote end ≡ placing (leaveLine p) buffer) × (after ≡ placedIn (leaveLine p) buffer)
-unfolding leaveLine
-leave-put p end buffer after h e ea = placed-all (leaveLine p) buffer after 9 end (leave-length p) h e ea
+pub alone-put : (v : Verb) (p end : ℕ) (buffer after : List ℕ) → 9 ≤ length buffer → end ≡ 9
+    → after ≡ putAt 0 (verbColumns v ++ columnsOf p) buffer
+    → (Writing.Wrote end ≡ placing (aloneLine v p) buffer) × (after ≡ placedIn (aloneLine v p) buffer)
+unfolding aloneLine
+alone-put v p end buffer after h e ea = placed-all (aloneLine v p) buffer after 9 end (alone-length v p) h e ea
 
 module _ (v : Verb) (p f : ℕ) (buffer : List ℕ) where
   pub file-refused : isFile f ≡ false → (Writing.Refused Unwritten.OutOfRange ≡ fileWriting v p f buffer) × (buffer ≡ fileFilled v p f buffer)
@@ -284,6 +279,10 @@ module _ (a : Asked) (label buffer : List ℕ) where
   abbrev pub Wrote : Writing → List ℕ → Type 0
   Wrote w after = (w ≡ writingOf (callOf a) label buffer) × (after ≡ bufferAfter (callOf a) label buffer)
 
+  -- the call with this verb
+  abbrev pub called : Verb → Call
+  called v = callWith v (a .program) (a .file) (a .writable) (a .readable)
+
   out-of-range : (v : Verb) → a .verb ≡ v → isProgram (a .program) ≡ false → Wrote (Writing.Refused Unwritten.OutOfRange) buffer
   unfolding writingOf bufferAfter
   out-of-range Verb.Enter e h = (rw (e, h), rw (e, h))
@@ -291,6 +290,7 @@ module _ (a : Asked) (label buffer : List ℕ) where
   out-of-range Verb.Close e h = (rw (e, h), rw (e, h))
   out-of-range Verb.Drop e h = (rw (e, h), rw (e, h))
   out-of-range Verb.Leave e h = (rw (e, h), rw (e, h))
+  out-of-range Verb.Cancel e h = (rw (e, h), rw (e, h))
 
   pub call-refused : isProgram (a .program) ≡ false → Wrote (Writing.Refused Unwritten.OutOfRange) buffer
   call-refused h = out-of-range (a .verb) refl h
@@ -301,22 +301,16 @@ module _ (a : Asked) (label buffer : List ℕ) where
     unfolding writingOf bufferAfter
     call-enter e ew ea = (rw (e, range) ew, rw (e, range) ea)
 
-    pub call-open : a .verb ≡ Verb.Open → w ≡ fileWriting Verb.Open (a .program) (a .file) buffer
-        → after ≡ fileFilled Verb.Open (a .program) (a .file) buffer → Wrote w after
-    unfolding writingOf bufferAfter lineOf fileLine
-    call-open e ew ea = (rw (e, range) ew, rw (e, range) ea)
+    -- OPEN, CLOSE, DROP: program and file
+    pub call-file : (v : Verb) → lineOf (called v) label ≡ fileLine v (a .program) (a .file)
+        → inRange (called v) ≡ (isProgram (a .program) && isFile (a .file)) → labelGood (called v) label ≡ true → a .verb ≡ v
+        → w ≡ fileWriting v (a .program) (a .file) buffer → after ≡ fileFilled v (a .program) (a .file) buffer → Wrote w after
+    unfolding writingOf bufferAfter
+    call-file v el er eg e ew ea = (rw (e, er, range, eg, el) ew, rw (e, er, range, eg, el) ea)
 
-    pub call-close : a .verb ≡ Verb.Close → w ≡ fileWriting Verb.Close (a .program) (a .file) buffer
-        → after ≡ fileFilled Verb.Close (a .program) (a .file) buffer → Wrote w after
-    unfolding writingOf bufferAfter lineOf fileLine
-    call-close e ew ea = (rw (e, range) ew, rw (e, range) ea)
-
-    pub call-drop : a .verb ≡ Verb.Drop → w ≡ fileWriting Verb.Drop (a .program) (a .file) buffer
-        → after ≡ fileFilled Verb.Drop (a .program) (a .file) buffer → Wrote w after
-    unfolding writingOf bufferAfter lineOf fileLine
-    call-drop e ew ea = (rw (e, range) ew, rw (e, range) ea)
-
-    pub call-leave : a .verb ≡ Verb.Leave → w ≡ placing (leaveLine (a .program)) buffer
-        → after ≡ placedIn (leaveLine (a .program)) buffer → Wrote w after
-    unfolding writingOf bufferAfter lineOf leaveLine
-    call-leave e ew ea = (rw (e, range) ew, rw (e, range) ea)
+    -- LEAVE, CANCEL: the program alone
+    pub call-alone : (v : Verb) → lineOf (called v) label ≡ aloneLine v (a .program)
+        → inRange (called v) ≡ isProgram (a .program) → labelGood (called v) label ≡ true → a .verb ≡ v
+        → w ≡ placing (aloneLine v (a .program)) buffer → after ≡ placedIn (aloneLine v (a .program)) buffer → Wrote w after
+    unfolding writingOf bufferAfter
+    call-alone v el er eg e ew ea = (rw (e, er, range, eg, el) ew, rw (e, er, range, eg, el) ea)

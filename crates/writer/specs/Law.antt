@@ -6,7 +6,7 @@ use mathlib.Core.Logic.{_↔_, _≢_}
 use mathlib.Core.List.{List, [], _++_}
 use lib.ListN.{length, take, drop}
 use Rattle.files.specs.Sets.{OfFiles}
-use Rattle.rules.specs.Calls.{Call, Enter, Open, Close, Drop, Leave}
+use Rattle.rules.specs.Calls.{Call, Enter, Open, Close, Drop, Leave, Cancel}
 use Rattle.request.specs.declared.Reading.{Reading}
 use Rattle.request.specs.Requests.{requestCall, requestOf, labelOf, lineOf}
 use Rattle.request.specs.Law.{IsLabel, InRange, saying}
@@ -21,6 +21,7 @@ ClaimsOfFiles (Open p f) = Unit {0}
 ClaimsOfFiles (Close p f) = Unit {0}
 ClaimsOfFiles (Drop p f) = Unit {0}
 ClaimsOfFiles (Leave p) = Unit {0}
+ClaimsOfFiles (Cancel p) = Unit {0}
 
 -- the label that stands in the line of a call: that of ENTER; no other line has one
 abbrev pub labelIn : Call → List ℕ → List ℕ
@@ -29,6 +30,7 @@ labelIn (Open p f) label = []
 labelIn (Close p f) label = []
 labelIn (Drop p f) label = []
 labelIn (Leave p) label = []
+labelIn (Cancel p) label = []
 
 -- the line l is written for the call with the label: into this buffer, from its start, and the bytes after it keep their contents
 abbrev pub WritesInto : Call → List ℕ → List ℕ → List ℕ → Type 0

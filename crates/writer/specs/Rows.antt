@@ -53,7 +53,7 @@ fileWriting v p f buffer = cond (isFile f) (placing (fileLine v p f) buffer) (Wr
 abbrev pub fileFilled : Verb → ℕ → ℕ → List ℕ → List ℕ
 fileFilled v p f buffer = filled (fileWriting v p f buffer) (fileLine v p f) buffer
 
--- ---- LEAVE
+-- ---- LEAVE, CANCEL
 
-unfoldable pub leaveLine : ℕ → List ℕ
-leaveLine p = verbColumns Verb.Leave ++ columnsOf p
+unfoldable pub aloneLine : Verb → ℕ → List ℕ
+aloneLine v p = verbColumns v ++ columnsOf p

@@ -9,7 +9,7 @@ use lib.ListN.{length, drop}
 use Rattle.files.specs.Sets.{isFile}
 use Rattle.rules.specs.Lists.{all}
 use Rattle.rules.specs.Boards.{isProgram}
-use Rattle.rules.specs.Calls.{Call, Enter, Open, Close, Drop, Leave}
+use Rattle.rules.specs.Calls.{Call, Enter, Open, Close, Drop, Leave, Cancel}
 use Rattle.request.specs.Requests.{labelByte, lineOf}
 use Rattle.writer.specs.declared.Unwritten.{Unwritten}
 use Rattle.writer.specs.declared.Writing.{Writing}
@@ -29,6 +29,7 @@ inRange (Open p f) = isProgram p && isFile f
 inRange (Close p f) = isProgram p && isFile f
 inRange (Drop p f) = isProgram p && isFile f
 inRange (Leave p) = isProgram p
+inRange (Cancel p) = isProgram p
 
 -- eight bytes from 32 to 126
 abbrev pub isLabel : List ℕ → Bool
@@ -41,6 +42,7 @@ labelGood (Open p f) label = true
 labelGood (Close p f) label = true
 labelGood (Drop p f) label = true
 labelGood (Leave p) label = true
+labelGood (Cancel p) label = true
 
 -- ---- a line in a lent buffer
 

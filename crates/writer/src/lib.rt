@@ -12,7 +12,7 @@ ghost use Rattle.files.specs.Sets.{member};
 ghost use Rattle.rules.specs.Calls.{Enter, callOf};
 ghost use Rattle.request.specs.Requests.{verbColumns, filesOf, filesColumns, lineOf};
 ghost use Rattle.writer.specs.Writer.{unwrittenNumber, placing, placedIn, writingOf, bufferAfter};
-ghost use Rattle.writer.specs.Rows.{putAt, countIf, columnsIf, entryColumns, leaveLine, enterWriting, enterFilled, fileWriting, fileFilled};
+ghost use Rattle.writer.specs.Rows.{putAt, countIf, columnsIf, entryColumns, aloneLine, enterWriting, enterFilled, fileWriting, fileFilled};
 
 // Why no line is written.
 pub enum Unwritten {
@@ -198,15 +198,15 @@ fn write_file(verb: Verb, program: u64, file: u64, line: &mut [u8]) -> Writing
     Writing::Wrote(end)
 }
 
-// LEAVE: the buffer.
-fn write_leave(program: u64, line: &mut [u8]) -> Writing
-    ensures { λ r. ⌜ r ≡ placing (leaveLine program) (now (line .entry)) ⌝ }
-    ensures { λ r. ⌜ now (line .exit) ≡ placedIn (leaveLine program) (now (line .entry)) ⌝ }
+// LEAVE and CANCEL: the buffer.
+fn write_alone(verb: Verb, program: u64, line: &mut [u8]) -> Writing
+    ensures { λ r. ⌜ r ≡ placing (aloneLine verb program) (now (line .entry)) ⌝ }
+    ensures { λ r. ⌜ now (line .exit) ≡ placedIn (aloneLine verb program) (now (line .entry)) ⌝ }
 {
     if line.len() < 9 {
         return Writing::Refused(Unwritten::BufferShort);
     }
-    let end = put_head(line, Verb::Leave, program);
+    let end = put_head(line, verb, program);
     Writing::Wrote(end)
 }
 
@@ -243,6 +243,7 @@ pub fn write(a: Asked, label: &[u8], line: &mut [u8]) -> Writing
         Verb::Open => write_file(Verb::Open, program, file, line),
         Verb::Close => write_file(Verb::Close, program, file, line),
         Verb::Drop => write_file(Verb::Drop, program, file, line),
-        Verb::Leave => write_leave(program, line),
+        Verb::Leave => write_alone(Verb::Leave, program, line),
+        Verb::Cancel => write_alone(Verb::Cancel, program, line),
     }
 }

@@ -60,22 +60,42 @@ returns-5 c =
       c .before .before .before .if4 .left,
       ← c .before .before .is-verb5 .ensures,
       c .before .if5 .taken,
-    ) (c .read-leave .ensures)
+    ) (c .read-alone .ensures)
 
 returns-6 : tie.Need-returns-6
 unfolding requestOf
 returns-6 c =
     rw (
-      ← c .before .before .before .before .before .before .before .before .before .before .is-verb .ensures,
-      c .before .before .before .before .before .before .before .before .before .if1 .left,
-      ← c .before .before .before .before .before .before .before .before .is-verb2 .ensures,
-      c .before .before .before .before .before .before .before .if2 .left,
-      ← c .before .before .before .before .before .before .is-verb3 .ensures,
-      c .before .before .before .before .before .if3 .left,
-      ← c .before .before .before .before .is-verb4 .ensures,
-      c .before .before .before .if4 .left,
-      ← c .before .before .is-verb5 .ensures,
-      c .before .if5 .left,
+      ← c .before .before .before .before .before .before .before .before .before .before .before .before .is-verb .ensures,
+      c .before .before .before .before .before .before .before .before .before .before .before .if1 .left,
+      ← c .before .before .before .before .before .before .before .before .before .before .is-verb2 .ensures,
+      c .before .before .before .before .before .before .before .before .before .if2 .left,
+      ← c .before .before .before .before .before .before .before .before .is-verb3 .ensures,
+      c .before .before .before .before .before .before .before .if3 .left,
+      ← c .before .before .before .before .before .before .is-verb4 .ensures,
+      c .before .before .before .before .before .if4 .left,
+      ← c .before .before .before .before .is-verb5 .ensures,
+      c .before .before .before .if5 .left,
+      ← c .before .before .is-verb6 .ensures,
+      c .before .if6 .taken,
+    ) (c .read-alone2 .ensures)
+
+returns-7 : tie.Need-returns-7
+unfolding requestOf
+returns-7 c =
+    rw (
+      ← c .before .before .before .before .before .before .before .before .before .before .before .before .is-verb .ensures,
+      c .before .before .before .before .before .before .before .before .before .before .before .if1 .left,
+      ← c .before .before .before .before .before .before .before .before .before .before .is-verb2 .ensures,
+      c .before .before .before .before .before .before .before .before .before .if2 .left,
+      ← c .before .before .before .before .before .before .before .before .is-verb3 .ensures,
+      c .before .before .before .before .before .before .before .if3 .left,
+      ← c .before .before .before .before .before .before .is-verb4 .ensures,
+      c .before .before .before .before .before .if4 .left,
+      ← c .before .before .before .before .is-verb5 .ensures,
+      c .before .before .before .if5 .left,
+      ← c .before .before .is-verb6 .ensures,
+      c .before .if6 .left,
     ) (c .refusing .ensures)
 
 pub read-spec : {M : Type 1} → statement M
@@ -98,4 +118,7 @@ read-spec =
     (λ c κs. search needs)
     returns-5
     (λ c κs. search needs)
-    returns-6)
+    (λ c κs. search needs)
+    returns-6
+    (λ c κs. search needs)
+    returns-7)

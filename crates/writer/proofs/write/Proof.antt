@@ -1,9 +1,12 @@
 -- `write` meets its contract. Assumes nothing.
-use mathlib.Core.Path.{_≡_, sym, _∙_}
+use mathlib.Core.Path.{_≡_, refl, sym, _∙_}
 use mathlib.Core.Bool.{true}
 use borrow.Author.Tests.{not-true, not-false}
 use Rattle.rules.specs.Boards.{isProgram}
-use Rattle.writer.proofs.Laws.{call-refused, call-enter, call-open, call-close, call-drop, call-leave}
+use Rattle.rules.specs.declared.Verb.{Verb}
+use Rattle.request.specs.Requests.{lineOf}
+use Rattle.writer.specs.Rows.{fileLine, aloneLine}
+use Rattle.writer.proofs.Laws.{call-refused, call-enter, call-file, call-alone}
 use borrow.Author.Needs.{needs}
 use Rattle.writer.proofs.write.Statement.{statement}
 use Rattle.writer.proofs.write.Tie as tie
@@ -25,36 +28,49 @@ returns-2 c =
     (m .enum-told .given .1) (k .ensures .0) (k .ensures .1)
 
 returns-3 : tie.Need-returns-3
+unfolding lineOf fileLine
 returns-3 c =
     let k = c .before .before .write-file in
     let m = c .before .before .before .before in
     let s = m .before .before .before .before .before .before .before .before in
-    call-open (s .args .a) (s .args .label .now) (s .args .line .now) (k .result) (k .last .1 .1 .1 .0) (in-range (m .before .before .before .before))
-    (m .enum-told2 .given .1) (k .ensures .0) (k .ensures .1)
+    call-file (s .args .a) (s .args .label .now) (s .args .line .now) (k .result) (k .last .1 .1 .1 .0) (in-range (m .before .before .before .before))
+    Verb.Open refl refl refl (m .enum-told2 .given .1) (k .ensures .0) (k .ensures .1)
 
 returns-4 : tie.Need-returns-4
+unfolding lineOf fileLine
 returns-4 c =
     let k = c .before .before .write-file2 in
     let m = c .before .before .before .before in
     let s = m .before .before .before .before .before .before .before .before in
-    call-close (s .args .a) (s .args .label .now) (s .args .line .now) (k .result) (k .last .1 .1 .1 .0) (in-range (m .before .before .before .before))
-    (m .enum-told3 .given .1) (k .ensures .0) (k .ensures .1)
+    call-file (s .args .a) (s .args .label .now) (s .args .line .now) (k .result) (k .last .1 .1 .1 .0) (in-range (m .before .before .before .before))
+    Verb.Close refl refl refl (m .enum-told3 .given .1) (k .ensures .0) (k .ensures .1)
 
 returns-5 : tie.Need-returns-5
+unfolding lineOf fileLine
 returns-5 c =
     let k = c .before .before .write-file3 in
     let m = c .before .before .before .before in
     let s = m .before .before .before .before .before .before .before .before in
-    call-drop (s .args .a) (s .args .label .now) (s .args .line .now) (k .result) (k .last .1 .1 .1 .0) (in-range (m .before .before .before .before))
-    (m .enum-told4 .given .1) (k .ensures .0) (k .ensures .1)
+    call-file (s .args .a) (s .args .label .now) (s .args .line .now) (k .result) (k .last .1 .1 .1 .0) (in-range (m .before .before .before .before))
+    Verb.Drop refl refl refl (m .enum-told4 .given .1) (k .ensures .0) (k .ensures .1)
 
 returns-6 : tie.Need-returns-6
+unfolding lineOf aloneLine
 returns-6 c =
-    let k = c .before .before .write-leave in
+    let k = c .before .before .write-alone in
     let m = c .before .before .before .before in
     let s = m .before .before .before .before .before .before .before .before in
-    call-leave (s .args .a) (s .args .label .now) (s .args .line .now) (k .result) (k .last .1 .0) (in-range (m .before .before .before .before))
-    (m .enum-told5 .given .1) (k .ensures .0) (k .ensures .1)
+    call-alone (s .args .a) (s .args .label .now) (s .args .line .now) (k .result) (k .last .1 .1 .0) (in-range (m .before .before .before .before))
+    Verb.Leave refl refl refl (m .enum-told5 .given .1) (k .ensures .0) (k .ensures .1)
+
+returns-7 : tie.Need-returns-7
+unfolding lineOf aloneLine
+returns-7 c =
+    let k = c .before .before .write-alone2 in
+    let m = c .before .before .before .before in
+    let s = m .before .before .before .before .before .before .before .before in
+    call-alone (s .args .a) (s .args .label .now) (s .args .line .now) (k .result) (k .last .1 .1 .0) (in-range (m .before .before .before .before))
+    Verb.Cancel refl refl refl (m .enum-told6 .given .1) (k .ensures .0) (k .ensures .1)
 
 pub write-spec : {M : Type 1} → statement M
 write-spec =
@@ -62,6 +78,8 @@ write-spec =
     (tie.spec
     (λ c κs. search needs)
     returns
+    (λ c. search needs)
+    (λ c κs. search needs)
     (λ c. search needs)
     (λ c κs. search needs)
     (λ c. search needs)
@@ -81,4 +99,6 @@ write-spec =
     (λ c. search needs)
     returns-5
     (λ c. search needs)
-    returns-6)
+    returns-6
+    (λ c. search needs)
+    returns-7)

@@ -1,35 +1,34 @@
--- `read_leave` meets its contract. Assumes nothing.
+-- `read_alone` meets its contract. Assumes nothing.
 use mathlib.Core.Path.{sym, _∙_}
 use Rattle.request.proofs.Laws
 use borrow.Author.Needs.{needs}
-use Rattle.request.proofs.read_leave.Statement.{statement}
-use Rattle.request.proofs.read_leave.Tie as tie
+use Rattle.request.proofs.read_alone.Statement.{statement}
+use Rattle.request.proofs.read_alone.Tie as tie
 
 returns : tie.Need-returns
 returns c =
-    let l = c .before .before .before .args .line .now in
-    c .refusing .ensures ∙ sym (Laws.leave-length l (c .before .if1 .taken))
+    let a = c .before .before .before .args in
+    c .refusing .ensures ∙ sym (Laws.alone-length (a .verb) (a .line .now) (c .before .if1 .taken))
 
 returns-2 : tie.Need-returns-2
 returns-2 c =
-    let l = c .before .before .before .before .before .before .before .args .line .now in
-    c .refusing2 .ensures ∙ sym (Laws.leave-program l (c .before .before .before .before .before .if1 .left)
+    let a = c .before .before .before .before .before .before .before .args in
+    c .refusing2 .ensures ∙ sym (Laws.alone-program (a .verb) (a .line .now) (c .before .before .before .before .before .if1 .left)
     (sym (c .before .before .before .read-number .ensures) ∙ c .before .enum-told .given .1))
 
 cast-t13 : tie.Need-cast-t13
 cast-t13 c =
-    let l = c .before .before .before .before .before .before .before .args .line .now in
     let h = Laws.at-most 1 32 _ _ _ (c .before .before .before .read-number .ensures) (c .before .field .given .1) in
     search needs
 
 returns-3 : tie.Need-returns-3
 returns-3 c =
-    let l = c .before .before .before .before .before .before .before .args .line .now in
-    sym (Laws.leave-good l _ (c .before .before .before .before .before .if1 .left)
+    let a = c .before .before .before .before .before .before .before .args in
+    sym (Laws.alone-good (a .verb) (a .line .now) _ (c .before .before .before .before .before .if1 .left)
     (sym (c .before .before .before .read-number .ensures) ∙ c .before .field .given .1))
 
-pub read-leave-spec : {M : Type 1} → statement M
-read-leave-spec =
+pub read-alone-spec : {M : Type 1} → statement M
+read-alone-spec =
     tie.close
     (tie.spec
     (λ c κs. search needs)
