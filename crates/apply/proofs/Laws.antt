@@ -29,13 +29,13 @@ use Rattle.rules.specs.Orders.{carried, withGiven, safe}
 use Rattle.rules.specs.Soundness.{sound}
 use Rattle.rules.specs.Settling.{line, settle}
 use Rattle.rules.specs.Replies.{blank, refusalOf, refused, reply, refuse}
-use Rattle.rules.specs.Checks.{unlessRunning, enterCheck, openCheck, closeCheck, leaveCheck}
-use Rattle.rules.specs.Calls.{done, countLeave, Call, callOf, callWith, checked, accepted, unless, apply}
+use Rattle.rules.specs.Checks.{unlessRunning, unlessStopped, enterCheck, openCheck, closeCheck, leaveCheck, cancelCheck}
+use Rattle.rules.specs.Calls.{done, countLeave, withdrawn, Call, callOf, callWith, checked, accepted, unless, apply}
 use Rattle.theory.specs.Loose.{Loose, Good}
 use Rattle.theory.specs.Sound.{sound-iff, sound-good, good-sound}
 use Rattle.theory.specs.Calls.{apply-accepted, apply-refused}
 use Rattle.theory.specs.Worked.{accepted-answer}
-use Rattle.theory.specs.Ready.{Ready, entry-room, waiting-room, close-ready, drop-ready, leave-ready, leaves-room}
+use Rattle.theory.specs.Ready.{Ready, entry-room, waiting-room, close-ready, drop-ready, leave-ready, cancel-ready, leaves-room}
 use Rattle.search.specs.declared.Search.{Search}
 use Rattle.search.specs.declared.Order.{Order}
 use Rattle.search.specs.Rows.{asOrder, isFound}
@@ -115,6 +115,10 @@ module _ (b : Board) (p f : ℕ) where
   unfolding leaveCheck
   leave-far e = rw e
 
+  pub cancel-far : isProgram p ≡ false → cancelCheck b p ≡ Check.Failed Refusal.OutOfRange
+  unfolding cancelCheck
+  cancel-far e = rw e
+
   pub open-far-program : isProgram p ≡ false → openCheck b p f ≡ Check.Failed Refusal.OutOfRange
   unfolding openCheck
   open-far-program e = rw (no-program p f e)
@@ -131,6 +135,10 @@ module _ (b : Board) (p f : ℕ) where
   pub leave-near : isProgram p ≡ true → unlessRunning (at b p .standing) Check.Passed ≡ leaveCheck b p
   unfolding leaveCheck
   leave-near e = rw e
+
+  pub cancel-near : isProgram p ≡ true → unlessStopped (at b p .standing) Check.Passed ≡ cancelCheck b p
+  unfolding cancelCheck
+  cancel-near e = rw e
 
   pub open-near : isProgram p ≡ true → isFile f ≡ true → unlessRunning (at b p .standing) (claimCheck (at b p) f) ≡ openCheck b p f
   unfolding openCheck
@@ -156,6 +164,7 @@ checked-far b Verb.Open p f w r e = open-far-program b p f e
 checked-far b Verb.Close p f w r e = close-far-program b p f e
 checked-far b Verb.Drop p f w r e = open-far-program b p f e
 checked-far b Verb.Leave p f w r e = leave-far b p f e
+checked-far b Verb.Cancel p f w r e = cancel-far b p f e
 
 pub apply-far : (b : Board) (a : Asked) → isProgram (a .program) ≡ false → refuse b Refusal.OutOfRange ≡ apply b (callOf a)
 apply-far b a e =
@@ -267,6 +276,9 @@ drop-settles b c p f k g e = settles c (setProgram b p (dropping (at b p) f)) k 
 
 pub leave-settles : (b c : Board) (p : ℕ) → c ≡ countLeave (setProgram b p noProgram) → Good b → leaveCheck b p ≡ Check.Passed → Loose c × DoneFits c
 leave-settles b c p k g e = settles c (countLeave (setProgram b p noProgram)) k (leave-ready b (g .loose .base .size) (sound-of b g) p e)
+
+pub cancel-settles : (b c : Board) (p : ℕ) → c ≡ withdrawn b p (at b p .standing) → Good b → cancelCheck b p ≡ Check.Passed → Loose c × DoneFits c
+cancel-settles b c p k g e = settles c (withdrawn b p (at b p .standing)) k (cancel-ready b (g .loose .base .size) (sound-of b g) p e)
 
 pub leaves-few : (b : Board) → Good b → b .leaves ≤ 32
 leaves-few b g = leaves-room b (g .loose .base .size) (sound-of b g)

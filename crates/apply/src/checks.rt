@@ -1,4 +1,4 @@
-// Checks 8 to 16 of a direct call.
+// Checks 8 to 16 and 18 of a direct call.
 use files::FileSet;
 use rules::Check;
 use rules::Program;
@@ -9,7 +9,7 @@ ghost use Prim.Native.Nat.{_≤_};
 ghost use Rattle.files.specs.Sets.{isFile};
 ghost use Rattle.rules.specs.Boards.{isProgram};
 ghost use Rattle.rules.specs.declared.Check.{Check};
-ghost use Rattle.rules.specs.Checks.{unlessRunning};
+ghost use Rattle.rules.specs.Checks.{unlessRunning, unlessStopped};
 ghost use Rattle.apply.specs.Replies.{numberIf, entryCheck, claimCheck, useCheck};
 
 // The number if it is a program's, and 0 otherwise.
@@ -109,4 +109,17 @@ pub fn check_leave(q: Program) -> Check
 {
     let s = q.standing;
     running_check(s, Check::Passed)
+}
+
+// 11, 18, of a program in range.
+pub fn check_cancel(q: Program) -> Check
+    ensures { λ r. ⌜ r ≡ unlessStopped (q .standing) Check.Passed ⌝ }
+{
+    let s = q.standing;
+    match s {
+        Standing::Absent => Check::Failed(Refusal::IsAbsent),
+        Standing::Running => Check::Failed(Refusal::IsRunning),
+        Standing::Waiting(_) => Check::Passed,
+        Standing::Held => Check::Passed,
+    }
 }

@@ -1,4 +1,4 @@
-// The rules applied to a sound board: each of the five calls, with checks 8 to 16.
+// The rules applied to a sound board: each of the six calls, with checks 8 to 16 and 18.
 use files::FileSet;
 use rules::Answer;
 use rules::Asked;
@@ -20,9 +20,9 @@ ghost use Rattle.rules.specs.declared.Check.{Check};
 ghost use Rattle.rules.specs.Lists.{names, padded};
 ghost use Rattle.rules.specs.Boards.{at};
 ghost use Rattle.rules.specs.Soundness.{sound};
-ghost use Rattle.rules.specs.Checks.{enterCheck, openCheck, closeCheck, leaveCheck};
+ghost use Rattle.rules.specs.Checks.{enterCheck, openCheck, closeCheck, leaveCheck, cancelCheck};
 ghost use Rattle.rules.specs.Calls.{newcomer, enter, wait, openFile, closeFile, dropFile, countLeave, leave, apply, callOf, Enter, Open};
-ghost use Rattle.rules.specs.Calls.{Close, Drop, Leave};
+ghost use Rattle.rules.specs.Calls.{countCancel, withdrawn, cancel, Close, Drop, Leave, Cancel};
 ghost use Rattle.theory.specs.Loose.{Good};
 ghost use Rattle.apply.specs.Replies.{ComesTo};
 
@@ -244,6 +244,73 @@ fn call_leave(b: Board, p: u8) -> Changed
     }
 }
 
+// ---- cancel
+
+// A cancelled favoured program is favoured no longer; otherwise the cancel of a waiter counts as a leave.
+fn cancel_counted(b: Board, p: u8) -> Board
+    requires { ⌜ b .leaves ≤ 32 ⌝ }
+    ensures { λ r. ⌜ r ≡ countCancel b p ⌝ }
+{
+    let favoured = b.favoured;
+    if favoured == p {
+        let mut c = b;
+        c.favoured = 0;
+        c.initial = 0;
+        c.leaves = 0;
+        return c;
+    }
+    counted(b)
+}
+
+// The program goes, out of its line.
+fn withdraw(b: Board, p: u8, s: Standing) -> Board
+    requires { ⌜ ((1 ≤ p) × (p ≤ 32)) × (b .leaves ≤ 32) ⌝ }
+    ensures { λ r. ⌜ r ≡ withdrawn b p s ⌝ }
+{
+    let gone = Program::ABSENT;
+    match s {
+        Standing::Absent => b,
+        Standing::Running => b,
+        Standing::Waiting(_) => {
+            let line = b.waiting;
+            let waiters = lines::remove(line, p);
+            let mut c = search::put(b, p, gone);
+            c.waiting = waiters;
+            cancel_counted(c, p)
+        }
+        Standing::Held => {
+            let line = b.entry;
+            let held = lines::remove(line, p);
+            let mut c = search::put(b, p, gone);
+            c.entry = held;
+            c
+        }
+    }
+}
+
+// Cancel: the program goes with its files and claims.
+fn do_cancel(b: Board, q: Program, p: u8) -> Changed
+    requires { ⌜ ((1 ≤ p) × (p ≤ 32)) × Good b × (cancelCheck b p ≡ Check.Passed) × (q ≡ at b p) ⌝ }
+    ensures { λ r. ⌜ ComesTo r (cancel b p) ⌝ }
+{
+    let s = q.standing;
+    let c = withdraw(b, p, s);
+    replies::done(c, p, 0)
+}
+
+fn call_cancel(b: Board, p: u8) -> Changed
+    requires { ⌜ ((1 ≤ p) × (p ≤ 32)) × Good b ⌝ }
+    ensures { λ r. ⌜ ComesTo r (apply b (Cancel p)) ⌝ }
+{
+    let i = (p - 1) as usize;
+    let q = b.programs[i];
+    let check = checks::check_cancel(q);
+    match check {
+        Check::Passed => do_cancel(b, q, p),
+        Check::Failed(refusal) => replies::refused(b, refusal),
+    }
+}
+
 // ---- any call
 
 // The call of a program in range.
@@ -261,6 +328,7 @@ fn call_by(b: Board, p: u8, a: Asked) -> Changed
         Verb::Close => call_close(b, p, file),
         Verb::Drop => call_drop(b, p, file),
         Verb::Leave => call_leave(b, p),
+        Verb::Cancel => call_cancel(b, p),
     }
 }
 

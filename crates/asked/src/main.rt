@@ -1,7 +1,7 @@
 // The program `asked`: what no host can ask, for the tests. It reads records from standard input and answers each on standard output.
 //
 // A record has 33 bytes: its kind, then four numbers of 8 bytes each, lowest first: program, file, V and Q.
-// E, O, C, D, L: the direct call enter, open, close, drop or leave with these numbers, on the program's board, which starts empty.
+// E, O, C, D, L, X: the direct call enter, open, close, drop, leave or cancel with these numbers, on the program's board, which starts empty.
 // i, l, p: as many bytes follow as the first number says, at most 4,096. i: an image, from which the board is read. l: a line, whose label is asked.
 // p: a line for the line call that changes the program's board in place. The second number is how much of a journal of 1,024 bytes, each of them
 // 170, is handed over, the third is the place in it.

@@ -48,7 +48,7 @@ pub fn parse(s: &[u8]) -> Record
     }
 }
 
-// The direct call of a record; any kind but the four others is leave.
+// The direct call of a record; any kind but the five others is leave.
 fn call(b: Board, r: Record) -> Reply {
     if r.kind == b'E' {
         let writable = FileSet { bits: r.writable };
@@ -63,6 +63,9 @@ fn call(b: Board, r: Record) -> Reply {
     }
     if r.kind == b'D' {
         return calls::drop(b, r.program, r.file);
+    }
+    if r.kind == b'X' {
+        return calls::cancel(b, r.program);
     }
     calls::leave(b, r.program)
 }

@@ -11,7 +11,7 @@ use Rattle.rules.specs.Replies.{reply, refuse, refuseUnsound}
 use Rattle.rules.specs.Checks.{enterCheck}
 use Rattle.rules.specs.Calls.{enter, apply, direct}
 use Rattle.request.specs.Requests.{begins, numberAt, programAt, labelPart, filesIn, risesFrom, addingAll}
-use Rattle.request.specs.Requests.{enterFiles, enterCounts, enterOf, fileOf, leaveOf, requestOf}
+use Rattle.request.specs.Requests.{enterFiles, enterCounts, enterOf, fileOf, aloneOf, requestOf}
 use Rattle.journal.specs.Journal.{lineBytes, written}
 use Rattle.serve.specs.LineCall.{replyTo, linesFor, posted, lineCall}
 use Rattle.board.specs.Input.{boardAfter, bytesAfter, served, feed, fed, finished, orderLine, orderOf, ending, output}
@@ -30,7 +30,7 @@ example : output input ≡ expected
 unfolding input expected boardAfter bytesAfter served feed fed finished orderLine orderOf ending output
     columnsOf flat digitOf field3 fieldOf numberOf
     begins numberAt programAt labelPart filesIn risesFrom addingAll
-    enterFiles enterCounts enterOf fileOf leaveOf requestOf
+    enterFiles enterCounts enterOf fileOf aloneOf requestOf
     lineBytes written replyTo linesFor posted lineCall
     any all keep first padded rising listed distinct without same names
     everyone admitted opening closing dropping

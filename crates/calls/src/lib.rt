@@ -1,4 +1,4 @@
-// The five direct calls, each with the board by value: check 1, then the rules.
+// The six direct calls, each with the board by value: check 1, then the rules.
 use files::FileSet;
 use rules::Asked;
 use rules::Board;
@@ -6,7 +6,7 @@ use rules::Reply;
 use rules::Verb;
 ghost use mathlib.Core.Path.{_≡_};
 ghost use Rattle.files.specs.Sets.{noFiles};
-ghost use Rattle.rules.specs.Calls.{direct, callOf, callWith, Enter, Open, Close, Drop, Leave};
+ghost use Rattle.rules.specs.Calls.{direct, callOf, callWith, Enter, Open, Close, Drop, Leave, Cancel};
 
 // The direct call that is asked for: on a board that is not sound refusal 1, otherwise what the rules give.
 pub fn call(b: Board, a: Asked) -> Reply
@@ -80,4 +80,11 @@ pub fn leave(b: Board, program: u64) -> Reply
     ensures { λ r. ⌜ r ≡ direct b (Leave program) ⌝ }
 {
     call_file(b, Verb::Leave, program, 0)
+}
+
+// A program that waits or is held is removed.
+pub fn cancel(b: Board, program: u64) -> Reply
+    ensures { λ r. ⌜ r ≡ direct b (Cancel program) ⌝ }
+{
+    call_file(b, Verb::Cancel, program, 0)
 }

@@ -17,7 +17,7 @@ use Rattle.rules.specs.declared.Line.{Line}
 use Rattle.rules.specs.declared.Reply.{Reply}
 use Rattle.rules.specs.Settling.{line}
 use Rattle.rules.specs.Replies.{refusalOf, refused, wordOf, refuse, reply, settlingLines}
-use Rattle.rules.specs.Calls.{Call, Enter, Open, Close, Drop, Leave, programOf, fileOf, direct}
+use Rattle.rules.specs.Calls.{Call, Enter, Open, Close, Drop, Leave, Cancel, programOf, fileOf, direct}
 use Rattle.theory.specs.Answers.{answer-first}
 use Rattle.request.specs.declared.Reading.{Reading}
 use Rattle.request.specs.declared.Request.{Request}
@@ -76,6 +76,7 @@ says-program (Open p f) = refl
 says-program (Close p f) = refl
 says-program (Drop p f) = refl
 says-program (Leave p) = refl
+says-program (Cancel p) = refl
 
 says-file : (c : Call) → saying c .file ≡ fileOf c
 says-file (Enter p v q) = refl
@@ -83,6 +84,7 @@ says-file (Open p f) = refl
 says-file (Close p f) = refl
 says-file (Drop p f) = refl
 says-file (Leave p) = refl
+says-file (Cancel p) = refl
 
 line-same : (q : Request) (c : Call) (a : Answer) → q ≡ saying c → refusalOf a ≡ 0 → line (wordOf a) (programOf c) (fileOf c) ≡ answerLine q a
 line-same q c a e z = rw (e, z, says-program c, says-file c)

@@ -50,6 +50,7 @@ number-some Refusal.IsWaiting = refl
 number-some Refusal.NotClaimed = refl
 number-some Refusal.IsOpen = refl
 number-some Refusal.NotOpen = refl
+number-some Refusal.IsRunning = refl
 
 -- ---- reading an image, check by check
 

@@ -23,7 +23,7 @@ use Rattle.rules.specs.Soundness.{sound}
 use Rattle.rules.specs.Replies.{number, refusalOf, refused, reply, refuse, refuseUnsound, orderOf}
 use Rattle.rules.specs.Checks.{enterCheck, openCheck, leaveCheck}
 use Rattle.rules.specs.Worked.{workedFrom, worked}
-use Rattle.rules.specs.Calls.{Call, Enter, Open, Close, Drop, Leave, checked, accepted, apply, direct}
+use Rattle.rules.specs.Calls.{Call, Enter, Open, Close, Drop, Leave, Cancel, checked, accepted, apply, direct}
 use Rattle.theory.specs.Calls.{take-padded, by-check, apply-accepted, apply-refused}
 use Rattle.theory.specs.Worked.{worked-sound, direct-is-apply, apply-reply}
 use Rattle.theory.specs.Answers.{accepted-answered}
@@ -56,6 +56,7 @@ says-reply b (Open p f) = refl
 says-reply b (Close p f) = refl
 says-reply b (Drop p f) = refl
 says-reply b (Leave p) = refl
+says-reply b (Cancel p) = refl
 
 pub line-does-its-call : LineDoesItsCall
 unfolding lineCall posted direct

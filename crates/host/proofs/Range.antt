@@ -19,12 +19,12 @@ use Rattle.rules.specs.declared.Verb.{Verb}
 use Rattle.rules.specs.Lists.{all, withFound}
 use Rattle.rules.specs.Boards.{isProgram, isAbsent, at, claims, hasOpen}
 use Rattle.rules.specs.Replies.{number}
-use Rattle.rules.specs.Checks.{refuseIf, unlessRunning, enterCheck, openCheck, closeCheck, leaveCheck}
-use Rattle.rules.specs.Calls.{Call, Enter, Open, Close, Drop, Leave, checked}
+use Rattle.rules.specs.Checks.{refuseIf, unlessRunning, unlessStopped, enterCheck, openCheck, closeCheck, leaveCheck, cancelCheck}
+use Rattle.rules.specs.Calls.{Call, Enter, Open, Close, Drop, Leave, Cancel, checked}
 use Rattle.request.specs.declared.Reading.{Reading}
 use Rattle.request.specs.declared.Request.{Request}
 use Rattle.request.specs.Requests.{begins, numberAt, programAt, labelByte, labelPart, filesIn, rises}
-use Rattle.request.specs.Requests.{enterFiles, enterCounts, enterOf, fileOf, leaveOf, requestOf}
+use Rattle.request.specs.Requests.{enterFiles, enterCounts, enterOf, fileOf, aloneOf, requestOf}
 use Rattle.request.specs.Law.{InRange}
 
 -- ══ A line's own refusals ══
@@ -72,15 +72,15 @@ unfolding fileOf
 file-reads v l = either (eqb (length l) 12)
     (a-number (programAt l) (read refl) (λ p. a-number (numberAt 9 1 64 l) (read refl) (λ f. read refl))) (read refl)
 
-leave-reads : (l : List ℕ) → Reads (leaveOf l)
-unfolding leaveOf
-leave-reads l = either (eqb (length l) 9) (a-number (programAt l) (read refl) (λ p. read refl)) (read refl)
+alone-reads : (v : Verb) (l : List ℕ) → Reads (aloneOf v l)
+unfolding aloneOf
+alone-reads v l = either (eqb (length l) 9) (a-number (programAt l) (read refl) (λ p. read refl)) (read refl)
 
 request-reads : (l : List ℕ) → Reads (requestOf l)
 unfolding requestOf
 request-reads l = either (begins Verb.Enter l) (enter-reads l) (either (begins Verb.Open l) (file-reads Verb.Open l)
     (either (begins Verb.Close l) (file-reads Verb.Close l) (either (begins Verb.Drop l) (file-reads Verb.Drop l)
-    (either (begins Verb.Leave l) (leave-reads l) (read refl)))))
+    (either (begins Verb.Leave l) (alone-reads Verb.Leave l) (either (begins Verb.Cancel l) (alone-reads Verb.Cancel l) (read refl))))))
 
 pub line-reads : (l : List ℕ) → ofLine (requestOf l .reading) ≡ true
 line-reads l = request-reads l .so
@@ -108,6 +108,12 @@ unless-running Standing.Held g = other refl
 unless-running (Standing.Waiting f) g = other refl
 unless-running Standing.Running g = g
 
+unless-stopped : (s : Standing) {k : Check} → Other k → Other (unlessStopped s k)
+unless-stopped Standing.Absent g = other refl
+unless-stopped Standing.Held g = g
+unless-stopped (Standing.Waiting f) g = g
+unless-stopped Standing.Running g = other refl
+
 open-other : (b : Board) (p f : ℕ) → isProgram p && isFile f ≡ true → Other (openCheck b p f)
 unfolding openCheck
 open-other b p f i = rw i (unless-running (at b p .standing) (unless-it (not (claims (at b p) f)) Refusal.NotClaimed refl
@@ -124,13 +130,14 @@ both : (p f : ℕ) → (1 ≤ p) × (p ≤ 32) × (1 ≤ f) × (f ≤ 64) → is
 both p f i = rw (le-leb 1 p (i .0), le-leb p 32 (i .1), le-leb 1 f (i .2), le-leb f 64 (i .3))
 
 call-other : (b : Board) (c : Call) → InRange c → Other (checked b c)
-unfolding enterCheck leaveCheck
+unfolding enterCheck leaveCheck cancelCheck
 call-other b (Enter p v q) i = rw (is-program p (i .0) (i .1)) (unless-it (not (isAbsent (at b p .standing))) Refusal.NotAbsent refl
     (unless-it (meets v q) Refusal.ClaimsMeet refl (other refl)))
 call-other b (Open p f) i = open-other b p f (both p f i)
 call-other b (Close p f) i = close-other b p f (both p f i)
 call-other b (Drop p f) i = open-other b p f (both p f i)
 call-other b (Leave p) i = rw (is-program p (i .0) (i .1)) (unless-running (at b p .standing) (other refl))
+call-other b (Cancel p) i = rw (is-program p (i .0) (i .1)) (unless-stopped (at b p .standing) (other refl))
 
 pub range-checked : (b : Board) (c : Call) → InRange c → notEight (checked b c) ≡ true
 range-checked b c i = call-other b c i .so

@@ -14,17 +14,18 @@ use Rattle.writer.specs.declared.Writing.{Writing}
 use Rattle.writer.specs.Writer.{unwrittenNumber, writingOf, bufferAfter}
 use Rattle.host.specs.Host.{refusalAnswer}
 
--- 1 ENTER, 2 OPEN, 3 CLOSE, 4 DROP, 5 LEAVE, in 01's order; any other number is no verb
+-- 1 ENTER, 2 OPEN, 3 CLOSE, 4 DROP, 5 LEAVE, in 01's order, and 6 CANCEL; any other number is no verb
 abbrev pub isVerb : ℕ → Bool
-isVerb n = isNumber 5 n
+isVerb n = isNumber 6 n
 
--- the verb of a number from 1 to 5
+-- the verb of a number from 1 to 6
 abbrev pub verbNumbered : ℕ → Verb
 verbNumbered n =
     cond (eqb n 1) Verb.Enter
     (cond (eqb n 2) Verb.Open
     (cond (eqb n 3) Verb.Close
-    (cond (eqb n 4) Verb.Drop Verb.Leave)))
+    (cond (eqb n 4) Verb.Drop
+    (cond (eqb n 5) Verb.Leave Verb.Cancel))))
 
 -- a claim as a mask: file 1 is the lowest bit
 abbrev pub claimOf : ℕ → FileSet

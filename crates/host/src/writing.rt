@@ -7,7 +7,7 @@ use writer::Writing;
 ghost use mathlib.Core.Path.{_≡_};
 ghost use Rattle.host.specs.Writing.{verbNumbered, writingAnswer, writeAnswer, writeBuffer};
 
-// The verb of a number from 1 to 5.
+// The verb of a number from 1 to 6.
 fn verb_of(n: u64) -> Verb
     ensures { λ r. ⌜ r ≡ verbNumbered n ⌝ }
 {
@@ -23,7 +23,10 @@ fn verb_of(n: u64) -> Verb
     if n == 4 {
         return Verb::Drop;
     }
-    Verb::Leave
+    if n == 5 {
+        return Verb::Leave;
+    }
+    Verb::Cancel
 }
 
 // What a C host gets: the line's length, or 2^64 less the number of the refusal.
@@ -54,7 +57,7 @@ pub extern "C" fn lock_board_write(
     if verb == 0 {
         return refusal_answer(3);
     }
-    if 5 < verb {
+    if 6 < verb {
         return refusal_answer(3);
     }
     let verb = verb_of(verb);

@@ -1,4 +1,4 @@
--- 01's session through the line call, bytes in and bytes out, and lines that are refused with 3 to 7: antt computes them from the definitions.
+-- 01's session through the line call, bytes in and bytes out, and 02's CANCEL after it: antt computes them from the definitions.
 -- Assumes nothing.
 use Prim.Native.Nat.{ℕ}
 use mathlib.Core.Path.{_≡_, refl}
@@ -12,10 +12,10 @@ use Rattle.rules.specs.Orders.{heldBack, carriedFrom, carried, withGiven, inUse
 use Rattle.rules.specs.Soundness.{setsSound, standingSound, programSound, noConflict, lineSound, waiterSound, noneFavoured, someFavoured, sound}
 use Rattle.rules.specs.Settling.{unfavour, resume, tryGive, pass, candidate, favour, runHeld, choose, settle}
 use Rattle.rules.specs.Replies.{reply, refuse, refuseUnsound}
-use Rattle.rules.specs.Checks.{enterCheck, openCheck, closeCheck, leaveCheck}
-use Rattle.rules.specs.Calls.{enter, wait, openFile, done, closeFile, dropFile, countLeave, leave, apply, direct}
+use Rattle.rules.specs.Checks.{enterCheck, openCheck, closeCheck, leaveCheck, cancelCheck}
+use Rattle.rules.specs.Calls.{enter, wait, openFile, done, closeFile, dropFile, countLeave, leave, countCancel, cancel, apply, direct}
 use Rattle.request.specs.Requests.{begins, numberAt, programAt, labelPart, filesIn, risesFrom, addingAll}
-use Rattle.request.specs.Requests.{enterFiles, enterCounts, enterOf, fileOf, leaveOf, requestOf}
+use Rattle.request.specs.Requests.{enterFiles, enterCounts, enterOf, fileOf, aloneOf, requestOf}
 use Rattle.journal.specs.Journal.{lineBytes, written}
 use Rattle.serve.specs.LineCall.{replyTo, linesFor, posted, lineCall}
 
@@ -23,6 +23,17 @@ use Rattle.serve.specs.LineCall.{replyTo, linesFor, posted, lineCall}
 
 -- the journal up to the place after these lines
 journalAfter : Board → List ℕ → ℕ → List (List ℕ) → List ℕ
+unfolding columnsOf flat digitOf field3 fieldOf numberOf
+    begins numberAt programAt labelPart filesIn risesFrom addingAll
+    enterFiles enterCounts enterOf fileOf aloneOf requestOf
+    lineBytes written replyTo linesFor posted lineCall
+    any all keep first padded rising listed distinct without same names
+    everyone admitted opening closing dropping
+    heldBack carriedFrom carried withGiven inUse safe canGive
+    setsSound standingSound programSound noConflict lineSound waiterSound noneFavoured someFavoured sound
+    unfavour resume tryGive pass candidate favour runHeld choose settle
+    reply refuse refuseUnsound enterCheck openCheck closeCheck leaveCheck cancelCheck
+    enter wait openFile done closeFile dropFile countLeave leave countCancel cancel apply direct
 journalAfter b journal place [] = take place journal
 journalAfter b journal place (l ∷ ls) = let o = lineCall b l journal place in journalAfter (o .reply .board) (o .journal) (o .place) ls
 
@@ -59,17 +70,38 @@ joined : List (List ℕ) → List ℕ
 joined [] = []
 joined (l ∷ ls) = l ++ joined ls
 
-session : journalAfter emptyBoard (replicate 700 0) 0 input ≡ joined output
-unfolding journalAfter input output joined
-    columnsOf flat digitOf field3 fieldOf numberOf
-    begins numberAt programAt labelPart filesIn risesFrom addingAll
-    enterFiles enterCounts enterOf fileOf leaveOf requestOf
-    lineBytes written replyTo linesFor posted lineCall
-    any all keep first padded rising listed distinct without same names
-    everyone admitted opening closing dropping
-    heldBack carriedFrom carried withGiven inUse safe canGive
-    setsSound standingSound programSound noConflict lineSound waiterSound noneFavoured someFavoured sound
-    unfavour resume tryGive pass candidate favour runHeld choose settle
-    reply refuse refuseUnsound enterCheck openCheck closeCheck leaveCheck
-    enter wait openFile done closeFile dropFile countLeave leave apply direct
+-- the journal of these lines, from the empty board
+journalOf : List (List ℕ) → List ℕ
+unfolding journalAfter
+journalOf ls = journalAfter emptyBoard (replicate 800 0) 0 ls
+
+session : journalOf input ≡ joined output
+unfolding journalOf input output joined
 session = refl
+
+-- ---- CANCEL
+
+-- the session, in place of its last line `CANCEL  1`, `CANCEL  2`, `CANCEL`
+cancelling : List (List ℕ)
+unfolding input
+cancelling =
+    take 7 input
+    ++ ((67 ∷ 65 ∷ 78 ∷ 67 ∷ 69 ∷ 76 ∷ 32 ∷ 32 ∷ 49 ∷ [])
+    ∷ (67 ∷ 65 ∷ 78 ∷ 67 ∷ 69 ∷ 76 ∷ 32 ∷ 32 ∷ 50 ∷ [])
+    ∷ (67 ∷ 65 ∷ 78 ∷ 67 ∷ 69 ∷ 76 ∷ [])
+    ∷ [])
+
+-- `REFUSE  1  0 18`, `DONE    2  0  0`, `ADMIT   3  0  0`, `REFUSE  0  0  4`
+cancelled : List (List ℕ)
+unfolding output
+cancelled =
+    take 8 output
+    ++ ((82 ∷ 69 ∷ 70 ∷ 85 ∷ 83 ∷ 69 ∷ 32 ∷ 32 ∷ 49 ∷ 32 ∷ 32 ∷ 48 ∷ 32 ∷ 49 ∷ 56 ∷ 10 ∷ [])
+    ∷ (68 ∷ 79 ∷ 78 ∷ 69 ∷ 32 ∷ 32 ∷ 32 ∷ 32 ∷ 50 ∷ 32 ∷ 32 ∷ 48 ∷ 32 ∷ 32 ∷ 48 ∷ 10 ∷ [])
+    ∷ (65 ∷ 68 ∷ 77 ∷ 73 ∷ 84 ∷ 32 ∷ 32 ∷ 32 ∷ 51 ∷ 32 ∷ 32 ∷ 48 ∷ 32 ∷ 32 ∷ 48 ∷ 10 ∷ [])
+    ∷ (82 ∷ 69 ∷ 70 ∷ 85 ∷ 83 ∷ 69 ∷ 32 ∷ 32 ∷ 48 ∷ 32 ∷ 32 ∷ 48 ∷ 32 ∷ 32 ∷ 52 ∷ 10 ∷ [])
+    ∷ [])
+
+cancels : journalOf cancelling ≡ joined cancelled
+unfolding journalOf cancelling cancelled joined
+cancels = refl

@@ -21,6 +21,9 @@ returns-4 c = let s = c .before .before .before .before .before in let a = s .ar
 returns-5 : tie.Need-returns-5
 returns-5 c = let s = c .before .before .before .before .before in let a = s .args in comes (c .call-leave .ensures) (by-verb (a .b) (a .a) Verb.Leave (a .p) (c .before .enum-told5 .given .1) (s .pre .1))
 
+returns-6 : tie.Need-returns-6
+returns-6 c = let s = c .before .before .before .before .before in let a = s .args in comes (c .call-cancel .ensures) (by-verb (a .b) (a .a) Verb.Cancel (a .p) (c .before .enum-told6 .given .1) (s .pre .1))
+
 pub call-by-spec : {M : Type 1} → statement M
 call-by-spec =
     tie.close
@@ -35,8 +38,11 @@ call-by-spec =
     (λ c κs. search needs)
     (λ c. search needs)
     (λ c κs. search needs)
+    (λ c. search needs)
+    (λ c κs. search needs)
     returns
     returns-2
     returns-3
     returns-4
-    returns-5)
+    returns-5
+    returns-6)

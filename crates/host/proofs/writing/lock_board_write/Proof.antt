@@ -19,7 +19,7 @@ returns-2 : tie.Need-returns-2
 returns-2 c =
     let a = c .before .before .before .before .before .args in
     let e = write-refused (a .verb) (a .program) (a .file) (a .writable) (a .readable) (a .label .now) (a .line .now)
-    (far-number 5 (a .verb) (c .before .if2 .taken)) in
+    (far-number 6 (a .verb) (c .before .if2 .taken)) in
     (c .refusal-answer2 .ensures ∙ e .0, e .1)
 
 returns-3 : tie.Need-returns-3
@@ -29,7 +29,7 @@ returns-3 c =
     let i = c .before .before .before .before .before .before in
     let a = i .before .before .before .before .args in
     write-done (a .verb) (a .program) (a .file) (a .writable) (a .readable) (a .label .now) (a .line .now)
-    (v .result) (w .result) (c .answer-of .result) (w .last .1 .1 .0) (is-number 5 (a .verb) (omega (arith, i .before .if1 .left)) (i .if2 .left))
+    (v .result) (w .result) (c .answer-of .result) (w .last .1 .1 .0) (is-number 6 (a .verb) (omega (arith, i .before .if1 .left)) (i .if2 .left))
     (v .ensures) (w .ensures .0) (c .answer-of .ensures) (w .ensures .1)
 
 pub lock-board-write-spec : {M : Type 1} → statement M
