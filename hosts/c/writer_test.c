@@ -100,11 +100,9 @@ static uint64_t read_verb(const char *text) {
     static const struct {
         const char *text;
         enum lock_board_verb verb;
-    } verbs[] = {{"ENTER", LOCK_BOARD_ENTER},
-                 {"OPEN", LOCK_BOARD_OPEN},
-                 {"CLOSE", LOCK_BOARD_CLOSE},
-                 {"DROP", LOCK_BOARD_DROP},
-                 {"LEAVE", LOCK_BOARD_LEAVE}};
+    } verbs[] = {{"ENTER", LOCK_BOARD_ENTER}, {"OPEN", LOCK_BOARD_OPEN},
+                 {"CLOSE", LOCK_BOARD_CLOSE}, {"DROP", LOCK_BOARD_DROP},
+                 {"LEAVE", LOCK_BOARD_LEAVE}, {"CANCEL", LOCK_BOARD_CANCEL}};
     for (size_t i = 0; i < sizeof verbs / sizeof *verbs; i++)
         if (strcmp(text, verbs[i].text) == 0)
             return verbs[i].verb;
@@ -193,16 +191,18 @@ static void refused(uint64_t verb, uint64_t program, uint64_t file, size_t label
 /* What is no verb, labels of other lengths, and several things wrong at once. */
 static void edges(void) {
     refused(0, 0, 0, 0, 0, LOCK_BOARD_NO_VERB);
-    refused(LOCK_BOARD_LEAVE + 1, 33, 65, 0, 0, LOCK_BOARD_NO_VERB);
+    refused(LOCK_BOARD_CANCEL + 1, 33, 65, 0, 0, LOCK_BOARD_NO_VERB);
     refused(UINT64_MAX, 1, 1, LOCK_BOARD_LABEL_LEN, TEXT, LOCK_BOARD_NO_VERB);
     refused(LOCK_BOARD_ENTER, 0, 1, 0, 0, LOCK_BOARD_OUT_OF_RANGE);
     refused(LOCK_BOARD_DROP, LOCK_BOARD_PROGRAMS, LOCK_BOARD_FILES + 1, 0, 0,
             LOCK_BOARD_OUT_OF_RANGE);
+    refused(LOCK_BOARD_CANCEL, LOCK_BOARD_PROGRAMS + 1, 0, 0, 0, LOCK_BOARD_OUT_OF_RANGE);
     refused(LOCK_BOARD_ENTER, 1, 0, 0, TEXT, LOCK_BOARD_BAD_LABEL);
     refused(LOCK_BOARD_ENTER, 1, 0, LOCK_BOARD_LABEL_LEN - 1, TEXT, LOCK_BOARD_BAD_LABEL);
     refused(LOCK_BOARD_ENTER, 1, 0, LOCK_BOARD_LABEL_LEN + 1, 0, LOCK_BOARD_BAD_LABEL);
     refused(LOCK_BOARD_ENTER, 1, 0, LOCK_BOARD_LABEL_LEN, 28, LOCK_BOARD_BUFFER_SHORT);
     refused(LOCK_BOARD_LEAVE, 1, 0, 0, 8, LOCK_BOARD_BUFFER_SHORT);
+    refused(LOCK_BOARD_CANCEL, 1, 0, 0, 8, LOCK_BOARD_BUFFER_SHORT);
 }
 
 /* The cases of two files. */

@@ -9,13 +9,14 @@ use crate::generate::lines;
 use crate::generate::random::Random;
 use crate::model::journal::columns;
 
-const LINES: [&[u8]; 6] = [
+const LINES: [&[u8]; 7] = [
     b"ENTER   7STOCK     2  1  1 12 30",
     b"ENTER   7STOCK     0  0",
     b"OPEN    1  1",
     b"CLOSE   2 10",
     b"DROP    1 11",
     b"LEAVE   2",
+    b"CANCEL  3",
 ];
 
 /// An image on which the lines above are taken.
@@ -26,6 +27,8 @@ fn start() -> Vec<u8> {
         &b"ENTER   1STOCK     1  1  1 11"[..],
         b"ENTER   2BILLS     1  0 10",
         b"OPEN    2 10",
+        b"ENTER   3LISTS     0  1 10",
+        b"OPEN    3 10",
     ] {
         image = session.add(&image, Call::plain(line)).image;
     }
@@ -56,7 +59,7 @@ fn every_length_agrees() {
         }
     }
     met.print("lengths");
-    assert!(met.get("ADMIT") > 0 && met.get("refusal 7") > 0 && met.get("refusal 10") > 0);
+    met.assert_met(&["ADMIT", "refusal 7", "refusal 10", "cancel refused with 4"]);
 }
 
 /// ENTER lines of a length, with counts that fit it or nearly do.
@@ -67,7 +70,7 @@ fn enters(len: usize, random: &mut Random) -> Vec<Vec<u8>> {
     let rising = |count: usize| (65usize.saturating_sub(count)..=64).flat_map(columns);
     let mut all = Vec::new();
     for (more_w, more_r) in [(0, 0), (1, 0), (0, 1)] {
-        let mut line = b"ENTER   3\x7E       ".to_vec();
+        let mut line = b"ENTER   4\x7E       ".to_vec();
         line.extend(columns(w + more_w));
         line.extend(columns(files - w + more_r));
         line.extend((1..=w).flat_map(columns));
@@ -97,6 +100,8 @@ fn every_byte_agrees() {
         }
     }
     met.print("bytes");
+    let cancels = [5, 11, 18].map(|number| format!("cancel refused with {number}"));
+    met.assert_met(&cancels.each_ref().map(String::as_str));
 }
 
 #[test]
@@ -113,6 +118,7 @@ fn every_number_agrees() {
         (2, 9),
         (4, 9),
         (5, 6),
+        (6, 6),
     ] {
         for code in 0..bytes.len().pow(3) {
             let mut changed = LINES[line].to_vec();

@@ -1,4 +1,4 @@
-//! The five direct calls with any numbers, on boards sound and unsound, the
+//! The six direct calls with any numbers, on boards sound and unsound, the
 //! labels of lines, and line calls on a lent board, through the program
 //! `asked`. LOCK_BOARD_ASKED names the program; else it is the one built here,
 //! and the tests that run it are left out if there is none.
@@ -6,14 +6,15 @@
 use super::{calls, seed};
 use crate::compare::asked::{Asking, Record};
 use crate::compare::call::Call;
-use crate::compare::counters::Counters;
+use crate::compare::counters::{Counters, CANCELS};
 use crate::compare::programs;
 use crate::generate::images::{pool, DAMAGES};
+use crate::generate::lines;
 use crate::generate::numbers::{self, NUMBERS};
 use crate::generate::random::Random;
+use crate::generate::scripts::SCRIPTS;
 use crate::generate::sessions::{wild, Cast, PROFILES};
-use crate::generate::{lines, scripts};
-use crate::model::board::{only, Files};
+use crate::model::board::{only, Files, PROGRAMS};
 use crate::model::direct::{self, Reply};
 use crate::model::events::Request;
 use crate::model::journal::Word;
@@ -37,6 +38,24 @@ pub fn count(reply: &Reply, met: &mut Counters) {
     }
 }
 
+/// Counts a reply, and what the call has done to a sound board.
+fn count_boards(before: &[u8], reply: &Reply, met: &mut Counters) {
+    count(reply, met);
+    if let (Ok(before), Ok(after)) = (image::read(before), image::read(&reply.image)) {
+        met.boards(&before, &after);
+    }
+}
+
+/// One more direct call; counts what it meets.
+fn call(request: Request, asking: &mut Asking, met: &mut Counters) {
+    let before = asking.board.clone();
+    let reply = asking.call(request);
+    count_boards(&before, &reply, met);
+    if matches!(request, Request::Cancel { .. }) && reply.refusal != 0 {
+        met.add(&format!("cancel refused with {}", reply.refusal));
+    }
+}
+
 pub fn assert_refusals(met: &Counters, numbers: impl Iterator<Item = usize>) {
     for number in numbers {
         let name = format!("refusal {number}");
@@ -57,23 +76,22 @@ fn direct_calls_agree() {
         for at in 0..profile.length {
             let board = image::read(&asking.board).expect("a sound board");
             let request = cast.request(&board, at, &mut random);
-            count(&asking.call(astray(request, &mut random)), &mut met);
+            call(astray(request, &mut random), &mut asking, &mut met);
         }
         asking.check(&path);
-        for script in [
-            scripts::readers_behind_writer,
-            scripts::held_behind_favoured,
-        ] {
+        for script in SCRIPTS {
             let mut asking = Asking::new();
             for request in script(&mut random) {
-                count(&asking.call(request), &mut met);
+                call(request, &mut asking, &mut met);
             }
             asking.check(&path);
         }
         round += 1;
     }
     met.print("direct calls");
-    assert_refusals(&met, 8..=16);
+    assert_refusals(&met, (8..=16).chain([18]));
+    met.assert_met(&CANCELS);
+    met.assert_met(&["cancel refused with 8"]);
     for word in Word::ALL.iter().filter(|&&word| word != Word::Refuse) {
         let name = std::str::from_utf8(word.text()).unwrap().trim_end();
         assert!(met.get(name) > 0, "{name} not met");
@@ -99,6 +117,7 @@ fn astray(request: Request, random: &mut Random) -> Request {
         Request::Close { .. } => Request::Close { p, f },
         Request::Drop { .. } => Request::Drop { p, f },
         Request::Leave { .. } => Request::Leave { p },
+        Request::Cancel { .. } => Request::Cancel { p },
     }
 }
 
@@ -152,13 +171,24 @@ fn direct_calls_agree_on_edges() {
         let mut asking = Asking::new();
         for request in edges() {
             asking.add(Record::Image(board.clone()));
-            count(&asking.call(request), &mut met);
+            call(request, &mut asking, &mut met);
         }
         asking.check(&path);
     }
     met.print("direct edges");
-    assert_refusals(&met, 8..=16);
+    assert_refusals(&met, (8..=16).chain([18]));
+    met.assert_met(&EDGES_OF_CANCEL);
 }
+
+/// What cancels with every number meet on those boards.
+const EDGES_OF_CANCEL: [&str; 6] = [
+    "cancel refused with 8",
+    "cancel refused with 11",
+    "cancel refused with 18",
+    "cancel of the favoured one",
+    "cancel of a held one",
+    "cancel that admits",
+];
 
 /// Every call with the numbers; enter with sets that meet and that do not.
 fn edges() -> Vec<Request> {
@@ -166,6 +196,7 @@ fn edges() -> Vec<Request> {
     let mut all = Vec::new();
     for p in NUMBERS {
         all.push(Request::Leave { p });
+        all.push(Request::Cancel { p });
         for f in NUMBERS {
             all.push(Request::Open { p, f });
             all.push(Request::Close { p, f });
@@ -200,6 +231,8 @@ fn direct_calls_agree_on_images() {
     }
     met.print("direct images");
     assert_refusals(&met, [1, 8].into_iter());
+    met.assert_met(&["cancel refused with 1", "cancel refused with 8"]);
+    met.assert_met(&CANCELS[..6]);
     for name in ["refused image", "unsound board", "sound board"] {
         assert!(met.get(name) > 0, "no {name}");
     }
@@ -213,13 +246,16 @@ fn follow(image: Vec<u8>, asking: &mut Asking, random: &mut Random, met: &mut Co
         (Ok(_), Ok(_)) => "sound board",
     });
     asking.add(Record::Image(image));
-    let cast = Cast::new(&PROFILES[0], random);
-    for at in 0..3 {
+    let (cast, from) = (Cast::new(&PROFILES[0], random), random.below(100));
+    for at in from..from + 3 {
         let request = match image::read(&asking.board) {
+            _ if random.per_mille(200) => Request::Cancel {
+                p: random.within(1, PROGRAMS),
+            },
             Ok(board) => cast.request(&board, at, random),
             Err(_) => wild(random),
         };
-        count(&asking.call(astray(request, random)), met);
+        call(astray(request, random), asking, met);
     }
 }
 
@@ -236,11 +272,14 @@ fn line_calls_on_a_lent_board_agree() {
         let cast = Cast::new(&PROFILES[round % PROFILES.len()], &mut random);
         let mut asking = Asking::new();
         for at in 0..200 {
-            if let Ok(board) = image::read(&asking.board) {
-                let request = cast.request(&board, at, &mut random);
-                count(&lent(request, &mut asking, &mut random), &mut met);
-            } else {
-                count(&lent(wild(&mut random), &mut asking, &mut random), &mut met);
+            let before = asking.board.clone();
+            let (request, sound) = match image::read(&before) {
+                Ok(board) => (cast.request(&board, at, &mut random), true),
+                Err(_) => (wild(&mut random), false),
+            };
+            let reply = lent(request, &mut asking, &mut random);
+            count_boards(&before, &reply, &mut met);
+            if !sound {
                 asking.add(Record::Image(Asking::new().board));
             }
             if random.per_mille(20) {
@@ -254,7 +293,8 @@ fn line_calls_on_a_lent_board_agree() {
         round += 1;
     }
     met.print("lent boards");
-    assert_refusals(&met, (1..=7).chain(9..=16));
+    assert_refusals(&met, (1..=7).chain(9..=16).chain([18]));
+    met.assert_met(&CANCELS[2..]);
 }
 
 /// A request as a line on the lent board; one in ten as a direct call.
@@ -270,7 +310,7 @@ fn lent(request: Request, asking: &mut Asking, random: &mut Random) -> Reply {
 }
 
 /// Lines with the label that 01 gives each, if it has one.
-const LABELS: [(&[u8], &[u8]); 16] = [
+const LABELS: [(&[u8], &[u8]); 18] = [
     (b"ENTER   1STOCK     1  0  3", b"STOCK   "),
     (b"ENTER  32        0  0", b""),
     (b"ENTER  32          0  0", b"        "),
@@ -289,7 +329,9 @@ const LABELS: [(&[u8], &[u8]); 16] = [
     // other verbs
     (b"OPEN    1  1", b""),
     (b"LEAVE   1", b""),
+    (b"CANCEL  1", b""),
     (b"OPEN    1STOCK     1  0  3", b""),
+    (b"CANCEL  1STOCK     1  0  3", b""),
 ];
 
 #[test]
@@ -340,13 +382,23 @@ fn labels_agree() {
 }
 
 /// What crates/asked is run on when it is proved, and what it must write, are
-/// the model's: 01's session, a number out of range, a line on the lent board,
-/// a board that is not sound, labels. LOCK_BOARD_WRITE=1 writes both files anew.
+/// the model's: 01's session, cancels of a waiting, an absent and a running
+/// program, a number out of range, a line on the lent board, a board that is not
+/// sound, labels. LOCK_BOARD_WRITE=1 writes both files anew.
 #[test]
 fn records_of_the_crate_are_the_models() {
     let mut asking = Asking::new();
     for request in session() {
         asking.call(request);
+    }
+    for (request, refusal) in [
+        (enter(1, &[2], &[]), 0),
+        (Request::Open { p: 1, f: 2 }, 0),
+        (Request::Cancel { p: 1 }, 0),
+        (Request::Cancel { p: 1 }, 11),
+        (Request::Cancel { p: 2 }, 18),
+    ] {
+        assert_eq!(asking.call(request).refusal, refusal, "{request:?}");
     }
     asking.call(Request::Open {
         p: 2,

@@ -2,7 +2,7 @@
 //! alone where that can be.
 
 use super::{calls, seed};
-use crate::compare::counters::Counters;
+use crate::compare::counters::{Counters, CANCELS};
 use crate::compare::session::Session;
 use crate::generate::images::{pool, DAMAGES};
 use crate::generate::lines;
@@ -70,6 +70,7 @@ fn damaged_images_agree() {
     }
     assert!(met.get("Conflict with NoOrder") > 0);
     assert!(met.get("sound") > 0);
+    met.assert_met(&CANCELS);
 }
 
 /// Counts what is wrong with an image.
@@ -87,9 +88,9 @@ fn name(image: &[u8], met: &mut Counters) {
 /// A call on the image; if it is not refused, some more.
 fn follow(image: Vec<u8>, random: &mut Random, met: &mut Counters) {
     let mut session = Session::from(image.clone());
-    let cast = Cast::new(&PROFILES[0], random);
+    let (cast, from) = (Cast::new(&PROFILES[0], random), random.below(100));
     let mut image = image;
-    for at in 0..4 {
+    for at in from..from + 4 {
         let request = match image::layout(&image) {
             Ok((board, _)) => cast.request(&board, at, random),
             Err(_) => wild(random),
@@ -104,6 +105,9 @@ fn follow(image: Vec<u8>, random: &mut Random, met: &mut Counters) {
         if outcome.answer == image::REFUSED_1 {
             return;
         }
+        let boards = [&image, &outcome.image].map(|image| image::layout(image));
+        let [before, after] = boards.map(|board| board.expect("a sound image").0);
+        met.boards(&before, &after);
         image = outcome.image;
     }
 }

@@ -1,7 +1,10 @@
 //! The tests, and what they share.
 
 mod bytes;
+mod cancels;
 mod direct;
+mod entry_vectors;
+mod favoured;
 mod image_files;
 mod images;
 mod journals;
@@ -9,6 +12,7 @@ mod program;
 mod refusals;
 mod sessions;
 mod show;
+mod small_scope;
 mod survives;
 mod vectors;
 mod writer;

@@ -73,7 +73,7 @@ fn refusals_of_random_sessions_agree() {
 #[ignore = "runs the hosts: hosts/test explain"]
 fn the_longest_refusals_agree() {
     let shown = agree_from_empty(&document(), include_bytes!("../longest.in"));
-    assert_eq!(shown.len(), 4);
+    assert_eq!(shown.len(), 5);
     assert!(shown.iter().any(|text| text.len() > 600));
 }
 
@@ -89,11 +89,12 @@ fn refusals_on_an_image_agree() {
         "refusals-3",
         "readers-3",
         "session",
+        "cancel-refusals-5",
     ];
-    for path in vectors::names() {
-        if !chosen.contains(&path.file_stem().unwrap().to_str().unwrap()) {
-            continue;
-        }
+    let mut paths = vectors::names();
+    paths.retain(|path| chosen.contains(&path.file_stem().unwrap().to_str().unwrap()));
+    assert_eq!(paths.len(), chosen.len());
+    for path in paths {
         let input = std::fs::read(path).unwrap();
         let lines = requests(&input);
         let (first, rest) = lines.split_at(lines.len() / 2);

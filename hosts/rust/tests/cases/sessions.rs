@@ -1,11 +1,12 @@
 //! Random sessions from the empty board.
 
 use super::{calls, seed};
-use crate::compare::counters::Counters;
+use crate::compare::counters::{Counters, CANCELS};
 use crate::compare::session::Session;
+use crate::generate::lines;
 use crate::generate::random::Random;
+use crate::generate::scripts::SCRIPTS;
 use crate::generate::sessions::{Cast, PROFILES};
-use crate::generate::{lines, scripts};
 use crate::model::board::Board;
 use crate::model::events::{self, Request};
 use crate::model::journal::Word;
@@ -40,10 +41,7 @@ fn sessions_agree() {
             let request = cast.request(&run.board, at, &mut random);
             run.call(&request, profile.damaged, &mut random);
         }
-        for script in [
-            scripts::readers_behind_writer,
-            scripts::held_behind_favoured,
-        ] {
+        for script in SCRIPTS {
             let (requests, mut run) = (script(&mut random), Run::new(&mut met));
             if round % 10 == 0 {
                 requests
@@ -59,10 +57,10 @@ fn sessions_agree() {
 
 fn assert_all_met(met: &Counters) {
     let words = Word::ALL.map(|word| std::str::from_utf8(word.text()).unwrap().trim_end());
-    for name in words.iter().chain(MET) {
-        assert!(met.get(name) > 0, "{name} not met");
-    }
-    for number in (2..=7).chain(9..=16) {
+    met.assert_met(&words);
+    met.assert_met(MET);
+    met.assert_met(&CANCELS);
+    for number in (2..=7).chain(9..=16).chain([18]) {
         assert!(
             met.get(&format!("refusal {number}")) > 0,
             "refusal {number} not met"

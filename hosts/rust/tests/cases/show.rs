@@ -124,6 +124,10 @@ fn met(board: &Board) -> Vec<&'static str> {
         } else {
             "nobody left yet"
         });
+        met.push(match board.number - 1 - board.leaves {
+            1 => "one leave to come",
+            _ => "several leaves to come",
+        });
     }
     if board.admitted().is_empty() {
         met.push("nobody admitted");
@@ -131,7 +135,7 @@ fn met(board: &Board) -> Vec<&'static str> {
     met
 }
 
-const TO_MEET: [&str; 9] = [
+const TO_MEET: [&str; 11] = [
     "no order would be left",
     "a writer has the file",
     "a reader has the file",
@@ -140,6 +144,8 @@ const TO_MEET: [&str; 9] = [
     "an entry line out of number",
     "leaves counted",
     "nobody left yet",
+    "one leave to come",
+    "several leaves to come",
     "nobody admitted",
 ];
 

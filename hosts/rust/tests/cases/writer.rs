@@ -15,6 +15,7 @@ const OPEN: u64 = 2;
 const CLOSE: u64 = 3;
 const DROP: u64 = 4;
 const LEAVE: u64 = 5;
+const CANCEL: u64 = 6;
 
 const REFUSALS: [&str; 4] = ["refusal 3", "refusal 8", "refusal 6", "refusal 17"];
 
@@ -79,14 +80,16 @@ fn the_session_of_01_is_written() {
     both_write(b"LEAVE   1", other(LEAVE, 1, 0));
 }
 
-/// The last program and file, numbers of two digits, a file that LEAVE does not
-/// use, empty claims, claims that meet.
+/// The last program and file, numbers of two digits, a file that LEAVE and
+/// CANCEL do not use, empty claims, claims that meet.
 #[test]
 fn lines_at_the_edges_are_written() {
     both_write(b"DROP   32 64", other(DROP, 32, 64));
     both_write(b"OPEN   10 10", other(OPEN, 10, 10));
     both_write(b"CLOSE   9  9", other(CLOSE, 9, 9));
     both_write(b"LEAVE  32", other(LEAVE, 32, u64::MAX));
+    both_write(b"CANCEL  1", other(CANCEL, 1, 0));
+    both_write(b"CANCEL 32", other(CANCEL, 32, u64::MAX));
     both_write(b"ENTER  32 a~!1234  0  0", enter(32, b" a~!1234", 0, 0));
     let (v, q) = (1 << 63 | 1, 1 << 9);
     let line = b"ENTER  10          2  1  1 64 10";
@@ -114,13 +117,14 @@ fn the_longest_line_is_written() {
 #[test]
 fn refusals_of_the_writer_come_in_order() {
     let label = b"STOCK   ";
-    let refused: [(Writing, usize, u64); 24] = [
+    let refused: [(Writing, usize, u64); 28] = [
         // no verb, and program, file, label and buffer are wrong too
         (other(0, 0, 0), 0, 3),
-        (other(6, 0, 65), 0, 3),
+        (other(7, 0, 65), 0, 3),
         (other(u64::MAX, 33, 0), 0, 3),
         (other(1 << 32 | OPEN, 1, 1), 12, 3),
         (other(256 + LEAVE, 1, 1), 9, 3),
+        (other(256 + CANCEL, 1, 0), 9, 3),
         // program or file out of range; label and buffer are wrong too
         (enter(0, b"", 1, 1), 0, 8),
         (enter(33, b"STOC\x1FK  ", 1, 0), 26, 8),
@@ -134,6 +138,8 @@ fn refusals_of_the_writer_come_in_order() {
         (other(DROP, 1, u64::MAX), 0, 8),
         (other(LEAVE, 0, 1), 0, 8),
         (other(LEAVE, u64::MAX, 1), 9, 8),
+        (other(CANCEL, 0, 1), 0, 8),
+        (other(CANCEL, 33, 1), 9, 8),
         // ENTER's label; the buffer is too short too
         (enter(1, b"", 1, 1), 0, 6),
         (enter(1, b"STOCK  ", 0, 0), 0, 6),
@@ -143,6 +149,7 @@ fn refusals_of_the_writer_come_in_order() {
         // the buffer alone
         (enter(1, label, 3, 3), 34, 17),
         (other(LEAVE, 1, 65), 8, 17),
+        (other(CANCEL, 1, 65), 8, 17),
     ];
     for (writing, len, number) in refused {
         both_leave(Err(number), &writing, len);
@@ -183,7 +190,7 @@ fn writings_agree_on_labels() {
     let mut met = Counters::default();
     let lengths = (0..=20).chain([256, 256 + 8, 65_536 + 8]);
     for label in lengths.map(|len| vec![b'A'; len]) {
-        for verb in ENTER..=LEAVE {
+        for verb in ENTER..=CANCEL {
             let file = 1;
             let writing = Writing {
                 verb,
@@ -205,6 +212,7 @@ fn writings_agree_on_labels() {
     assert_eq!(met.get("ENTER"), 8 * 95 + 1);
     assert_eq!(met.get("refusal 6"), 8 * (256 - 95) + 23);
     assert_eq!(met.get("OPEN"), 24);
+    assert_eq!(met.get("CANCEL"), 24);
 }
 
 /// Every pair of counts, with any files.

@@ -11,8 +11,12 @@ use crate::model::writer::{Writing, VERBS};
 use std::collections::BTreeSet;
 use std::path::Path;
 
-/// The cases of a file, each with its answer.
-fn cases(name: &str) -> Vec<(String, String)> {
+/// The cases of some files, each with its answer.
+fn cases(names: &[&str]) -> Vec<(String, String)> {
+    names.iter().flat_map(|name| cases_of(name)).collect()
+}
+
+fn cases_of(name: &str) -> Vec<(String, String)> {
     let folder = Path::new(env!("CARGO_MANIFEST_DIR")).join("tests/vectors-writer");
     let [cases, answers] = ["in", "out"].map(|ending| {
         let path = folder.join(format!("{name}.{ending}"));
@@ -82,21 +86,19 @@ fn expected(answer: &str, before: &[u8]) -> Written {
 #[test]
 fn vectors_are_written() {
     let (mut refusals, mut verbs) = (BTreeSet::new(), BTreeSet::new());
-    for name in ["write-1", "write-1-contest"] {
-        for (case, answer) in cases(name) {
-            let words: Vec<&str> = case.split(' ').collect();
-            let (buffer, words) = words.split_last().expect("a case");
-            let (writing, before) = (writing(words), vec![170; number(buffer) as usize]);
-            let expected = expected(&answer, &before);
-            for side in [model, library] {
-                expect(&expected, &side(&writing, &before), &writing, &before);
-            }
-            refusals.insert(number(answer.split(' ').next().unwrap_or_default()));
-            verbs.insert(writing.verb);
+    for (case, answer) in cases(&["write-1", "write-1-contest", "write-2", "write-2-contest"]) {
+        let words: Vec<&str> = case.split(' ').collect();
+        let (buffer, words) = words.split_last().expect("a case");
+        let (writing, before) = (writing(words), vec![170; number(buffer) as usize]);
+        let expected = expected(&answer, &before);
+        for side in [model, library] {
+            expect(&expected, &side(&writing, &before), &writing, &before);
         }
+        refusals.insert(number(answer.split(' ').next().unwrap_or_default()));
+        verbs.insert(writing.verb);
     }
     assert_eq!(refusals, BTreeSet::from([0, 6, 8, 17]));
-    assert_eq!(verbs, BTreeSet::from([1, 2, 3, 4, 5]));
+    assert_eq!(verbs, BTreeSet::from([1, 2, 3, 4, 5, 6]));
 }
 
 /// The journal line for a line's values on the empty board: another verb than
@@ -113,7 +115,7 @@ fn answered(writing: &Writing) -> Entry {
 #[test]
 fn vectors_are_read_and_written_back() {
     let (mut taken, mut refused) = (BTreeSet::new(), BTreeSet::new());
-    for (case, answer) in cases("back-1") {
+    for (case, answer) in cases(&["back-1", "back-2"]) {
         let (text, words) = (bytes(&case), answer.split(' ').collect::<Vec<&str>>());
         let entry = match words[..] {
             [refusal] => {
@@ -134,8 +136,8 @@ fn vectors_are_read_and_written_back() {
         let journal = &outcome.journal[..outcome.answer as usize];
         assert_eq!(journal, entry.bytes(), "{case}");
     }
-    assert_eq!(taken, BTreeSet::from([1, 2, 3, 4, 5]));
-    assert_eq!(refused, BTreeSet::from([3, 4, 5, 6]));
+    assert_eq!(taken, BTreeSet::from([1, 2, 3, 4, 5, 6]));
+    assert_eq!(refused, BTreeSet::from([3, 4, 5, 6, 7]));
 }
 
 /// The model reads these values in the line, and both sides write them back.

@@ -59,7 +59,8 @@ fn written_lines_make_the_same_call() {
     }
     met.print("written lines");
     met.assert_met(&VERBS);
-    met.assert_met(&["ADMIT", "refusal 10", "GIVEN", "refusal 16", "DONE"]);
+    met.assert_met(&["ADMIT", "refusal 10", "GIVEN", "refusal 16"]);
+    met.assert_met(&["DONE", "refusal 18"]);
 }
 
 /// The line and the direct call with the writing's own numbers, on one board.

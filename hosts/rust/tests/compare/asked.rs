@@ -101,6 +101,7 @@ fn kind(request: &Request) -> u8 {
         Request::Close { .. } => b'C',
         Request::Drop { .. } => b'D',
         Request::Leave { .. } => b'L',
+        Request::Cancel { .. } => b'X',
     }
 }
 

@@ -1,10 +1,24 @@
 //! What the sessions have met: words, refusals, settlings, states.
 
 use super::call::{Call, Outcome};
-use crate::model::board::Board;
+use crate::model::board::{Board, Standing};
 use crate::model::image::{REFUSED_1, REFUSED_2};
 use crate::model::journal::{Word, LINE};
 use std::collections::BTreeMap;
+
+/// What cancels meet and do, of those that `answer` and `boards` count.
+pub const CANCELS: [&str; 10] = [
+    "cancel refused with 11",
+    "cancel refused with 18",
+    "cancel of a held one",
+    "cancel of the favoured one",
+    "cancel of a waiter, counted",
+    "cancel of a waiter, not counted",
+    "cancel that gives",
+    "cancel that favours",
+    "cancel that favours another",
+    "cancel that admits",
+];
 
 #[derive(Default)]
 pub struct Counters {
@@ -54,6 +68,9 @@ impl Counters {
         if lines[0].starts_with(Word::Refuse.text()) {
             let number = std::str::from_utf8(&lines[0][12..15]).unwrap().trim_start();
             self.add(&format!("refusal {number}"));
+            if call.line.starts_with(b"CANCEL") {
+                self.add(&format!("cancel refused with {number}"));
+            }
         }
         self.settling(&lines);
         self.most("lines of one call", lines.len());
@@ -88,9 +105,13 @@ impl Counters {
         self.most("waiting", after.waiting.len());
         self.most("held", after.entry.len());
         self.most("leaves counted", after.leaves);
-        let left = before.admitted().len() > after.admitted().len();
+        let cancelled = cancelled(before, after);
+        if let Some(p) = cancelled {
+            self.cancel(p, before, after);
+        }
+        let left = cancelled.is_none() && before.admitted().len() > after.admitted().len();
         for (met, name) in [
-            (after.leaves > before.leaves, "leave counted"),
+            (left && after.leaves > before.leaves, "leave counted"),
             (
                 left && before.favoured == 0 && after.favoured != 0,
                 "leave that favours",
@@ -110,13 +131,45 @@ impl Counters {
         }
     }
 
+    /// Counts what a cancel of this program has done.
+    fn cancel(&mut self, p: usize, before: &Board, after: &Board) {
+        let held = before.get(p).standing == Standing::Held;
+        let runs = |p: &usize| after.get(*p).standing == Standing::Running;
+        let own = before.favoured == p;
+        self.add(match before.favoured {
+            _ if held => "cancel of a held one",
+            _ if own => "cancel of the favoured one",
+            0 => "cancel of a waiter, not counted",
+            _ => "cancel of a waiter, counted",
+        });
+        let favours = after.favoured != 0 && after.favoured != before.favoured;
+        for (met, name) in [
+            (before.waiting.iter().any(runs), "cancel that gives"),
+            (before.entry.iter().any(runs), "cancel that admits"),
+            (favours && !own, "cancel that favours"),
+            (favours && own, "cancel that favours another"),
+        ] {
+            if met {
+                self.add(name);
+            }
+        }
+    }
+
     pub fn print(&self, title: &str) {
         println!("{title}: {} calls", self.calls);
         for (name, count) in &self.counts {
-            println!("  {name:<28}{count:>9}");
+            println!("  {name:<32}{count:>9}");
         }
         for (name, count) in &self.most {
-            println!("  most {name:<23}{count:>9}");
+            println!("  most {name:<27}{count:>9}");
         }
     }
+}
+
+/// The program that a call has cancelled: no other call makes a waiting or a
+/// held program absent.
+fn cancelled(before: &Board, after: &Board) -> Option<usize> {
+    let gone = |p: &&usize| after.get(**p).standing == Standing::Absent;
+    let mut all = before.waiting.iter().chain(&before.entry);
+    all.find(gone).copied()
 }

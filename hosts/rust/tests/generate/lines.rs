@@ -116,12 +116,13 @@ fn change_count(line: &mut Vec<u8>, random: &mut Random) {
 }
 
 fn change_verb(line: &mut [u8], random: &mut Random) {
-    const VERBS: [&[u8; 6]; 12] = [
+    const VERBS: [&[u8; 6]; 18] = [
         b"ENTER ",
         b"OPEN  ",
         b"CLOSE ",
         b"DROP  ",
         b"LEAVE ",
+        b"CANCEL",
         b"enter ",
         b"OPENS ",
         b"LEAVES",
@@ -129,6 +130,11 @@ fn change_verb(line: &mut [u8], random: &mut Random) {
         b" OPEN ",
         b"DROP\0\0",
         b"ORDER ",
+        b"CANCE ",
+        b"CANCE\0",
+        b" CANCE",
+        b"cancel",
+        b"Cancel",
     ];
     if line.len() >= 6 {
         line[..6].copy_from_slice(VERBS[random.below(VERBS.len())]);

@@ -2,8 +2,15 @@
 //! once. Programs, files and sizes are random.
 
 use super::random::Random;
-use crate::model::board::only;
+use crate::model::board::{only, Files};
 use crate::model::events::Request;
+
+pub const SCRIPTS: [fn(&mut Random) -> Vec<Request>; 4] = [
+    readers_behind_writer,
+    readers_behind_waiter,
+    held_behind_favoured,
+    held_behind_cancelled,
+];
 
 /// How many programs take part; in many cases all.
 fn up_to_all(random: &mut Random) -> usize {
@@ -14,67 +21,112 @@ fn up_to_all(random: &mut Random) -> usize {
     }
 }
 
+fn writer(p: usize, v: Files) -> Request {
+    Request::Enter { p, v, q: 0 }
+}
+
+/// All enter as readers of a file and open it.
+fn open_all(readers: &[usize], f: usize) -> Vec<Request> {
+    let (v, q) = (0, only(f));
+    let both = |&p: &usize| [Request::Enter { p, v, q }, Request::Open { p, f }];
+    readers.iter().flat_map(both).collect()
+}
+
+fn leave_all(programs: &[usize]) -> Vec<Request> {
+    let leave = |&p: &usize| Request::Leave { p };
+    programs.iter().map(leave).collect()
+}
+
+/// Cancels of some of the programs.
+fn cancel_some(programs: &[usize], random: &mut Random) -> Vec<Request> {
+    let some = programs.iter().filter(|_| random.per_mille(200));
+    some.map(|&p| Request::Cancel { p }).collect()
+}
+
 /// Readers wait behind a writer, whose close or leave gives them all.
-pub fn readers_behind_writer(random: &mut Random) -> Vec<Request> {
+fn readers_behind_writer(random: &mut Random) -> Vec<Request> {
     let (programs, f) = (random.shuffled(32), random.within(1, 64));
-    let readers = &programs[1..up_to_all(random)];
-    let p = programs[0];
-    let mut requests = vec![
-        Request::Enter {
-            p,
-            v: only(f),
-            q: 0,
-        },
-        Request::Open { p, f },
-    ];
-    for &p in readers {
-        requests.push(Request::Enter {
-            p,
-            v: 0,
-            q: only(f),
-        });
-        requests.push(Request::Open { p, f });
-    }
+    let (p, readers) = (programs[0], &programs[1..up_to_all(random)]);
+    let mut requests = vec![writer(p, only(f)), Request::Open { p, f }];
+    requests.extend(open_all(readers, f));
     requests.push(if random.per_mille(500) {
         Request::Close { p, f }
     } else {
         Request::Leave { p }
     });
-    requests.extend(readers.iter().map(|&p| Request::Leave { p }));
+    requests.extend(leave_all(readers));
     requests
 }
 
-/// A program is favoured, others are held and then admitted together.
-pub fn held_behind_favoured(random: &mut Random) -> Vec<Request> {
+/// Readers wait behind a writer that waits for another file. Some of them are
+/// cancelled; the cancel of the writer gives the rest.
+fn readers_behind_waiter(random: &mut Random) -> Vec<Request> {
     let (programs, files) = (random.shuffled(32), random.shuffled(64));
-    let (p, favoured) = (programs[0], programs[1]);
+    let (p, user, readers) = (programs[0], programs[1], &programs[2..up_to_all(random)]);
+    let (f, other) = (files[0], files[1]);
+    let mut requests = vec![
+        writer(p, only(f) | only(other)),
+        Request::Open { p, f },
+        writer(user, only(other)),
+        Request::Open { p: user, f: other },
+        Request::Open { p, f: other },
+    ];
+    requests.extend(open_all(readers, f));
+    requests.extend(cancel_some(readers, random));
+    requests.push(Request::Cancel { p });
+    requests.extend(leave_all(readers));
+    requests
+}
+
+/// A program is favoured while another writes, and others are held.
+struct Held {
+    requests: Vec<Request>,
+    user: usize,
+    favoured: usize,
+    held: Vec<usize>,
+}
+
+fn held(random: &mut Random) -> Held {
+    let (programs, files) = (random.shuffled(32), random.shuffled(64));
+    let (user, favoured) = (programs[0], programs[1]);
     let (a, b, c) = (files[0], files[1], files[2]);
     let mut requests = vec![
-        Request::Enter {
-            p,
-            v: only(a) | only(b) | only(c),
-            q: 0,
-        },
-        Request::Enter {
-            p: favoured,
-            v: only(a) | only(b),
-            q: 0,
-        },
-        Request::Open { p, f: a },
-        Request::Open { p, f: c },
+        writer(user, only(a) | only(b) | only(c)),
+        writer(favoured, only(a) | only(b)),
+        Request::Open { p: user, f: a },
+        Request::Open { p: user, f: c },
         Request::Open { p: favoured, f: b },
-        Request::Close { p, f: c },
+        Request::Close { p: user, f: c },
     ];
-    let held = &programs[2..up_to_all(random)];
-    for &p in held {
-        let f = files[random.within(0, 8)];
-        requests.push(Request::Enter {
-            p,
-            v: only(f),
-            q: 0,
-        });
+    let held = programs[2..up_to_all(random)].to_vec();
+    for &p in &held {
+        requests.push(writer(p, only(files[random.within(0, 8)])));
     }
-    requests.push(Request::Leave { p });
-    requests.extend(held.iter().map(|&p| Request::Leave { p }));
-    requests
+    Held {
+        requests,
+        user,
+        favoured,
+        held,
+    }
+}
+
+/// The leave of the one that writes gives the favoured one its file, and the
+/// held are admitted together.
+fn held_behind_favoured(random: &mut Random) -> Vec<Request> {
+    let mut script = held(random);
+    script.requests.push(Request::Leave { p: script.user });
+    script.requests.extend(leave_all(&script.held));
+    script.requests
+}
+
+/// Some of the held are cancelled; the cancel of the favoured one admits the
+/// rest together.
+fn held_behind_cancelled(random: &mut Random) -> Vec<Request> {
+    let mut script = held(random);
+    let cancelled = cancel_some(&script.held, random);
+    script.requests.extend(cancelled);
+    let p = script.favoured;
+    script.requests.push(Request::Cancel { p });
+    script.requests.extend(leave_all(&script.held));
+    script.requests
 }

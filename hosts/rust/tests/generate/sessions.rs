@@ -13,10 +13,10 @@ pub struct Profile {
     /// Least and most files of V and of Q.
     pub v: (usize, usize),
     pub q: (usize, usize),
-    /// Weights of enter, open, close, drop, leave while the board fills and
-    /// while it drains.
-    pub fill: [usize; 5],
-    pub drain: [usize; 5],
+    /// Weights of enter, open, close, drop, leave, cancel while the board fills
+    /// and while it drains.
+    pub fill: [usize; 6],
+    pub drain: [usize; 6],
     /// Requests per mille that take no look at the board.
     pub wild: usize,
     /// Lines per mille that are damaged.
@@ -24,9 +24,9 @@ pub struct Profile {
     pub length: usize,
 }
 
-const STEADY: [usize; 5] = [3, 8, 3, 1, 1];
-const FILL: [usize; 5] = [8, 12, 1, 1, 0];
-const DRAIN: [usize; 5] = [2, 4, 6, 2, 6];
+const STEADY: [usize; 6] = [6, 16, 6, 2, 2, 2];
+const FILL: [usize; 6] = [16, 24, 2, 2, 0, 1];
+const DRAIN: [usize; 6] = [4, 8, 12, 4, 12, 4];
 
 macro_rules! profile {
     ($name:literal, $programs:literal, $files:literal, $v:expr, $q:expr, $fill:expr, $drain:expr,
@@ -58,7 +58,7 @@ pub const PROFILES: &[Profile] = &[
         (2, 5),
         (0, 3),
         FILL,
-        [8, 6, 2, 1, 5],
+        [16, 12, 4, 2, 10, 4],
         10,
         10,
         400
@@ -148,6 +148,12 @@ impl<'a> Cast<'a> {
             let (v, q) = self.claims(random);
             return Some(Request::Enter { p, v, q });
         }
+        if kind == 5 {
+            let all = [&board.waiting[..], &board.entry].concat();
+            return Some(Request::Cancel {
+                p: random.pick(&all)?,
+            });
+        }
         let files = |program: &Program| match kind {
             1 | 3 => program.claim() & !program.open(),
             2 => program.open(),
@@ -178,7 +184,7 @@ impl<'a> Cast<'a> {
             &claim
         };
         let f = files[random.below(files.len())];
-        match random.below(5) {
+        match random.below(6) {
             0 => Request::Enter {
                 p,
                 v: only(f),
@@ -187,6 +193,7 @@ impl<'a> Cast<'a> {
             1 => Request::Close { p, f },
             2 => Request::Drop { p, f },
             3 if random.per_mille(200) => Request::Leave { p },
+            4 if random.per_mille(400) => Request::Cancel { p },
             _ => Request::Open { p, f },
         }
     }
@@ -209,7 +216,7 @@ impl<'a> Cast<'a> {
 /// A request in range that takes no look at the board. V and Q may meet.
 pub fn wild(random: &mut Random) -> Request {
     let (p, f) = (random.within(1, 32), random.within(1, 64));
-    match random.below(6) {
+    match random.below(7) {
         0 => Request::Enter {
             p,
             v: random.next() & random.next(),
@@ -223,6 +230,7 @@ pub fn wild(random: &mut Random) -> Request {
         2 => Request::Open { p, f },
         3 => Request::Close { p, f },
         4 => Request::Drop { p, f },
-        _ => Request::Leave { p },
+        5 => Request::Leave { p },
+        _ => Request::Cancel { p },
     }
 }

@@ -10,7 +10,7 @@ use crate::model::writer::Writing;
 /// Verbs, numbers in range in most cases, claims and a label. What the verb
 /// does not use may be anything.
 pub fn writing(random: &mut Random) -> Writing {
-    let verb = random.weighted(&[0, 8, 2, 2, 2, 2]);
+    let verb = random.weighted(&[0, 8, 2, 2, 2, 2, 2]);
     let program = random.within(1, PROGRAMS);
     let file = random.within(1, FILES);
     let [verb, program, file] = [verb, program, file].map(|number| match random.below(8) {

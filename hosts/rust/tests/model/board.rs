@@ -112,6 +112,11 @@ impl Board {
         self.which(Program::admitted)
     }
 
+    /// "The last two are 0 when nobody is favoured."
+    pub fn favour_nobody(&mut self) {
+        (self.favoured, self.number, self.leaves) = (0, 0, 0);
+    }
+
     /// Whether, with f given to p, another program and p would conflict.
     pub fn conflicting_use(&self, p: usize, f: usize) -> bool {
         let given = self.get(p).given(f);

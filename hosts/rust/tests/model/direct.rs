@@ -74,10 +74,13 @@ fn carried(board: &Board) -> Vec<usize> {
     order::carried(board).expect("a sound board has an order")
 }
 
-/// "Program or file out of range"; enter and leave have no file.
+/// "Program or file out of range"; enter, leave and cancel have no file.
 pub fn out_of_range(request: &Request) -> bool {
     let (p, f) = request.numbers();
-    let has_file = !matches!(request, Request::Enter { .. } | Request::Leave { .. });
+    let has_file = matches!(
+        request,
+        Request::Open { .. } | Request::Close { .. } | Request::Drop { .. }
+    );
     !(1..=PROGRAMS).contains(&p) || has_file && !(1..=FILES).contains(&f)
 }
 

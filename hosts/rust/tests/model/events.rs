@@ -1,5 +1,5 @@
 //! "Events": the five calls with their refusals 9 to 16, of programs and files
-//! in range.
+//! in range; and document 02's sixth, cancel, with its refusal 18.
 
 use super::board::{only, Board, Files, Program, Standing};
 use super::journal::{Entry, Word};
@@ -12,13 +12,14 @@ pub enum Request {
     Close { p: usize, f: usize },
     Drop { p: usize, f: usize },
     Leave { p: usize },
+    Cancel { p: usize },
 }
 
 impl Request {
     /// The program, and the file or 0.
     pub fn numbers(&self) -> (usize, usize) {
         match *self {
-            Request::Enter { p, .. } | Request::Leave { p } => (p, 0),
+            Request::Enter { p, .. } | Request::Leave { p } | Request::Cancel { p } => (p, 0),
             Request::Open { p, f } | Request::Close { p, f } | Request::Drop { p, f } => (p, f),
         }
     }
@@ -34,6 +35,9 @@ pub fn refusal(board: &Board, request: &Request) -> Option<usize> {
             Standing::Absent => Some(10),
             _ => Some(9),
         };
+    }
+    if let Request::Cancel { .. } = request {
+        return refusal_of_cancel(program.standing);
     }
     match program.standing {
         Standing::Absent => return Some(11),
@@ -53,6 +57,16 @@ pub fn refusal(board: &Board, request: &Request) -> Option<usize> {
         }
         Request::Close { .. } if program.open() & only(f) == 0 => Some(16),
         _ => None,
+    }
+}
+
+/// "It refuses a cancel of a running program with 18, after 11; 12 and 13 don't
+/// apply to it."
+fn refusal_of_cancel(standing: Standing) -> Option<usize> {
+    match standing {
+        Standing::Absent => Some(11),
+        Standing::Running => Some(18),
+        Standing::Waiting(_) | Standing::Held => None,
     }
 }
 
@@ -105,7 +119,7 @@ fn open(board: &mut Board, p: usize, f: usize) -> Entry {
     Entry::new(word, p, f)
 }
 
-/// Close, drop and leave: DONE, then settle.
+/// Close, drop, leave and cancel: DONE, then settle.
 fn release(board: &mut Board, request: &Request) -> Vec<Entry> {
     let (p, f) = request.numbers();
     match request {
@@ -117,12 +131,34 @@ fn release(board: &mut Board, request: &Request) -> Vec<Entry> {
             board.get_mut(p).v &= !only(f);
             board.get_mut(p).q &= !only(f);
         }
+        Request::Cancel { .. } => cancel(board, p),
         _ => {
             *board.get_mut(p) = Program::ABSENT;
-            board.leaves += usize::from(board.favoured != 0);
+            count_leave(board);
         }
     }
     let mut lines = vec![Entry::new(Word::Done, p, f)];
     lines.extend(settle(board));
     lines
+}
+
+/// "The leave is counted if somebody was favoured before it"; 02's cancel may
+/// count as one.
+fn count_leave(board: &mut Board) {
+    board.leaves += usize::from(board.favoured != 0);
+}
+
+/// "The program goes with its files and claims". "A cancelled favoured program
+/// is favoured no longer. Otherwise a cancel of an admitted program counts as a
+/// leave ..; a cancel of a held one counts nowhere."
+fn cancel(board: &mut Board, p: usize) {
+    let admitted = board.get(p).admitted();
+    *board.get_mut(p) = Program::ABSENT;
+    board.waiting.retain(|&other| other != p);
+    board.entry.retain(|&other| other != p);
+    if board.favoured == p {
+        board.favour_nobody();
+    } else if admitted {
+        count_leave(board);
+    }
 }

@@ -14,27 +14,35 @@ fn number(field: &[u8], low: usize, high: usize) -> Result<usize, usize> {
     }
 }
 
-/// The request of a line, or its refusal.
+/// The request of a line, or its refusal. Document 02: "CANCEL is a sixth verb,
+/// with a 9-byte line."
 pub fn read(line: &[u8]) -> Result<Request, usize> {
-    let verb = line.get(..6).ok_or(3usize)?;
-    match verb {
-        b"ENTER " => return enter(line),
-        b"OPEN  " | b"CLOSE " | b"DROP  " | b"LEAVE " => {}
-        _ => return Err(3),
+    match line.get(..6).ok_or(3usize)? {
+        b"ENTER " => enter(line),
+        b"OPEN  " => program_and_file(line).map(|(p, f)| Request::Open { p, f }),
+        b"CLOSE " => program_and_file(line).map(|(p, f)| Request::Close { p, f }),
+        b"DROP  " => program_and_file(line).map(|(p, f)| Request::Drop { p, f }),
+        b"LEAVE " => program(line).map(|p| Request::Leave { p }),
+        b"CANCEL" => program(line).map(|p| Request::Cancel { p }),
+        _ => Err(3),
     }
-    if line.len() != if verb == b"LEAVE " { 9 } else { 12 } {
+}
+
+/// The program of a line of 9 bytes.
+fn program(line: &[u8]) -> Result<usize, usize> {
+    if line.len() != 9 {
+        return Err(4);
+    }
+    number(&line[6..9], 1, PROGRAMS)
+}
+
+/// The program and the file of a line of 12 bytes.
+fn program_and_file(line: &[u8]) -> Result<(usize, usize), usize> {
+    if line.len() != 12 {
         return Err(4);
     }
     let p = number(&line[6..9], 1, PROGRAMS)?;
-    if verb == b"LEAVE " {
-        return Ok(Request::Leave { p });
-    }
-    let f = number(&line[9..12], 1, FILES)?;
-    Ok(match verb {
-        b"OPEN  " => Request::Open { p, f },
-        b"CLOSE " => Request::Close { p, f },
-        _ => Request::Drop { p, f },
-    })
+    Ok((p, number(&line[9..12], 1, FILES)?))
 }
 
 /// ENTER, left to right: program, label, w, r, then the length, then the files.
@@ -87,13 +95,15 @@ pub fn label(line: &[u8]) -> &[u8] {
 
 /// The line of a request; the label is used for ENTER only.
 pub fn write(request: &Request, label: &[u8]) -> Vec<u8> {
-    let (verb, (p, f)) = match request {
-        Request::Enter { .. } => (b"ENTER ", request.numbers()),
-        Request::Open { .. } => (b"OPEN  ", request.numbers()),
-        Request::Close { .. } => (b"CLOSE ", request.numbers()),
-        Request::Drop { .. } => (b"DROP  ", request.numbers()),
-        Request::Leave { .. } => (b"LEAVE ", request.numbers()),
+    let verb = match request {
+        Request::Enter { .. } => b"ENTER ",
+        Request::Open { .. } => b"OPEN  ",
+        Request::Close { .. } => b"CLOSE ",
+        Request::Drop { .. } => b"DROP  ",
+        Request::Leave { .. } => b"LEAVE ",
+        Request::Cancel { .. } => b"CANCEL",
     };
+    let (p, f) = request.numbers();
     let mut line = verb.to_vec();
     line.extend(columns(p));
     if let Request::Enter { v, q, .. } = *request {

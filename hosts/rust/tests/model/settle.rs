@@ -36,7 +36,7 @@ fn give_waiters(board: &mut Board) -> Vec<Entry> {
             board.get_mut(p).standing = Standing::Running;
             board.waiting.retain(|&other| other != p);
             if board.favoured == p {
-                (board.favoured, board.number, board.leaves) = (0, 0, 0);
+                board.favour_nobody();
             }
             lines.push(Entry::new(Word::Given, p, f));
         }

@@ -6,8 +6,8 @@ use super::direct::out_of_range;
 use super::events::Request;
 use super::line;
 
-/// 01's verbs; their numbers are 1 to 5.
-pub const VERBS: [&str; 5] = ["ENTER", "OPEN", "CLOSE", "DROP", "LEAVE"];
+/// 01's verbs and 02's; their numbers are 1 to 6.
+pub const VERBS: [&str; 6] = ["ENTER", "OPEN", "CLOSE", "DROP", "LEAVE", "CANCEL"];
 
 /// What the writer is handed besides the buffer.
 #[derive(Clone, PartialEq, Debug)]
@@ -29,6 +29,7 @@ impl Writing {
             Request::Close { .. } => (3, 0, 0),
             Request::Drop { .. } => (4, 0, 0),
             Request::Leave { .. } => (5, 0, 0),
+            Request::Cancel { .. } => (6, 0, 0),
         };
         let (p, f) = request.numbers();
         Writing {
@@ -52,6 +53,7 @@ impl Writing {
             3 => Ok(Request::Close { p, f }),
             4 => Ok(Request::Drop { p, f }),
             5 => Ok(Request::Leave { p }),
+            6 => Ok(Request::Cancel { p }),
             _ => Err(3),
         }
     }
