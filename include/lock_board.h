@@ -9,7 +9,7 @@
 extern "C" {
 #endif
 
-#define LOCK_BOARD_VERSION "1.1.0" /* the image's form belongs to it; see CHANGELOG.md */
+#define LOCK_BOARD_VERSION "1.2.0" /* the image's form belongs to it; see CHANGELOG.md */
 
 #define LOCK_BOARD_IMAGE_LEN     1155 /* bytes of a board's image */
 #define LOCK_BOARD_JOURNAL_ROOM  512  /* bytes of journal that a call asks for from its place on */
@@ -36,8 +36,8 @@ extern "C" {
 
 /*
  * The numbers of the refusals; docs/REFUSALS.md has the words.
- * 1, 2 and 17 come as answers, 3 to 7 and 9 to 16 in a REFUSE line of the
- * journal; lock_board_write answers 3, 6, 8 and 17. 8 never comes from a
+ * 1, 2 and 17 come as answers, 3 to 7, 9 to 16 and 18 in a REFUSE line of
+ * the journal; lock_board_write answers 3, 6, 8 and 17. 8 never comes from a
  * request line.
  */
 enum lock_board_refusal {
@@ -57,7 +57,8 @@ enum lock_board_refusal {
     LOCK_BOARD_REFUSAL_NOT_CLAIMED = 14,
     LOCK_BOARD_REFUSAL_IS_OPEN = 15,
     LOCK_BOARD_REFUSAL_NOT_OPEN = 16,
-    LOCK_BOARD_REFUSAL_BUFFER_SHORT = 17
+    LOCK_BOARD_REFUSAL_BUFFER_SHORT = 17,
+    LOCK_BOARD_REFUSAL_IS_RUNNING = 18
 };
 
 /*
@@ -78,7 +79,7 @@ enum lock_board_refusal {
 #define LOCK_BOARD_ENTRY_LINE   1120 /* the line of those that are held at entry */
 #define LOCK_BOARD_FAVOURED     1152 /* one byte, the favoured program or 0 */
 #define LOCK_BOARD_AT_FAVOURING 1153 /* one byte, the number admitted when it was favoured */
-#define LOCK_BOARD_LEAVES       1154 /* one byte, the leaves counted since */
+#define LOCK_BOARD_LEAVES       1154 /* one byte, the leaves since, cancels of waiters among them */
 
 enum lock_board_standing {
     LOCK_BOARD_ABSENT = 0,
@@ -93,7 +94,8 @@ enum lock_board_verb {
     LOCK_BOARD_OPEN = 2,
     LOCK_BOARD_CLOSE = 3,
     LOCK_BOARD_DROP = 4,
-    LOCK_BOARD_LEAVE = 5
+    LOCK_BOARD_LEAVE = 5,
+    LOCK_BOARD_CANCEL = 6
 };
 
 /* Where the numbers of a journal line begin, three columns each; its word begins at 0. */
@@ -125,8 +127,8 @@ uint64_t lock_board_empty(uint8_t *image, size_t image_len);
  * from the place on, and answers the new place, after the last of them.
  *
  * The image then holds the board after the call. After a refusal it has the
- * same bytes as before; refusals 3 to 16 write one REFUSE line. Journal bytes
- * outside the written lines keep their contents.
+ * same bytes as before; refusals 3 to 16 and 18 write one REFUSE line. Journal
+ * bytes outside the written lines keep their contents.
  *
  * LOCK_BOARD_UNSOUND: the image is not LOCK_BOARD_IMAGE_LEN bytes, not of its
  * layout, or its board is not sound. Nothing is written.
@@ -162,7 +164,7 @@ uint64_t lock_board_order(const uint8_t *image, size_t image_len, uint8_t *order
  * lock_board_line refuses that line with 10.
  *
  * A refusal writes nothing. The first that applies is the answer:
- * LOCK_BOARD_NO_VERB: verb is not 1 to 5.
+ * LOCK_BOARD_NO_VERB: verb is not 1 to 6.
  * LOCK_BOARD_OUT_OF_RANGE: program is not 1 to LOCK_BOARD_PROGRAMS, or, for
  * OPEN, CLOSE and DROP, file is not 1 to LOCK_BOARD_FILES.
  * LOCK_BOARD_BAD_LABEL: for ENTER, label_len is not LOCK_BOARD_LABEL_LEN, or a

@@ -55,5 +55,5 @@ int has_in_conflicting_use(const struct board_view *view, int i, int p) {
     return i != p && in_conflict(&view->programs[i], &given);
 }
 
-/* It gets its file with the leave that brings the leaves to the number at favouring less one. */
+/* At the latest with the leave that brings the leaves to the number at favouring less one. */
 int leaves_to_come(const struct board_view *view) { return view->at_favouring - 1 - view->leaves; }

@@ -44,7 +44,10 @@ uint64_t holds_back_in(const struct program_view *i, const struct program_view *
  */
 int has_in_conflicting_use(const struct board_view *view, int i, int p);
 
-/* The leaves that are still to come, at most, until the favoured program gets its file. */
+/*
+ * The leaves that are still to come, at most, until the favoured program gets its
+ * file. A cancel of another waiter counts as a leave.
+ */
 int leaves_to_come(const struct board_view *view);
 
 #endif

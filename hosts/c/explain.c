@@ -8,7 +8,7 @@
 
 /* Columns of a request line, counted from 0. */
 enum { PROGRAM_AT = 6, FILE_AT = 9, LABEL_AT = 9, WRITE_COUNT_AT = 17, READ_COUNT_AT = 20 };
-enum { LEAVE_LEN = 9, FILE_LEN = 12, ENTER_LEN = 23, NUMBER_LEN = 3, VERB_LEN = 6 };
+enum { PROGRAM_LEN = 9, FILE_LEN = 12, ENTER_LEN = 23, NUMBER_LEN = 3, VERB_LEN = 6 };
 
 /* A refused line. */
 struct refused {
@@ -33,8 +33,15 @@ static int number_at(const uint8_t *columns) {
     return memcmp(form, columns, NUMBER_LEN) == 0 ? number : -1;
 }
 
-/* Whether a line is of this verb; verbs differ in their first byte. */
-static int is_verb(const struct refused *r, char first) { return r->line[0] == (uint8_t)first; }
+/* Whether a line, not refused with 3, is of this verb. */
+static int is_verb(const uint8_t *line, const char *verb) {
+    return memcmp(line, verb, strlen(verb)) == 0;
+}
+
+/* LEAVE and CANCEL: the program goes, and the line ends with its number. */
+static int removes_program(const uint8_t *line) {
+    return is_verb(line, "LEAVE") || is_verb(line, "CANCEL");
+}
 
 /* ---- refusals 3 to 7: what is wrong in the line */
 
@@ -45,19 +52,22 @@ static void explain_verb(struct text *text, const struct refused *r) {
     }
     say(text, r->len < VERB_LEN ? "the line has only \"" : "columns 1-6 have \"");
     say_bytes(text, r->line, r->len < VERB_LEN ? r->len : VERB_LEN);
-    say(text, "\", not ENTER, OPEN, CLOSE, DROP or LEAVE with blanks up to column 6");
+    say(text, "\", not ENTER, OPEN, CLOSE, DROP, LEAVE or CANCEL, with blanks up to column 6");
 }
 
 static void explain_length(struct text *text, const struct refused *r) {
+    size_t verb_len = VERB_LEN;
+    while (r->line[verb_len - 1] == ' ')
+        verb_len--;
     if (r->len > LOCK_BOARD_LONGEST_LINE)
         say(text, "the line goes beyond column %d", LOCK_BOARD_LONGEST_LINE);
     else
         say(text, "the line ends with column %d%s", (int)r->len,
             r->line[r->len - 1] == '\r' ? ", a carriage return" : "");
     say(text, "; ");
-    say_bytes(text, r->line, r->line[4] == ' ' ? 4 : 5);
-    if (!is_verb(r, 'E'))
-        say(text, " ends with column %d", is_verb(r, 'L') ? LEAVE_LEN : FILE_LEN);
+    say_bytes(text, r->line, verb_len);
+    if (!is_verb(r->line, "ENTER"))
+        say(text, " ends with column %d", removes_program(r->line) ? PROGRAM_LEN : FILE_LEN);
     else if (r->len < ENTER_LEN)
         say(text, " goes up to column %d at least", ENTER_LEN);
     else {
@@ -81,7 +91,7 @@ static struct field field_of(const struct refused *r, size_t n) {
     struct field file = {FILE_AT, "file", 1, LOCK_BOARD_FILES};
     if (n == 0)
         return program;
-    if (!is_verb(r, 'E'))
+    if (!is_verb(r->line, "ENTER"))
         file.at += NUMBER_LEN * (n - 1);
     else if (n < 3)
         return n == 1 ? write : read;
@@ -128,22 +138,34 @@ static void explain_rising(struct text *text, const struct refused *r) {
     }
 }
 
-/* ---- refusals 9 to 16: what was asked, and what stands */
+/* ---- refusals 9 to 16 and 18: what was asked, and what stands */
 
-/* `BILLS asked for file 2`, `asked to enter as BILLS` */
+/* `BILLS asked for file 2`, `asked to enter as BILLS`, `asked to cancel BILLS` */
 static void say_asked(struct text *text, const struct refused *r) {
-    if (is_verb(r, 'E')) {
+    if (is_verb(r->line, "ENTER")) {
         say(text, "asked to enter");
         say_label(text, " as ", r->line + LABEL_AT, 1, "");
         return;
     }
+    if (is_verb(r->line, "CANCEL")) {
+        say(text, "asked to cancel");
+        say_label(text, " ", r->labels, r->program, "");
+        return;
+    }
     say_label(text, "", r->labels, r->program, " ");
-    if (is_verb(r, 'L'))
+    if (is_verb(r->line, "LEAVE"))
         say(text, "asked to leave");
-    else if (is_verb(r, 'O'))
+    else if (is_verb(r->line, "OPEN"))
         say(text, "asked for file %d", r->file);
     else
-        say(text, "asked to %s file %d", is_verb(r, 'C') ? "close" : "drop", r->file);
+        say(text, "asked to %s file %d", is_verb(r->line, "CLOSE") ? "close" : "drop", r->file);
+}
+
+/* The advice of docs/REFUSALS.md to whoever would remove a program with the wrong verb. */
+static void say_remedy(struct text *text, const struct refused *r, const char *standing,
+                       const char *verb) {
+    if (removes_program(r->line))
+        say(text, "; a %s program that has died is removed with %s", standing, verb);
 }
 
 /* `program 2 (BILLS) runs` */
@@ -193,10 +215,12 @@ static void explain_held(struct text *text, const struct refused *r) {
     say_programs(text, r->labels, favoured);
     say(text, " is favoured and ");
     say_wait(text, r->labels, r->view, r->view->favoured);
+    say_remedy(text, r, "held", "CANCEL");
 }
 
 static void explain_waiting(struct text *text, const struct refused *r) {
     say_wait(text, r->labels, r->view, r->program);
+    say_remedy(text, r, "waiting", "CANCEL");
 }
 
 /* The advice of docs/REFUSALS.md. A drop needs none. */
@@ -204,13 +228,18 @@ static void explain_not_claimed(struct text *text, const struct refused *r) {
     const struct program_view *program = &r->view->programs[r->program];
     say(text, program->write_claim || program->read_claim ? "may " : "claims no file");
     say_uses(text, "write", program->write_claim, "read", program->read_claim);
-    if (is_verb(r, 'O'))
+    if (is_verb(r->line, "OPEN"))
         say(text, "; add the file to the claim list; to get it, the program leaves and enters again"
                   " with the longer list");
 }
 
 static void explain_open(struct text *text, const struct refused *r) {
     say_open(text, &r->view->programs[r->program]);
+}
+
+static void explain_running(struct text *text, const struct refused *r) {
+    explain_open(text, r);
+    say_remedy(text, r, "running", "LEAVE");
 }
 
 /* ---- all refusals */
@@ -231,14 +260,15 @@ static explanation *const explanations[] = {
     [LOCK_BOARD_REFUSAL_NOT_CLAIMED] = explain_not_claimed,
     [LOCK_BOARD_REFUSAL_IS_OPEN] = explain_open,
     [LOCK_BOARD_REFUSAL_NOT_OPEN] = explain_open,
+    [LOCK_BOARD_REFUSAL_IS_RUNNING] = explain_running,
 };
 
-/* Keeps the label of a program that has entered, and forgets that of one that has left. */
+/* Keeps the label of a program that has entered, and forgets that of one that is gone. */
 static void keep_label(uint8_t *labels, const uint8_t *line, int program) {
     uint8_t *label = labels + (program - 1) * LOCK_BOARD_LABEL_LEN;
-    if (line[0] == 'E')
+    if (is_verb(line, "ENTER"))
         memcpy(label, line + LABEL_AT, LOCK_BOARD_LABEL_LEN);
-    else if (line[0] == 'L')
+    else if (removes_program(line))
         memset(label, 0, LOCK_BOARD_LABEL_LEN);
 }
 

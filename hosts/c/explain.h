@@ -11,14 +11,14 @@
  * To be called after each line that was served, with its number in the session,
  * the image after it, the line and its journal.
  *
- * If the line was refused with 3 to 16, writes what the operator is to see into
- * the text, one line without its byte 10: `line N: refusal R: WORDS (program P,
- * file F)`, as refusal_text does, and then what helps. Answers its length. Bytes
- * of the request outside 32 to 126 are shown as `?`. If the line was not
- * refused, the answer is 0.
+ * If the journal has a refusal, writes what the operator is to see into the
+ * text, one line without its byte 10: `line N: refusal R: WORDS (program P, file
+ * F)`, as refusal_text does, and then what helps. Answers its length. Bytes of
+ * the request outside 32 to 126 are shown as `?`. If the line was not refused,
+ * the answer is 0.
  *
  * Keeps the labels, EXPLAIN_LABELS_LEN bytes, which begin as zeros: that of a
- * program whose ENTER was served, until it has left.
+ * program whose ENTER was served, until it has left or was cancelled.
  */
 size_t explain_answer(char *text, size_t text_len, unsigned long number, const uint8_t *image,
                       uint8_t *labels, const uint8_t *line, size_t line_len,

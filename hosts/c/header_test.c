@@ -35,6 +35,19 @@ static void test_refused(const char *what, uint64_t answer, uint64_t name, int r
         fail(what);
 }
 
+/* The REFUSE line of a cancel of a running program has the number of its name. */
+static void test_running(uint8_t *image, uint8_t *journal) {
+    static const char *const requests[] = {"ENTER   7LABEL     0  0", "CANCEL  7"};
+    char number[4];
+    for (int i = 0; i < 2; i++)
+        lock_board_line(image, LOCK_BOARD_IMAGE_LEN, (const uint8_t *)requests[i],
+                        strlen(requests[i]), journal, LOCK_BOARD_JOURNAL_ROOM, 0);
+    snprintf(number, sizeof number, "%3d", LOCK_BOARD_REFUSAL_IS_RUNNING);
+    if (memcmp(journal, "REFUSE  7  0", LOCK_BOARD_JOURNAL_REFUSAL) != 0 ||
+        memcmp(journal + LOCK_BOARD_JOURNAL_REFUSAL, number, 3) != 0)
+        fail("running");
+}
+
 int main(void) {
     uint8_t image[LOCK_BOARD_IMAGE_LEN], journal[LOCK_BOARD_JOURNAL_ROOM];
     test_verb(LOCK_BOARD_ENTER, "ENTER   7LABEL     2  1  1 64  2");
@@ -42,7 +55,8 @@ int main(void) {
     test_verb(LOCK_BOARD_CLOSE, "CLOSE   7  9");
     test_verb(LOCK_BOARD_DROP, "DROP    7  9");
     test_verb(LOCK_BOARD_LEAVE, "LEAVE   7");
-    test_refused("no verb", write_line(LOCK_BOARD_LEAVE + 1, "", sizeof line), LOCK_BOARD_NO_VERB,
+    test_verb(LOCK_BOARD_CANCEL, "CANCEL  7");
+    test_refused("no verb", write_line(LOCK_BOARD_CANCEL + 1, "", sizeof line), LOCK_BOARD_NO_VERB,
                  LOCK_BOARD_REFUSAL_NO_VERB, 3);
     test_refused("bad label", write_line(LOCK_BOARD_ENTER, "LABEL", sizeof line),
                  LOCK_BOARD_BAD_LABEL, LOCK_BOARD_REFUSAL_BAD_LABEL, 6);
@@ -57,5 +71,6 @@ int main(void) {
     test_refused("journal full",
                  lock_board_line(image, sizeof image, line, 0, journal, sizeof journal, 1),
                  LOCK_BOARD_JOURNAL_FULL, LOCK_BOARD_REFUSAL_JOURNAL_FULL, 2);
+    test_running(image, journal);
     return 0;
 }

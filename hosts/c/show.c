@@ -80,12 +80,15 @@ static void show_waiting(const struct board_view *view) {
     }
 }
 
+/* `Favoured: program 2 (gets file 1 after at most 3 leaves or waiters' cancels)` */
 static void show_favoured(const struct board_view *view) {
+    const int leaves = leaves_to_come(view);
     if (!view->favoured)
         puts("Favoured: nobody");
     else
-        printf("Favoured: program %d (leaves until it gets file %d: at most %d)\n", view->favoured,
-               view->programs[view->favoured].awaited, leaves_to_come(view));
+        printf("Favoured: program %d (gets file %d after at most %d %s)\n", view->favoured,
+               view->programs[view->favoured].awaited, leaves,
+               leaves == 1 ? "leave or waiter's cancel" : "leaves or waiters' cancels");
 }
 
 /* `NAME: programs 1, 2`: the programs of a list that ends with 0. */

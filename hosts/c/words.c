@@ -23,6 +23,7 @@ static const char *const words[] = {
     [LOCK_BOARD_REFUSAL_IS_OPEN] = "The program has the file open",
     [LOCK_BOARD_REFUSAL_NOT_OPEN] = "The program does not have the file open",
     [LOCK_BOARD_REFUSAL_BUFFER_SHORT] = "The buffer is shorter than the result",
+    [LOCK_BOARD_REFUSAL_IS_RUNNING] = "The program is running",
 };
 
 const char *refusal_words(int refusal) {

@@ -22,6 +22,7 @@
            PERFORM TEST-BITS
            PERFORM TEST-WRITE
            PERFORM TEST-WRITE-REFUSALS
+           PERFORM TEST-CANCEL
            PERFORM TEST-REFUSALS
            STOP RUN.
 
@@ -210,9 +211,12 @@
            SET LB-CALL-LEAVE TO TRUE
            MOVE "LEAVE  12" TO EXPECTED-LINE
            MOVE 9 TO EXPECTED-LEN
+           PERFORM WRITE-AND-COMPARE
+           SET LB-CALL-CANCEL TO TRUE
+           MOVE "CANCEL 12" TO EXPECTED-LINE
            PERFORM WRITE-AND-COMPARE.
 
-      * The call is a leave of program 12.
+      * The call is a cancel of program 12.
        TEST-WRITE-REFUSALS.
            MOVE "refusals of written lines" TO TESTED
            MOVE 8 TO LB-REQUEST-ROOM
@@ -233,13 +237,39 @@
            IF NOT LB-WRITE-BAD-LABEL
                PERFORM FAIL
            END-IF
-           MOVE 6 TO LB-CALL-VERB
+           MOVE 7 TO LB-CALL-VERB
            PERFORM ASK-WRITE
            IF NOT LB-WRITE-NO-VERB
                PERFORM FAIL
            END-IF
            COMPUTE LB-REFUSAL = 0 - LB-ANSWER
            IF NOT LB-NO-VERB OR LB-REQUEST NOT = ALL X"FF"
+               PERFORM FAIL
+           END-IF.
+
+      * 2 waits and is favoured, 3 is held, 1 runs. The line for 2 is
+      * a written one, that for 1 is made with the items.
+       TEST-CANCEL.
+           MOVE "CANCEL" TO TESTED
+           SET LB-CALL-CANCEL TO TRUE
+           MOVE 2 TO LB-CALL-PROGRAM
+           PERFORM ASK-WRITE
+           MOVE LB-ANSWER TO LB-REQUEST-LEN
+           PERFORM ASK
+           IF LB-ANSWER NOT = 32
+                   OR LB-COLUMNS (1) NOT = "DONE    2  0  0"
+                   OR LB-COLUMNS (2) NOT = "ADMIT   3  0  0"
+                   OR NOT LB-ABSENT (2) OR LB-WRITE-CLAIM (2) NOT = 0
+                   OR NOT LB-RUNNING (3) OR LB-FAVOURED NOT = 0
+                   OR LB-AT-FAVOURING NOT = 0 OR LB-LEAVES NOT = 0
+               PERFORM FAIL
+           END-IF
+           SET LB-VERB-CANCEL TO TRUE
+           MOVE 1 TO LB-REQ-PROGRAM
+           MOVE 9 TO LB-REQUEST-LEN
+           PERFORM ASK
+           MOVE LB-JNL-REFUSAL (1) TO LB-REFUSAL
+           IF NOT LB-REFUSE (1) OR NOT LB-IS-RUNNING
                PERFORM FAIL
            END-IF.
 

@@ -92,8 +92,8 @@ impl Board {
 
     /// Serves one request line, given without its byte 10.
     ///
-    /// A refusal with 3 to 16 is a reply too, with one REFUSE line. An error never comes from a
-    /// board that was made by [`new`](Board::new) or [`from_image`](Board::from_image).
+    /// A refusal with 3 to 16 or 18 is a reply too, with one REFUSE line. An error never comes from
+    /// a board that was made by [`new`](Board::new) or [`from_image`](Board::from_image).
     pub fn serve(&mut self, line: &[u8]) -> Result<Reply, Error> {
         let mut journal = vec![0; JOURNAL_ROOM];
         match entry::line(&mut self.image, line, &mut journal, 0) {

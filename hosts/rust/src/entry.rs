@@ -126,7 +126,7 @@ pub fn order(image: &[u8], order: &mut [u8]) -> u64 {
 /// assert_eq!(entry::write(Verb::Enter.number(), 2, 0, 2, 1, b"ORDERS  ", &mut line), 29);
 /// assert_eq!(&line[..30], b"ENTER   2ORDERS    1  1  2  1\0");
 /// assert_eq!(entry::write(Verb::Leave.number(), 2, 0, 0, 0, b"", &mut line[..8]), entry::BUFFER_SHORT);
-/// assert_eq!(entry::write(6, 2, 0, 0, 0, b"", &mut line), entry::NO_VERB);
+/// assert_eq!(entry::write(7, 2, 0, 0, 0, b"", &mut line), entry::NO_VERB);
 /// ```
 pub fn write(
     verb: u64,

@@ -13,7 +13,7 @@ pub enum Word {
     Wait,
     /// The program waits: with the file given there would be no completion order.
     Unsafe,
-    /// The close, drop or leave is done.
+    /// The close, drop, leave or cancel is done.
     Done,
     /// The waiting program is favoured.
     Favour,
@@ -70,7 +70,7 @@ impl Line {
     pub fn read(bytes: &[u8; JOURNAL_LINE]) -> Option<Line> {
         let refusal = match number(&bytes[12..15])? {
             0 => None,
-            n @ 3..=16 => Some(Refusal::from_number(n)?),
+            n @ (3..=16 | 18) => Some(Refusal::from_number(n)?),
             _ => return None, // the others come in no line
         };
         let word = Word::read(&bytes[..6])?;

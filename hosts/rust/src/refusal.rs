@@ -4,6 +4,7 @@ use std::fmt;
 /// Why a request was refused. `docs/REFUSALS.md` says what to do about each.
 #[derive(Clone, Copy, Debug, PartialEq, Eq, Hash)]
 #[repr(u8)]
+#[non_exhaustive]
 pub enum Refusal {
     /// The board is not sound, or the image is not 1,155 bytes or not of its layout.
     NotSound = 1,
@@ -39,11 +40,13 @@ pub enum Refusal {
     NotOpen,
     /// The buffer for an order or a line is shorter than that.
     BufferShort,
+    /// The program that is to be cancelled is running.
+    IsRunning,
 }
 
 impl Refusal {
     /// All refusals, by number.
-    pub const ALL: [Refusal; 17] = [
+    pub const ALL: [Refusal; 18] = [
         Refusal::NotSound,
         Refusal::JournalFull,
         Refusal::NoVerb,
@@ -61,15 +64,16 @@ impl Refusal {
         Refusal::IsOpen,
         Refusal::NotOpen,
         Refusal::BufferShort,
+        Refusal::IsRunning,
     ];
 
-    /// The refusal with this number, 1 to 17.
+    /// The refusal with this number, 1 to 18.
     pub fn from_number(number: u8) -> Option<Refusal> {
         let place = usize::from(number).checked_sub(1)?;
         Self::ALL.get(place).copied()
     }
 
-    /// The refusal's number, 1 to 17.
+    /// The refusal's number, 1 to 18.
     pub const fn number(self) -> u8 {
         self as u8
     }
@@ -94,6 +98,7 @@ impl Refusal {
             Refusal::IsOpen => "The program has the file open",
             Refusal::NotOpen => "The program does not have the file open",
             Refusal::BufferShort => "The buffer is shorter than the result",
+            Refusal::IsRunning => "The program is running",
         }
     }
 }

@@ -5,6 +5,7 @@ use crate::{entry, Error, Files, Refusal, LABEL_LEN, LONGEST_LINE};
 /// The verb of a request.
 #[derive(Clone, Copy, Debug, PartialEq, Eq, Hash)]
 #[repr(u8)]
+#[non_exhaustive]
 pub enum Verb {
     /// The program enters, with its claims.
     Enter = 1,
@@ -16,10 +17,12 @@ pub enum Verb {
     Drop,
     /// The program leaves.
     Leave,
+    /// A program that waits or is held is removed.
+    Cancel,
 }
 
 impl Verb {
-    /// The number of the verb, 1 to 5, as [`entry::write`] takes it.
+    /// The number of the verb, 1 to 6, as [`entry::write`] takes it.
     pub const fn number(self) -> u64 {
         self as u64
     }
@@ -82,6 +85,24 @@ impl Request {
     /// The program leaves.
     pub fn leave(program: u8) -> Request {
         Request::new(Verb::Leave, program, 0)
+    }
+
+    /// The program, which waits or is held, is removed with its files and claims: a remedy for one
+    /// that has died. A running one leaves.
+    ///
+    /// ```
+    /// # use lock_board::{Board, Request, Standing, Word};
+    /// let mut board = Board::new();
+    /// board.serve(b"ENTER   1STOCK     1  0  3")?;
+    /// board.serve(b"ENTER   2BILLS     1  0  3")?;
+    /// board.serve(b"OPEN    1  3")?;
+    /// assert_eq!(board.serve(b"OPEN    2  3")?.answer().word, Word::Wait);
+    /// assert_eq!(board.serve(&Request::cancel(2).line()?)?.answer().word, Word::Done);
+    /// assert_eq!(board.program(2).unwrap().standing, Standing::Absent);
+    /// # Ok::<(), lock_board::Error>(())
+    /// ```
+    pub fn cancel(program: u8) -> Request {
+        Request::new(Verb::Cancel, program, 0)
     }
 
     fn new(verb: Verb, program: u8, file: u8) -> Request {
@@ -194,6 +215,7 @@ mod tests {
         assert_eq!(line(Request::close(32, 64).line()), "CLOSE  32 64");
         assert_eq!(line(Request::drop(10, 7).line()), "DROP   10  7");
         assert_eq!(line(Request::leave(1).line()), "LEAVE   1");
+        assert_eq!(line(Request::cancel(32).line()), "CANCEL 32");
     }
 
     #[test]
@@ -217,6 +239,7 @@ mod tests {
         for program in [0, 33, 255] {
             assert_eq!(Request::enter(program).line(), out_of_range);
             assert_eq!(Request::leave(program).line(), out_of_range);
+            assert_eq!(Request::cancel(program).line(), out_of_range);
             assert_eq!(Request::open(program, 1).line(), out_of_range);
         }
         for file in [0, 65, 255] {

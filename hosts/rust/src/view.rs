@@ -52,7 +52,7 @@ impl Files {
 /// How a program stands.
 #[derive(Clone, Copy, Debug, PartialEq, Eq, Hash)]
 pub enum Standing {
-    /// It has not entered, or has left.
+    /// It has not entered, has left or was cancelled.
     Absent,
     /// It is admitted and runs.
     Running,
@@ -100,12 +100,13 @@ pub struct Favoured {
     pub program: u8,
     /// How many programs were admitted when it was favoured.
     pub at_favouring: u8,
-    /// The leaves since.
+    /// The leaves since, cancels of other waiters among them.
     pub leaves: u8,
 }
 
 impl Favoured {
-    /// The leaves that are still to come, at most, until it gets its file.
+    /// The leaves that are still to come, at most, until it gets its file. A cancel of another
+    /// waiter counts as a leave.
     pub fn leaves_to_come(&self) -> u8 {
         self.at_favouring
             .saturating_sub(1)

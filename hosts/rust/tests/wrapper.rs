@@ -1,6 +1,6 @@
 //! The wrapper: what it gives back, and what it makes of bad images.
 
-use lock_board::{entry, Board, Error, Line, Refusal, Reply, Word};
+use lock_board::{entry, Board, Error, Line, Refusal, Reply, Request, Standing, Word};
 use lock_board::{CUT_LINE, HIGHEST_PLACE, IMAGE_LEN, JOURNAL_LINE, JOURNAL_ROOM, LONGEST_LINE};
 
 fn board_after(lines: &[&str]) -> Board {
@@ -19,6 +19,31 @@ fn line(word: Word, program: u8, file: u8) -> Line {
         file,
         refusal: None,
     }
+}
+
+/// Program 1 runs, 2 waits for file 2 and is favoured, 3 is held.
+fn favoured_and_held() -> Board {
+    board_after(&[
+        "ENTER   1STOCK     3  0  1  2  3",
+        "ENTER   2BILLS     2  0  1  2",
+        "OPEN    1  1",
+        "OPEN    1  3",
+        "OPEN    2  2",
+        "CLOSE   1  3",
+        "ENTER   3LISTS     0  1  2",
+    ])
+}
+
+/// What follows the DONE of a cancel, whose line the library writes.
+fn cancelled(board: &mut Board, program: u8) -> Vec<Line> {
+    let reply = board.serve(&Request::cancel(program).line().unwrap());
+    let reply = reply.unwrap();
+    assert_eq!(reply.answer(), line(Word::Done, program, 0));
+    let gone = board.program(program).unwrap();
+    assert_eq!(gone.standing, Standing::Absent);
+    let sets = [gone.write_claim, gone.read_claim, gone.write_open];
+    assert!(sets.iter().all(|set| set.is_empty()) && gone.read_open.is_empty());
+    reply.settled().to_vec()
 }
 
 /// The refusal of a line, which must leave the board as it was and write one line.
@@ -109,6 +134,12 @@ fn refusals_of_the_line() {
         (b"leave   1", 3),
         (b"LEAVE   1 ", 4),
         (b"OPEN    1", 4),
+        (b"CANCEL", 4),
+        (b"CANCEL   1", 4),
+        (b"CANCEL 1", 4),
+        (b"CANCE   1", 3),
+        (b"CANCEL001", 5),
+        (b"CANCEL 33", 5),
         (b"LEAVE  01", 5),
         (b"LEAVE  33", 5),
         (b"OPEN    1 65", 5),
@@ -131,15 +162,7 @@ fn refusals_of_the_line() {
 
 #[test]
 fn refusals_of_the_call() {
-    let mut board = board_after(&[
-        "ENTER   1STOCK     3  0  1  2  3",
-        "ENTER   2BILLS     2  0  1  2",
-        "OPEN    1  1",
-        "OPEN    1  3",
-        "OPEN    2  2",
-        "CLOSE   1  3",
-        "ENTER   3LISTS     0  1  2",
-    ]);
+    let mut board = favoured_and_held();
     for (request, number) in [
         (&b"ENTER   3LISTS     0  1  2"[..], 9),
         (b"ENTER   4BOTH      1  1  5  5", 10),
@@ -149,10 +172,60 @@ fn refusals_of_the_call() {
         (b"OPEN    1 64", 14),
         (b"DROP    1  1", 15),
         (b"CLOSE   1  2", 16),
+        (b"CANCEL  9", 11),
+        (b"CANCEL  1", 18),
     ] {
         let text = String::from_utf8_lossy(request);
         assert_eq!(refusal_of(&mut board, request), number, "{text}");
     }
+}
+
+/// The favoured program goes, and with nobody favoured the held one runs: it is not cancelled then.
+#[test]
+fn a_favoured_program_is_cancelled() {
+    let mut board = favoured_and_held();
+    assert_eq!(cancelled(&mut board, 2), [line(Word::Admit, 3, 0)]);
+    assert_eq!((board.favoured(), board.waiting_line()), (None, &[][..]));
+    assert_eq!(board.order(), [1, 3]);
+    assert_eq!(refusal_of(&mut board, b"CANCEL  2"), 11);
+    assert_eq!(refusal_of(&mut board, b"CANCEL  3"), 18);
+    let again = board.serve(b"ENTER   2BILLS     2  0  1  2").unwrap();
+    assert_eq!(again.answer(), line(Word::Admit, 2, 0));
+}
+
+/// A cancel of a held program counts nowhere.
+#[test]
+fn a_held_program_is_cancelled() {
+    let mut board = favoured_and_held();
+    let favoured = board.favoured();
+    assert_eq!(favoured.unwrap().leaves_to_come(), 1);
+    assert_eq!(cancelled(&mut board, 3), []);
+    assert_eq!((board.favoured(), board.entry_line()), (favoured, &[][..]));
+}
+
+/// A cancel of another waiter counts as a leave, and its open file is given to who waits for it.
+#[test]
+fn a_waiting_program_is_cancelled() {
+    let mut board = board_after(&[
+        "ENTER   1STOCK     3  0  1  2  3",
+        "ENTER   2BILLS     2  0  1  2",
+        "ENTER   4LISTS     2  0  1  4",
+        "ENTER   5PRICES    1  0  4",
+        "OPEN    1  1",
+        "OPEN    1  3",
+        "OPEN    2  2",
+        "CLOSE   1  3",
+        "OPEN    4  4",
+        "OPEN    4  1",
+        "OPEN    5  4",
+    ]);
+    assert_eq!(board.waiting_line(), [2, 4, 5]);
+    assert_eq!(board.favoured().unwrap().leaves_to_come(), 3);
+    assert_eq!(cancelled(&mut board, 4), [line(Word::Given, 5, 4)]);
+    assert_eq!(board.waiting_line(), [2]);
+    let favoured = board.favoured().unwrap();
+    assert_eq!((favoured.program, favoured.at_favouring), (2, 4));
+    assert_eq!((favoured.leaves, favoured.leaves_to_come()), (1, 2));
 }
 
 #[test]
@@ -246,7 +319,7 @@ fn refusals_have_their_numbers() {
         assert_eq!(Refusal::from_number(number), Some(refusal));
     }
     assert_eq!(Refusal::from_number(0), None);
-    assert_eq!(Refusal::from_number(18), None);
+    assert_eq!(Refusal::from_number(19), None);
 }
 
 #[test]
@@ -258,6 +331,7 @@ fn lines_that_are_not_in_form() {
         b"REFUSE  0  0  1\n",
         b"REFUSE  0  0  2\n",
         b"REFUSE  0  0 17\n",
+        b"REFUSE  1  0 19\n",
         b"ORDER   1  2  3\n",
         b"admit   1  0  0\n",
         b"ADMIT  01  0  0\n",

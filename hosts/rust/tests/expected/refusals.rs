@@ -27,11 +27,18 @@ impl Document {
         &self.0[refusal - 1].0
     }
 
-    /// What to do, as one sentence that goes on after another.
-    fn advice(&self, refusal: usize) -> String {
+    /// What to do, in sentences that go on after another.
+    fn advice(&self, refusal: usize) -> Vec<String> {
         let small = |sentence: &str| sentence[..1].to_lowercase() + &sentence[1..];
         let sentences = self.0[refusal - 1].1.trim_end_matches('.').split(". ");
-        sentences.map(small).collect::<Vec<_>>().join("; ")
+        sentences.map(small).collect()
+    }
+
+    /// With which verb a dead program is removed: the last sentence of what to do.
+    fn remedy(&self, refusal: usize) -> String {
+        let sentence = self.advice(refusal).pop().expect("a sentence");
+        assert!(sentence.contains("that has died"), "refusal {refusal}");
+        sentence
     }
 }
 
@@ -72,7 +79,7 @@ impl Session<'_> {
         if line.starts_with(b"ENTER") {
             self.labels.remove(&p);
             self.labels.extend(label(line).map(|label| (p, label)));
-        } else if line.starts_with(b"LEAVE") {
+        } else if line.starts_with(b"LEAVE") || line.starts_with(b"CANCEL") {
             self.labels.remove(&p);
         }
     }
@@ -103,22 +110,33 @@ impl Session<'_> {
     }
 
     fn asked(&self, line: &[u8], answer: &Entry) -> String {
-        let who = self.labels.get(&answer.program);
-        let who = who.map_or(String::new(), |label| format!("{label} "));
+        let known = self.labels.get(&answer.program);
+        let who = known.map_or(String::new(), |label| format!("{label} "));
         let f = answer.file;
-        match &line[..5] {
-            b"ENTER" => match label(line) {
+        match &line[..6] {
+            b"ENTER " => match label(line) {
                 Some(label) => format!("asked to enter as {label}"),
                 None => "asked to enter".to_string(),
             },
-            b"OPEN " => format!("{who}asked for file {f}"),
-            b"CLOSE" => format!("{who}asked to close file {f}"),
-            b"DROP " => format!("{who}asked to drop file {f}"),
-            _ => format!("{who}asked to leave"),
+            b"OPEN  " => format!("{who}asked for file {f}"),
+            b"CLOSE " => format!("{who}asked to close file {f}"),
+            b"DROP  " => format!("{who}asked to drop file {f}"),
+            b"LEAVE " => format!("{who}asked to leave"),
+            _ => known.map_or("asked to cancel".to_string(), |label| {
+                format!("asked to cancel {label}")
+            }),
         }
     }
 
-    /// What stands on the board, for refusals 9 to 16.
+    /// What helps whoever wants a dead program to leave that waits or is held.
+    fn if_dead(&self, line: &[u8], answer: &Entry) -> String {
+        match line.starts_with(b"LEAVE") {
+            true => format!("; {}", self.document.remedy(answer.refusal)),
+            false => String::new(),
+        }
+    }
+
+    /// What stands on the board, for refusals 9 to 16 and 18.
     fn stands(&self, line: &[u8], answer: &Entry) -> String {
         let (board, labels, p) = (&self.board, &self.labels, answer.program);
         let program = board.get(p);
@@ -143,19 +161,21 @@ impl Session<'_> {
             12 => {
                 let favoured = programs(&[board.favoured], labels);
                 let wait = wait(board, board.favoured, labels);
-                format!("{favoured} is favoured and {wait}")
+                let if_dead = self.if_dead(line, answer);
+                format!("{favoured} is favoured and {wait}{if_dead}")
             }
-            13 => wait(board, p, labels),
+            13 => wait(board, p, labels) + &self.if_dead(line, answer),
             14 => {
                 let claims = match uses("write", program.v, "read", program.q).as_str() {
                     "" => "claims no file".to_string(),
                     claims => format!("may {claims}"),
                 };
                 match line.starts_with(b"OPEN") {
-                    true => format!("{claims}; {}", self.document.advice(14)),
+                    true => format!("{claims}; {}", self.document.advice(14).join("; ")),
                     false => claims,
                 }
             }
+            18 => format!("{}; {}", open(program), self.document.remedy(18)),
             _ => open(program),
         }
     }
@@ -184,7 +204,7 @@ fn verb(line: &[u8]) -> String {
         1..=5 => format!("the line has only {}", quoted(line)),
         _ => format!("columns 1-6 have {}", quoted(&line[..6])),
     };
-    what + ", not ENTER, OPEN, CLOSE, DROP or LEAVE with blanks up to column 6"
+    what + ", not ENTER, OPEN, CLOSE, DROP, LEAVE or CANCEL, with blanks up to column 6"
 }
 
 fn length(line: &[u8]) -> String {
@@ -196,10 +216,11 @@ fn length(line: &[u8]) -> String {
         ),
         line => format!("the line ends with column {}", line.len()),
     };
-    let asked = match &line[..5] {
-        b"LEAVE" => "LEAVE ends with column 9".to_string(),
-        b"ENTER" if line.len() < 23 => "ENTER goes up to column 23 at least".to_string(),
-        b"ENTER" => {
+    let asked = match &line[..6] {
+        b"LEAVE " => "LEAVE ends with column 9".to_string(),
+        b"CANCEL" => "CANCEL ends with column 9".to_string(),
+        b"ENTER " if line.len() < 23 => "ENTER goes up to column 23 at least".to_string(),
+        b"ENTER " => {
             let (w, r) = (count(line, 18), count(line, 21));
             let end = 23 + 3 * (w + r);
             format!("ENTER with {w} files to write and {r} to read ends with column {end}")

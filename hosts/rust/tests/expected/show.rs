@@ -63,15 +63,20 @@ fn waiter(board: &Board, p: usize) -> String {
     text
 }
 
-/// "It gets its file at the latest with the leave that brings those leaves to that number less one."
+/// "It gets its file at the latest with the leave that brings those leaves to that number less one";
+/// "a cancel of an admitted program counts as a leave, also in the bound for favoured programs".
 fn favoured(board: &Board) -> String {
     if board.favoured == 0 {
         return "nobody".to_string();
     }
     let left = (board.number - 1) - board.leaves;
     let file = awaited(board, board.favoured);
+    let leaves = match left {
+        1 => "1 leave or waiter's cancel".to_string(),
+        _ => format!("{left} leaves or waiters' cancels"),
+    };
     format!(
-        "program {} (leaves until it gets file {file}: at most {left})",
+        "program {} (gets file {file} after at most {leaves})",
         board.favoured
     )
 }
