@@ -1,4 +1,4 @@
-//! Writes the five workloads of the bench: request lines for the program
+//! Writes the six workloads of the bench: request lines for the program
 //! `board`, always the same ones. The model of the tests follows the board, so
 //! that the lines keep it busy; neither the library nor the program is called.
 //!
@@ -22,12 +22,13 @@ const SEED: u64 = 197_214_701;
 
 type Next = fn(&mut Workload) -> Vec<u8>;
 
-const WORKLOADS: [(&str, Next); 5] = [
+const WORKLOADS: [(&str, Next); 6] = [
     ("low", low),
     ("high", high),
     ("unsafe", unsafe_opens),
     ("refusals", refusals),
     ("wide", wide),
+    ("cancel", cancels),
 ];
 
 fn main() {
@@ -255,4 +256,15 @@ fn wide(work: &mut Workload) -> Vec<u8> {
     }
     let p = work.some(32, Standing::Running).unwrap_or(1);
     text(work.live(p, [55, 15, 5]), b"WIDE    ")
+}
+
+/// As `high`, but one line in eight cancels a program that waits or is held.
+fn cancels(work: &mut Workload) -> Vec<u8> {
+    let stopped =
+        |program: &Program| matches!(program.standing, Standing::Waiting(_) | Standing::Held);
+    let stopped = work.board.which(stopped);
+    match (work.random.pick(&stopped), work.random.per_mille(125)) {
+        (Some(p), true) => text(Request::Cancel { p }, b"CANCEL  "),
+        _ => high(work),
+    }
 }
