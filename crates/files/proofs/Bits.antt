@@ -5,7 +5,7 @@ use native.Mathlib.Nat.{div-div-eq-div-mul, mul-comm, pow-suc, div-one, one-mul,
 use native.Mathlib.Omega.{arith}
 use mathlib.Core.Path.{_≡_, refl, sym, ap, ap₂, _∙_}
 use mathlib.Core.Logic.{_≢_, _↔_}
-use mathlib.Core.Bool.{Bool, true, false, not, _&&_, _||_}
+use mathlib.Core.Bool.{true, false, not, _&&_, _||_}
 use lib.Dec.{eqb, leb, ltb}
 use lib.Pow.{pow-lt, pow-add}
 use lib.Bits.{bitAnd, bitOr, bitXor, differ, and-step, or-step, xor-step, and-high, or-add-and, xor-add-and, and-le-l, and-comm}
@@ -219,6 +219,24 @@ and-has a b i =
     (λ e. let d = one-of (bitAnd a b) i e in and-both (hasBit a i) (hasBit b i) (of-one a i (omega arith)) (of-one b i (omega arith)))
     (λ e. let d = one-of a i (and-left (hasBit a i) (hasBit b i) e) in
     let f = one-of b i (and-right (hasBit a i) (hasBit b i) e) in of-one (bitAnd a b) i (omega arith))
+
+-- a number but the bits that it shares with another
+pub less-has : (a b i : ℕ) → hasBit (bitXor a (bitAnd a b)) i ≡ (hasBit a i && not (hasBit b i))
+less-has a b i = let c = bit-xor a (bitAnd a b) i in let d = bit-and a b i in
+    by-test (hasBit a i)
+    (λ u. let x = one-of a i u in by-test (hasBit b i)
+    (λ v. let y = one-of b i v in let e : bit (bitAnd a b) i ≡ 1 = omega arith in
+    rw (u, v) (zero-of (bitXor a (bitAnd a b)) i (c ∙ ap₂ differ x e)))
+    (λ v. let y = none-of b i v in let e : bit (bitAnd a b) i ≡ 0 = omega arith in
+    rw (u, v) (of-one (bitXor a (bitAnd a b)) i (c ∙ ap₂ differ x e))))
+    (λ u. let x = none-of a i u in let e : bit (bitAnd a b) i ≡ 0 = omega arith in
+    rw u (zero-of (bitXor a (bitAnd a b)) i (c ∙ ap₂ differ x e)))
+  where
+    none-of : (m j : ℕ) → hasBit m j ≡ false → bit m j ≡ 0
+    none-of m j u = let n : bit m j ≢ 1 = (λ z. never (of-one m j z) u) in let k = bit-lt m j in omega arith
+
+    zero-of : (m j : ℕ) → bit m j ≡ 0 → hasBit m j ≡ false
+    zero-of m j z = ne-eqb _ 1 (λ e. let k = sym (bit-is m j) ∙ e in omega arith)
 
 -- two numbers or-ed are 0 exactly if both are
 pub or-none : (a b : ℕ) → not (eqb (bitOr a b) 0) ≡ (not (eqb a 0) || not (eqb b 0))

@@ -72,7 +72,8 @@ leave b p = done (countLeave (setProgram b p noProgram)) p 0
 unfoldable pub countCancel : Board → ℕ → Board
 countCancel b p = cond (eqb (b .favoured) p) (setFavour b 0 0 0) (countLeave b)
 
--- "The program goes with its files and claims", out of its line; "a cancel of a held one counts nowhere"
+-- "The program goes with its files and claims", out of its line; "a cancel of a held one counts nowhere"; an absent or a running
+-- program is refused before, by 11 and 18
 abbrev pub withdrawn : Board → ℕ → Standing → Board
 withdrawn b p Standing.Absent = b
 withdrawn b p Standing.Running = b

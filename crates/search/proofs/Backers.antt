@@ -1,38 +1,36 @@
 -- Those that hold a program back, directly or through others, are all found in 32 rounds; a file given, decided by them. Assumes nothing.
-use mathlib.Core.Path.{_≡_, refl, sym, ap, ap₂, subst, _∙_}
+use mathlib.Core.Path.{_≡_, sym, ap, subst, _∙_}
 use mathlib.Core.Logic.{_⊎_, inl, inr, ⊎-elim}
-use mathlib.Core.Bool.{Bool, true, false, not, cond, _&&_, _||_}
+use mathlib.Core.Bool.{Bool, true, false, not, _&&_}
 use mathlib.Core.List.{List, [], _∷_}
 use Prim.Native.Nat.{ℕ, zero, suc, _+_, _-_, _≤_, _<_}
 use native.Mathlib.Nat.{add-zero, add-suc, add-comm}
 use native.Mathlib.Omega.{arith}
-use lib.Dec.{ltb, leb}
-use lib.ListN.{length, getD}
+use lib.Dec.{ltb}
+use lib.ListN.{length}
 use borrow.Author.Tests.{ltb-true, ltb-false}
 use Rattle.files.proofs.Tests.{by-test, never, and-left, and-right, and-both, or-cases, or-left, or-right, no-true}
-use Rattle.files.specs.Bits.{hasNumber}
-use Rattle.rules.specs.declared.Board.{Board}
 use Rattle.rules.specs.Lists.{any, keep, rising, found}
 use Rattle.rules.specs.Boards.{everyone}
-use Rattle.rules.specs.Orders.{carried, safe}
 use mathlib.Core.List.{List·Memᴰ·tail}
 use Rattle.theory.specs.Lists.{_∈_, by-mem, here, any-some, some-any, mem-rising, length-keep, length-rising}
 use Rattle.tables.specs.declared.ProgramSet.{ProgramSet}
-use Rattle.tables.specs.ProgramSets.{noPrograms, hasProgram, withoutProgram}
-use Rattle.tables.specs.Tables.{SetsOf, packed}
-use Rattle.tables.specs.Claims.{claimsAt, holdsOne}
+use Rattle.tables.specs.ProgramSets.{hasProgram, withoutProgram}
+use Rattle.tables.specs.Tables.{holdsOne}
+use Rattle.tables.specs.Claims.{claimsAt}
 use Rattle.tables.proofs.Laws.{packed-has, none-has}
-use Rattle.search.specs.Rows.{admits, admittedSet}
+use Rattle.search.specs.Rows.{admittedSet}
 use Rattle.search.specs.Gives.{writes, joins, backers, safeIn, SafeFor}
-use Rattle.search.proofs.Closing.{Back, Closing, low, high, claimedIn, claims-some, claims-none, closing-unsafe, closing-safe}
+use Rattle.search.proofs.Laws.{low, high}
+use Rattle.search.proofs.Closing.{Back, back-unsafe, back-safe}
 
 -- ---- lists kept by two tests, the first within the second
 
 module _ (s t : ℕ → Bool) where
-  abbrev Within : List ℕ → Type 0
+  abbrev pub Within : List ℕ → Type 0
   Within l = (a : ℕ) → a ∈ l → s a ≡ true → t a ≡ true
 
-  keep-within : (l : List ℕ) → Within l → length (keep s l) ≤ length (keep t l)
+  pub keep-within : (l : List ℕ) → Within l → length (keep s l) ≤ length (keep t l)
   unfolding keep
   keep-within [] f = omega arith
   keep-within (x ∷ l) f = let r = keep-within l (λ a m. f a (List·Memᴰ·tail m)) in
@@ -40,7 +38,7 @@ module _ (s t : ℕ → Bool) where
       (λ e. by-test (t x) (λ d. rw (e, d) (omega arith)) (λ d. rw (e, d) r))
 
   -- as many: the second has no more
-  keep-covers : (l : List ℕ) → Within l → length (keep t l) ≤ length (keep s l) → (a : ℕ) → a ∈ l → t a ≡ true → s a ≡ true
+  pub keep-covers : (l : List ℕ) → Within l → length (keep t l) ≤ length (keep s l) → (a : ℕ) → a ∈ l → t a ≡ true → s a ≡ true
   unfolding keep
   keep-covers (x ∷ l) f h a m e =
       let w = keep-within l (λ c i. f c (List·Memᴰ·tail i)) in
@@ -55,12 +53,6 @@ module _ (s t : ℕ → Bool) where
 module _ (sets : List ℕ) (others : ProgramSet) (p : ℕ) where
   abbrev S : ℕ → ProgramSet
   S n = backers sets others p n
-
-  abbrev v : ℕ
-  v = getD sets (p - 1) 0
-
-  abbrev q : ℕ
-  q = getD sets (32 + (p - 1)) 0
 
   round-has : (n x : ℕ) → 1 ≤ x → x ≤ 32 → hasProgram (S (suc n)) x ≡ joins sets others p (S n) x
   unfolding backers
@@ -78,7 +70,7 @@ module _ (sets : List ℕ) (others : ProgramSet) (p : ℕ) where
   is-one x h k = mem-rising 32 1 x h (omega arith)
 
   -- whom the rounds find, holds back p directly or through others
-  pub found-back : (n x : ℕ) → hasProgram (S n) x ≡ true → Back sets others v q x
+  pub found-back : (n x : ℕ) → hasProgram (S n) x ≡ true → Back sets others p x
   unfolding backers
   found-back zero x e = never e (none-has x)
   found-back (suc n) x e = or-cases (hasProgram (S n) x) _ (sym (round-has n x (low (S (suc n)) x e) (high (S (suc n)) x e)) ∙ e)
@@ -89,7 +81,7 @@ module _ (sets : List ℕ) (others : ProgramSet) (p : ℕ) where
       Back.further m (and-right (hasProgram (S n) y) (holdsOne sets y x) u) (found-back n y (and-left (hasProgram (S n) y) (holdsOne sets y x) u))))
 
   -- whoever holds back p is found in some round
-  back-found : (x : ℕ) → Back sets others v q x → (n : ℕ) × (hasProgram (S n) x ≡ true)
+  back-found : (x : ℕ) → Back sets others p x → (n : ℕ) × (hasProgram (S n) x ≡ true)
   back-found x (Back.nearest m e) = (
     1,
     round-has 0 x (low others x m) (high others x m) ∙ or-right (hasProgram (S 0) x) _ (and-both (hasProgram others x) _ m
@@ -151,7 +143,7 @@ module _ (sets : List ℕ) (others : ProgramSet) (p : ℕ) where
   closed-at = ⊎-elim (λ (k, h, c). (k, omega arith, c)) (λ h. absurd (omega (arith, count-most 33))) (some-closed 33)
 
   -- all are found in 32 rounds
-  pub all-found : (x : ℕ) → Back sets others v q x → hasProgram (S 32) x ≡ true
+  pub all-found : (x : ℕ) → Back sets others p x → hasProgram (S 32) x ≡ true
   all-found x b = let (n, e) = back-found x b in let (k, h, c) = closed-at in
       let z : k + (32 - k) ≡ 32 = omega arith in
       rw z at (grows-by (32 - k) k x (falls-by n k c x (rw (add-comm n k) at (grows-by k n x e))))
@@ -164,12 +156,6 @@ module _ (sets : List ℕ) (a : ProgramSet) (p f : ℕ) where
 
   abbrev all : ProgramSet
   all = backers sets among p 32
-
-  abbrev vp : ℕ
-  vp = getD sets (p - 1) 0
-
-  abbrev qp : ℕ
-  qp = getD sets (32 + (p - 1)) 0
 
   abbrev both : Bool
   both = writes sets p f
@@ -185,57 +171,31 @@ module _ (sets : List ℕ) (a : ProgramSet) (p f : ℕ) where
   of-claimed e = let (x, m, u) = any-some (λ z. hasProgram all z && claimsAt sets f both z) everyone e in
       (x, and-left (hasProgram all x) (claimsAt sets f both x) u, and-right (hasProgram all x) (claimsAt sets f both x) u)
 
-  module _ (seen next others : ProgramSet) (t : Bool) (x : others ≡ among) (y : t ≡ both) (n : Closing sets others vp qp f t seen next) where
-    c : Closing sets among vp qp f both seen next
-    c = subst (λ (z : Bool). Closing sets among vp qp f z seen next) y (subst (λ (z : ProgramSet). Closing sets z vp qp f t seen next) x n)
+  -- one that holds p back claims f
+  pub unsafe-in : (x : ℕ) → Back sets among p x → claimsAt sets f both x ≡ true → safeIn sets a p f ≡ false
+  unfolding safeIn
+  unsafe-in x b d = ap not (is-claimed x (all-found sets among p x b) d)
 
-    -- one that was found claims f
-    pub unsafe-in : claimedIn sets others vp qp f t next ≡ true → safeIn sets a p f ≡ false
-    unfolding safeIn
-    unsafe-in e =
-        let (w, i, d) = claims-some sets among vp qp f both next (ap (λ (z : Bool). claimedIn sets others vp qp f z next) (sym y) ∙ e) in
-        ap not (is-claimed w (all-found sets among p w (c .backs w i)) d)
-
-    -- all were found, and none claims f
-    pub safe-in : next .bits ≡ seen .bits → safeIn sets a p f ≡ true
-    unfolding safeIn
-    safe-in e = ap not (no-true claimed (λ d. let (w, i, u) = of-claimed d in
-        never u (c .free w (in-seen w (found-back sets among p 32 w i)))))
-      where
-        back : (z : ℕ) → hasProgram next z ≡ true → hasProgram seen z ≡ true
-        back z i = ap (λ (m : ℕ). hasNumber 32 m z) (sym e) ∙ i
-
-        in-seen : (z : ℕ) → Back sets among vp qp z → hasProgram seen z ≡ true
-        in-seen z (Back.nearest m d) = back z (c .base z m d)
-        in-seen z (Back.further {y = w} m d b) = back z (c .step z w m (in-seen w b) d)
-
-  -- nobody looked at yet, and all found
-  start : Closing sets among vp qp f both noPrograms all
-  start = record {
-    backs = λ x e. found-back sets among p 32 x e;
-    base = λ x m e. all-found sets among p x (Back.nearest m e);
-    step = λ x y m t e. never t (none-has y);
-    free = λ y t. never t (none-has y);
-    more = omega arith;
-  }
-
-  -- all looked at
-  finish : claimed ≡ false → Closing sets among vp qp f both all all
-  finish n = record {
-    backs = λ x e. found-back sets among p 32 x e;
-    base = λ x m e. all-found sets among p x (Back.nearest m e);
-    step = λ x y m t e. all-found sets among p x (Back.further m e (found-back sets among p 32 y t));
-    free = λ y t. no-true (claimsAt sets f both y) (λ d. never (is-claimed y t d) n);
-    more = omega arith;
-  }
+  -- none does
+  pub safe-in : ((x : ℕ) → Back sets among p x → claimsAt sets f both x ≡ false) → safeIn sets a p f ≡ true
+  unfolding safeIn
+  safe-in n = ap not (no-true claimed (λ d. let (x, i, u) = of-claimed d in never u (n x (found-back sets among p 32 x i))))
 
   -- on boards: whether an order comes back with f given to p
   pub safe-for : 1 ≤ p → p ≤ 32 → SafeFor sets a p f (safeIn sets a p f)
   unfolding safeIn
   safe-for h k b s e ad o = by-test claimed
-      (λ t. let (x, i, d) = of-claimed t in rw t (sym (closing-unsafe b sets p f s h k ad o noPrograms all among both
-      (ap (λ (z : ProgramSet). withoutProgram z p) e) refl start (in-claimed x i d))))
-      (λ t. rw t (sym (closing-safe b sets p f s h k ad o all all among both (ap (λ (z : ProgramSet). withoutProgram z p) e) refl (finish t) refl)))
+      (λ t. let (x, i, d) = of-claimed t in
+      rw t (sym (back-unsafe b sets p f s h k ad o x (on-board x (found-back sets among p 32 x i)) d)))
+      (λ t. rw t (sym (back-safe b sets p f s h k ad o all (λ x i. on-board x (found-back sets among p 32 x i))
+      (λ x c. all-found sets among p x (off-board x c))
+      (λ x i. no-true (claimsAt sets f both x) (λ d. never (is-claimed x i d) t)))))
     where
-      in-claimed : (x : ℕ) → hasProgram all x ≡ true → claimsAt sets f both x ≡ true → claimedIn sets among vp qp f both all ≡ true
-      in-claimed x i d = by-test (claimedIn sets among vp qp f both all) (λ u. u) (λ u. never d (claims-none sets among vp qp f both all u x i))
+      z : among ≡ withoutProgram (admittedSet b) p
+      z = ap (λ (y : ProgramSet). withoutProgram y p) e
+
+      on-board : (x : ℕ) → Back sets among p x → Back sets (withoutProgram (admittedSet b) p) p x
+      on-board x c = subst (λ (y : ProgramSet). Back sets y p x) z c
+
+      off-board : (x : ℕ) → Back sets (withoutProgram (admittedSet b) p) p x → Back sets among p x
+      off-board x c = subst (λ (y : ProgramSet). Back sets y p x) (sym z) c

@@ -1,15 +1,14 @@
--- A file given, decided from the sets alone: those that hold the program back are gathered round by round. Assumes nothing.
+-- A file given, decided from the sets alone: those that hold the program back are found one after another. Assumes nothing.
 use mathlib.Core.Path.{_≡_, sym, ap, ap₂, subst, _∙_}
+use mathlib.Core.Logic.{_≢_}
 use mathlib.Core.Bool.{Bool, true, false, not, cond, _&&_, _||_}
 use mathlib.Core.List.{List}
-use Prim.Native.Nat.{ℕ, _+_, _-_, _≤_}
+use Prim.Native.Nat.{ℕ, _-_, _≤_}
 use native.Mathlib.Omega.{arith}
-use lib.Bits.{bitOr, or-add-and, and-le-l, and-comm}
 use lib.Dec.{eqb}
 use lib.ListN.{getD}
 use borrow.Author.Tests.{eqb-true, eqb-false}
-use Rattle.files.proofs.Tests.{by-test, never, and-left, and-right, and-both, or-cases, or-left, or-right, no-true, not-true, true-not}
-use Rattle.files.specs.Bits.{hasNumber}
+use Rattle.files.proofs.Tests.{by-test, never, and-left, and-right, and-both, and-false, or-cases, or-left, or-right, not-true, true-not}
 use Rattle.files.specs.Sets.{member}
 use Rattle.files.proofs.Bits.{is-number, has-number, least, most, without-number-same, without-number-other}
 use Rattle.rules.specs.declared.Board.{Board}
@@ -18,115 +17,129 @@ use Rattle.rules.specs.Boards.{at, isProgram, claims}
 use Rattle.rules.specs.Orders.{holdsBack, carried, safe}
 use Rattle.theory.specs.Reach.{isOther, ReachesOn, no-back, reaches-direct, reaches-through, given-holds, safe-by-closed, unsafe-by-reach}
 use Rattle.tables.specs.declared.ProgramSet.{ProgramSet}
-use Rattle.tables.specs.ProgramSets.{noPrograms, hasProgram, withoutProgram, unionOf, commonOf}
-use Rattle.tables.specs.Tables.{packed, SetsOf}
-use Rattle.tables.specs.Claims.{claimsAt, filesIn, holdsAgainst, holdsOne}
-use Rattle.tables.proofs.Laws.{packed-has, union-has, common-has, none-has}
-use Rattle.tables.proofs.Claimed.{has-split, has-some, against-split, against-some}
+use Rattle.tables.specs.ProgramSets.{hasProgram, withoutProgram, unionOf, lessOf}
+use Rattle.tables.specs.Tables.{packed, holdsOne, holdersOf, SetsOf}
+use Rattle.tables.specs.Claims.{claimsAt}
+use Rattle.tables.proofs.Laws.{packed-has, union-has, less-has}
+use Rattle.tables.proofs.Walk.{rest-more}
+use Rattle.tables.proofs.Whole.{holds-is}
 use Rattle.search.specs.Rows.{admits, admittedSet}
+use Rattle.search.proofs.Laws.{low, high}
 
--- x, among the others, holds back one with the claims v and q, or one that does so in turn
-pub data Back (sets : List ℕ) (among : ProgramSet) (v q : ℕ) : ℕ → Type 0 where
-  nearest : {x : ℕ} → hasProgram among x ≡ true → holdsAgainst sets v q x ≡ true → Back sets among v q x
-  further : {x y : ℕ} → hasProgram among x ≡ true → holdsOne sets y x ≡ true → Back sets among v q y → Back sets among v q x
+-- x, among the others, holds p back, or one that does so in turn
+pub data Back (sets : List ℕ) (among : ProgramSet) (p : ℕ) : ℕ → Type 0 where
+  nearest : {x : ℕ} → hasProgram among x ≡ true → holdsOne sets p x ≡ true → Back sets among p x
+  further : {x y : ℕ} → hasProgram among x ≡ true → holdsOne sets y x ≡ true → Back sets among p y → Back sets among p x
 
--- `next` has those found so far and those that hold one of them back; those in `seen` do not claim f
-pub record Closing (sets : List ℕ) (among : ProgramSet) (v q f : ℕ) (both : Bool) (seen next : ProgramSet) : Type 0 where
-  pub backs : (x : ℕ) → hasProgram next x ≡ true → Back sets among v q x
-  pub base : (x : ℕ) → hasProgram among x ≡ true → holdsAgainst sets v q x ≡ true → hasProgram next x ≡ true
-  pub step : (x y : ℕ) → hasProgram among x ≡ true → hasProgram seen y ≡ true → holdsOne sets y x ≡ true → hasProgram next x ≡ true
-  pub free : (y : ℕ) → hasProgram seen y ≡ true → claimsAt sets f both y ≡ false
-  pub more : seen .bits ≤ next .bits
+-- Those not in the rest are found. Who holds back p, or one of them that is no longer in `found`, is found too; those no longer in `found`
+-- do not claim f.
+pub record Closing (sets : List ℕ) (among : ProgramSet) (p f : ℕ) (both : Bool) (found rest : ProgramSet) : Type 0 where
+  pub backs : (x : ℕ) → hasProgram among x ≡ true → hasProgram rest x ≡ false → Back sets among p x
+  pub base : (x : ℕ) → hasProgram among x ≡ true → holdsOne sets p x ≡ true → hasProgram rest x ≡ false
+  pub step : (x y : ℕ) → hasProgram among x ≡ true → hasProgram among y ≡ true → hasProgram rest y ≡ false → hasProgram found y ≡ false
+      → holdsOne sets y x ≡ true → hasProgram rest x ≡ false
+  pub clear : (y : ℕ) → hasProgram among y ≡ true → hasProgram rest y ≡ false → hasProgram found y ≡ false → claimsAt sets f both y ≡ false
+  pub inside : (x : ℕ) → hasProgram found x ≡ true → (hasProgram among x ≡ true) × (hasProgram rest x ≡ false)
+  pub within : (x : ℕ) → hasProgram rest x ≡ true → hasProgram among x ≡ true
 
-pub low : (s : ProgramSet) (x : ℕ) → hasProgram s x ≡ true → 1 ≤ x
-low s x e = least 32 x (has-number 32 (s .bits) x e)
+module _ (sets : List ℕ) (p : ℕ) (s : ProgramSet) where
+  -- those of s that hold p back
+  abbrev pub more : ProgramSet
+  more = packed (holdersOf sets p s) 32
 
-pub high : (s : ProgramSet) (x : ℕ) → hasProgram s x ≡ true → x ≤ 32
-high s x e = most 32 x (has-number 32 (s .bits) x e)
+  in-more : (x : ℕ) → hasProgram s x ≡ true → holdsOne sets p x ≡ true → hasProgram more x ≡ true
+  in-more x m e = packed-has (holdersOf sets p s) 32 x (omega arith) (low s x m) (high s x m) ∙ and-both (hasProgram s x) (holdsOne sets p x) m e
 
-union-le : (s t : ProgramSet) → s .bits ≤ unionOf s t .bits
-union-le s t = omega (arith, or-add-and (s .bits) (t .bits), and-le-l (t .bits) (s .bits), and-comm (s .bits) (t .bits))
+  pub of-more : (x : ℕ) → hasProgram more x ≡ true → (hasProgram s x ≡ true) × (holdsOne sets p x ≡ true)
+  of-more x e = let u = sym (packed-has (holdersOf sets p s) 32 x (omega arith) (low more x e) (high more x e)) ∙ e in
+      (and-left (hasProgram s x) (holdsOne sets p x) u, and-right (hasProgram s x) (holdsOne sets p x) u)
 
-module _ (sets : List ℕ) (among : ProgramSet) (v q f : ℕ) (both : Bool) where
-  -- those among the others that hold back one with the claims a and c
-  abbrev pub heldBy : ℕ → ℕ → ProgramSet
-  heldBy a c = commonOf (packed (holdsAgainst sets a c) 32) among
+  -- who holds p back is not in s without them
+  gone : (x : ℕ) → holdsOne sets p x ≡ true → hasProgram (lessOf s more) x ≡ false
+  gone x e = less-has s more x ∙ by-test (hasProgram s x) (λ t. rw (t, in-more x t e)) (λ t. rw t)
 
-  abbrev pub allV : ProgramSet → ℕ
-  allV s = filesIn sets 0 s 32
+  pub still-gone : (x : ℕ) → hasProgram s x ≡ false → hasProgram (lessOf s more) x ≡ false
+  still-gone x e = less-has s more x ∙ rw e
 
-  abbrev pub allQ : ProgramSet → ℕ
-  allQ s = filesIn sets 32 s 32
+  pub more-gone : (x : ℕ) → hasProgram more x ≡ true → hasProgram (lessOf s more) x ≡ false
+  more-gone x e = less-has s more x ∙ rw e (and-false (hasProgram s x))
 
-  -- somebody in s claims f
-  abbrev pub claimedIn : ProgramSet → Bool
-  claimedIn s = member (record { bits = allV s }) f || (both && member (record { bits = allQ s }) f)
+  -- whoever is of s, but not without them, is one of them
+  was-more : (x : ℕ) → hasProgram s x ≡ true → hasProgram (lessOf s more) x ≡ false → hasProgram more x ≡ true
+  was-more x m e = by-test (hasProgram more x) (λ t. t) (λ t. never (less-has s more x ∙ rw (m, t)) e)
 
-  held-in : (a c x : ℕ) → hasProgram among x ≡ true → holdsAgainst sets a c x ≡ true → hasProgram (heldBy a c) x ≡ true
-  held-in a c x m e = common-has (packed (holdsAgainst sets a c) 32) among x
-      ∙ and-both (hasProgram (packed (holdsAgainst sets a c) 32) x) (hasProgram among x)
-      (packed-has (holdsAgainst sets a c) 32 x (omega arith) (low among x m) (high among x m) ∙ e) m
+  pub of-less : (x : ℕ) → hasProgram (lessOf s more) x ≡ true → hasProgram s x ≡ true
+  of-less x e = and-left (hasProgram s x) (not (hasProgram more x)) (sym (less-has s more x) ∙ e)
 
-  in-held : (a c x : ℕ) → hasProgram (heldBy a c) x ≡ true → (hasProgram among x ≡ true) × (holdsAgainst sets a c x ≡ true)
-  in-held a c x e =
-      let u = sym (common-has (packed (holdsAgainst sets a c) 32) among x) ∙ e in
-      let m = and-right (hasProgram (packed (holdsAgainst sets a c) 32) x) (hasProgram among x) u in (
-        m,
-        sym (packed-has (holdsAgainst sets a c) 32 x (omega arith) (low among x m) (high among x m))
-            ∙ and-left (hasProgram (packed (holdsAgainst sets a c) 32) x) (hasProgram among x) u,
-      )
-
-  -- the claims of all in s are those of somebody in s
-  pub claims-some : (s : ProgramSet) → claimedIn s ≡ true → (y : ℕ) × (hasProgram s y ≡ true) × (claimsAt sets f both y ≡ true)
-  claims-some s e = or-cases (member (record { bits = allV s }) f) (both && member (record { bits = allQ s }) f) e
-      (λ u. let (y, h, m, t, d) = has-split sets 0 s f u in let z : y - 1 ≡ 0 + (y - 1) = omega arith in
-      (y, t, or-left _ (both && member (record { bits = getD sets (32 + (y - 1)) 0 }) f) (ap (λ (j : ℕ). hasNumber 64 (getD sets j 0) f) z ∙ d)))
-      (λ u. let (y, h, m, t, d) = has-split sets 32 s f (and-right both (member (record { bits = allQ s }) f) u) in
-      (y, t, or-right (member (record { bits = getD sets (y - 1) 0 }) f) _ (and-both both _ (and-left both (member (record { bits = allQ s }) f) u) d)))
-
-  pub claims-none : (s : ProgramSet) → claimedIn s ≡ false → (y : ℕ) → hasProgram s y ≡ true → claimsAt sets f both y ≡ false
-  claims-none s e y t = no-true (claimsAt sets f both y) (λ d. never
-      (or-cases (member (record { bits = getD sets (y - 1) 0 }) f) (both && member (record { bits = getD sets (32 + (y - 1)) 0 }) f) d
-      (λ u. let z : 0 + (y - 1) ≡ y - 1 = omega arith in or-left (member (record { bits = allV s }) f) _
-      (has-some sets 0 s f y (low s y t) (high s y t) t (ap (λ (j : ℕ). hasNumber 64 (getD sets j 0) f) z ∙ u)))
-      (λ u. or-right (member (record { bits = allV s }) f) (both && member (record { bits = allQ s }) f)
-      (and-both both (member (record { bits = allQ s }) f) (and-left both _ u) (has-some sets 32 s f y (low s y t) (high s y t) t
-      (and-right both (member (record { bits = getD sets (32 + (y - 1)) 0 }) f) u))))) e)
-
-  pub closing-start : Closing sets among v q f both noPrograms (heldBy v q)
+module _ (sets : List ℕ) (among : ProgramSet) (p f : ℕ) (both : Bool) where
+  pub closing-start : Closing sets among p f both (more sets p among) (lessOf among (more sets p among))
   closing-start = record {
-    backs = λ x e. let (m, u) = in-held v q x e in Back.nearest m u;
-    base = λ x m e. held-in v q x m e;
-    step = λ x y m t e. never t (none-has y);
-    free = λ y t. never t (none-has y);
-    more = omega arith;
+    backs = λ x m n. let (_, e) = of-more sets p among x (was-more sets p among x m n) in Back.nearest m e;
+    base = λ x m e. gone sets p among x e;
+    step = λ x y m l n t e. never (was-more sets p among y l n) t;
+    clear = λ y l n t. never (was-more sets p among y l n) t;
+    inside = λ x e. (of-more sets p among x e .0, more-gone sets p among x e);
+    within = λ x e. of-less sets p among x e;
   }
 
-  pub closing-more : (seen next : ProgramSet) → Closing sets among v q f both seen next → claimedIn next ≡ false
-      → Closing sets among v q f both next (unionOf next (heldBy (bitOr v (allV next)) (bitOr q (allQ next))))
-  closing-more seen next k e = let t = heldBy (bitOr v (allV next)) (bitOr q (allQ next)) in record {
-    backs = λ x u. or-cases (hasProgram next x) (hasProgram t x) (sym (union-has next t x) ∙ u) (k .backs x)
-        (λ d. let (m, c) = in-held (bitOr v (allV next)) (bitOr q (allQ next)) x d in
-        against-split sets next v q x c (λ a. Back.nearest m a) (λ y h n i a. Back.further m a (k .backs y i)));
-    base = λ x m d. union-has next t x ∙ or-left (hasProgram next x) (hasProgram t x) (k .base x m d);
-    step = λ x y m i d. union-has next t x ∙ or-right (hasProgram next x) (hasProgram t x)
-        (held-in (bitOr v (allV next)) (bitOr q (allQ next)) x m (against-some sets next v q x y (low next y i) (high next y i) i d));
-    free = claims-none next e;
-    more = union-le next t;
-  }
+  module _ (found rest : ProgramSet) (k : Closing sets among p f both found rest) where
+    -- all were asked: who holds p back was found, and does not claim f
+    pub closing-done : ((x : ℕ) → hasProgram found x ≡ false) → (x : ℕ) → Back sets among p x → claimsAt sets f both x ≡ false
+    closing-done n x b = k .clear x (back-among b) (is-found x b) (n x)
+      where
+        back-among : {x : ℕ} → Back sets among p x → hasProgram among x ≡ true
+        back-among (Back.nearest m e) = m
+        back-among (Back.further m e c) = m
+
+        is-found : (x : ℕ) → Back sets among p x → hasProgram rest x ≡ false
+        is-found x (Back.nearest m e) = k .base x m e
+        is-found x (Back.further {y = y} m e c) = k .step x y m (back-among c) (is-found y c) (n y) e
+
+    -- q is asked about
+    module _ (q : ℕ) (e : hasProgram found q ≡ true) (c : claimsAt sets f both q ≡ false) where
+      abbrev next : ProgramSet
+      next = unionOf (withoutProgram found q) (more sets q rest)
+
+      -- whoever is not in the next and not q was not in the last
+      was-not : (y : ℕ) → y ≢ q → hasProgram next y ≡ false → hasProgram found y ≡ false
+      was-not y d n = by-test (hasProgram found y)
+          (λ t. never (union-has (withoutProgram found q) (more sets q rest) y
+          ∙ or-left (hasProgram (withoutProgram found q) y) _ (without-number-other 32 (found .bits) q y d ∙ t)) n) (λ t. t)
+
+      -- and was not in the rest
+      rest-not : (y : ℕ) → hasProgram (lessOf rest (more sets q rest)) y ≡ false → hasProgram next y ≡ false → hasProgram rest y ≡ false
+      rest-not y l n = by-test (hasProgram rest y)
+          (λ t. never (union-has (withoutProgram found q) (more sets q rest) y
+          ∙ or-right (hasProgram (withoutProgram found q) y) (hasProgram (more sets q rest) y) (was-more sets q rest y t l)) n) (λ t. t)
+
+      closing-more : Closing sets among p f both next (lessOf rest (more sets q rest))
+      closing-more = record {
+        backs = λ x m n. by-test (hasProgram rest x)
+            (λ t. let (i, r) = k .inside q e in
+            Back.further m (of-more sets q rest x (was-more sets q rest x t n) .1) (k .backs q i r)) (λ t. k .backs x m t);
+        base = λ x m d. still-gone sets q rest x (k .base x m d);
+        step = λ x y m l r n d. by-test (eqb y q)
+            (λ t. gone sets q rest x (ap (λ (z : ℕ). holdsOne sets z x) (sym (eqb-true y q t)) ∙ d))
+            (λ t. still-gone sets q rest x (k .step x y m l (rest-not y r n) (was-not y (eqb-false y q t) n) d));
+        clear = λ y l r n. by-test (eqb y q) (λ t. ap (claimsAt sets f both) (eqb-true y q t) ∙ c)
+            (λ t. k .clear y l (rest-not y r n) (was-not y (eqb-false y q t) n));
+        inside = λ x d. or-cases (hasProgram (withoutProgram found q) x) (hasProgram (more sets q rest) x)
+            (sym (union-has (withoutProgram found q) (more sets q rest) x) ∙ d)
+            (λ t. let (i, r) = k .inside x (rest-more found found q (λ z w. w) x t) in (i, still-gone sets q rest x r))
+            (λ t. (k .within x (of-more sets q rest x t .0), more-gone sets q rest x t));
+        within = λ x d. k .within x (of-less sets q rest x d);
+      }
+
+      -- by what was found then, and the rest then
+      pub closing-next : (l r : ProgramSet) → l ≡ next → r ≡ lessOf rest (more sets q rest) → Closing sets among p f both l r
+      closing-next l r i j = rw (i, j) closing-more
 
 module _ (b : Board) (sets : List ℕ) (p f : ℕ) (s : SetsOf b sets) (h : 1 ≤ p) (k : p ≤ 32) (a : admits b p ≡ true) (o : found (carried b) ≡ true) where
   abbrev among : ProgramSet
   among = withoutProgram (admittedSet b) p
 
-  abbrev v : ℕ
-  v = getD sets (p - 1) 0
-
-  abbrev q : ℕ
-  q = getD sets (32 + (p - 1)) 0
-
   abbrev both : Bool
-  both = member (record { bits = v }) f
+  both = member (record { bits = getD sets (p - 1) 0 }) f
 
   is-program : isProgram p ≡ true
   is-program = is-number 32 p h k
@@ -149,21 +162,17 @@ module _ (b : Board) (sets : List ℕ) (p f : ℕ) (s : SetsOf b sets) (h : 1 �
       (sym (packed-has (admits b) 32 x (omega arith) (least 32 x i) (most 32 x i))
       ∙ sym (without-number-other 32 (admittedSet b .bits) p x (eqb-false x p t)) ∙ e)) (true-not (eqb x p) t))
 
-  -- who holds back whom, by the sets
-  holds-is : (x y : ℕ) → 1 ≤ x → x ≤ 32 → 1 ≤ y → y ≤ 32 → holdsOne sets y x ≡ holdsBack (at b x) (at b y)
-  holds-is x y i j l m = let c = s .1 (x - 1) (omega arith) in let d = s .1 (y - 1) (omega arith) in rw (c .2, c .3, d .0, d .1)
-
-  back-among : (x : ℕ) → Back sets among v q x → hasProgram among x ≡ true
+  back-among : (x : ℕ) → Back sets among p x → hasProgram among x ≡ true
   back-among x (Back.nearest m e) = m
   back-among x (Back.further m e c) = m
 
-  back-reaches : (x : ℕ) → Back sets among v q x → ReachesOn b p x
-  back-reaches x (Back.nearest m e) = reaches-direct b p x (of-among x m) (sym (holds-is x p (low among x m) (high among x m) h k) ∙ e)
+  back-reaches : (x : ℕ) → Back sets among p x → ReachesOn b p x
+  back-reaches x (Back.nearest m e) = reaches-direct b p x (of-among x m) (sym (holds-is b sets x p s (low among x m) (high among x m) h k) ∙ e)
   back-reaches x (Back.further {y = y} m e c) =
       let n = back-among y c in let r = back-reaches y c in
       by-test (eqb x y) (λ t. subst (ReachesOn b p) (sym (eqb-true x y t)) r)
       (λ t. reaches-through b p x y (of-among x m) t
-      (sym (holds-is x y (low among x m) (high among x m) (low among y n) (high among y n)) ∙ e) r)
+      (sym (holds-is b sets x y s (low among x m) (high among x m) (low among y n) (high among y n)) ∙ e) r)
 
   -- who claims f is whom p would hold back by it
   claimed-is : (x : ℕ) → 1 ≤ x → x ≤ 32
@@ -171,26 +180,20 @@ module _ (b : Board) (sets : List ℕ) (p f : ℕ) (s : SetsOf b sets) (h : 1 �
   claimed-is x l m = let c = s .1 (x - 1) (omega arith) in rw (c .0, c .1, s .1 (p - 1) (omega arith) .0)
       (by-test (member (at b p .writable) f) (λ t. rw t) (λ t. rw t (by-test (member (at b x .writable) f) (λ u. rw u) (λ u. rw u))))
 
-  module _ (seen next others : ProgramSet) (t : Bool) (x : others ≡ among) (y : t ≡ both) (n : Closing sets others v q f t seen next) where
-    c : Closing sets among v q f both seen next
-    c = subst (λ (z : Bool). Closing sets among v q f z seen next) y (subst (λ (z : ProgramSet). Closing sets z v q f t seen next) x n)
+  -- one that holds p back claims f
+  pub back-unsafe : (x : ℕ) → Back sets among p x → claimsAt sets f both x ≡ true → safe b p f ≡ false
+  back-unsafe x c d = let m = back-among x c in
+      unsafe-by-reach b p f is-program a x (back-reaches x c)
+      (given-holds (at b p) (at b x) f ∙ or-right (holdsBack (at b p) (at b x)) _ (sym (claimed-is x (low among x m) (high among x m)) ∙ d))
 
-    pub closing-unsafe : claimedIn sets others v q f t next ≡ true → safe b p f ≡ false
-    closing-unsafe e =
-        let (x, t, d) = claims-some sets among v q f both next (ap (λ (z : Bool). claimedIn sets others v q f z next) (sym y) ∙ e) in
-        unsafe-by-reach b p f is-program a x (back-reaches x (c .backs x t))
-        (given-holds (at b p) (at b x) f ∙ or-right (holdsBack (at b p) (at b x)) _ (sym (claimed-is x (low next x t) (high next x t)) ∙ d))
-
-    pub closing-safe : next .bits ≡ seen .bits → safe b p f ≡ true
-    closing-safe e = safe-by-closed b p f is-program a (hasProgram seen) o (record {
-      base = λ x u w. let m = in-among x u in
-          back x (c .base x m (holds-is x p (low among x m) (high among x m) h k ∙ w));
-      step = λ x y u i n t w. let m = in-among x u in let l = in-among y i in
-          back x (c .step x y m t (holds-is x y (low among x m) (high among x m) (low among y l) (high among y l) ∙ w));
-    }) (λ x u t. let m = in-among x u in
-        given-holds (at b p) (at b x) f ∙ ap₂ (λ (i j : Bool). i || j)
-        (no-back b p x is-program a o (back-reaches x (c .backs x (ap (λ (n : ℕ). hasNumber 32 n x) e ∙ t))))
-        (sym (claimed-is x (low among x m) (high among x m)) ∙ c .free x t))
-      where
-        back : (x : ℕ) → hasProgram next x ≡ true → hasProgram seen x ≡ true
-        back x t = ap (λ (n : ℕ). hasNumber 32 n x) (sym e) ∙ t
+  -- those of `all` are all that hold p back, and none claims f
+  pub back-safe : (all : ProgramSet) → ((x : ℕ) → hasProgram all x ≡ true → Back sets among p x) → ((x : ℕ) → Back sets among p x → hasProgram all x ≡ true)
+      → ((x : ℕ) → hasProgram all x ≡ true → claimsAt sets f both x ≡ false) → safe b p f ≡ true
+  back-safe all g c n = safe-by-closed b p f is-program a (hasProgram all) o (record {
+    base = λ x u w. let m = in-among x u in c x (Back.nearest m (holds-is b sets x p s (low among x m) (high among x m) h k ∙ w));
+    step = λ x y u i _ t w. let m = in-among x u in let l = in-among y i in
+        c x (Back.further m (holds-is b sets x y s (low among x m) (high among x m) (low among y l) (high among y l) ∙ w) (g y t));
+  }) (λ x u t. let m = in-among x u in
+      given-holds (at b p) (at b x) f ∙ ap₂ (λ (i j : Bool). i || j)
+      (no-back b p x is-program a o (back-reaches x (g x t)))
+      (sym (claimed-is x (low among x m) (high among x m)) ∙ n x t))

@@ -1,6 +1,6 @@
 -- Laws of lists of numbers, of sets of programs, and of the search. Assumes nothing.
-use mathlib.Core.Path.{_≡_, refl, sym, ap, _∙_}
-use mathlib.Core.Bool.{Bool, true, not, cond, _&&_, _||_}
+use mathlib.Core.Path.{_≡_, refl, sym, ap, subst, _∙_}
+use mathlib.Core.Bool.{Bool, true, not, cond, _&&_}
 use mathlib.Core.List.{List, [], _∷_}
 use mathlib.Core.Option.{Option, none, some}
 use Prim.Native.Nat.{ℕ, zero, suc, _+_, _-_, _≤_, _<_}
@@ -13,10 +13,10 @@ use native.Mathlib.Nat.{zero-add, add-zero, add-suc, suc-add}
 use lib.Dec.{eqb}
 use lib.ListN.{set, drop, replicate, take-append-drop}
 use lib.Seq.{take-suc-set, drop-set-lt}
-use borrow.Author.Tests.{eqb-true, eqb-false}
+use borrow.Author.Tests.{ne-eqb, eqb-true, eqb-false}
 use Rattle.files.proofs.Tests.{by-test, by-option, never, and-left, and-right, and-both, same-test, or-true, and-false, and-true}
 use Rattle.files.specs.Bits.{hasBit, isNumber}
-use Rattle.files.proofs.Bits.{share-of, of-share, is-number, has-bit}
+use Rattle.files.proofs.Bits.{share-of, of-share, is-number, has-bit, has-number, least, most}
 use Rattle.files.proofs.Bits.{without-number-same, without-number-other}
 use Rattle.rules.specs.declared.Board.{Board}
 use Rattle.rules.specs.Lists.{rising, any, keep, first, found, withFound, without, padded}
@@ -26,9 +26,12 @@ use Rattle.tables.specs.declared.ProgramSet.{ProgramSet}
 use Rattle.search.specs.declared.Search.{Search}
 use Rattle.search.specs.declared.Order.{Order}
 use Rattle.tables.specs.ProgramSets.{hasProgram, withoutProgram, programsMeet}
-use Rattle.tables.specs.Tables.{packed, stops, holders, RowsOf}
+use Rattle.tables.specs.Tables.{packed, stops, rowOf, RowsOf}
 use Rattle.tables.proofs.Laws.{packed-bit, packed-has}
-use Rattle.search.specs.Rows.{isFound, RowsAt, admits, admittedSet, free, lowest, orderFrom, placed, outcome, asOrder, orderIn, OrderFor}
+use Rattle.tables.proofs.Walk.{rest-more}
+use Rattle.theory.specs.Lists.{keep-same as keep-same-on, keep-mem}
+use Rattle.search.specs.Counts.{those, heldCount, countOf, Counted, Among, CountedFor, atZero, lowest}
+use Rattle.search.specs.Rows.{isFound, admits, admittedSet, free, orderFrom, placed, outcome, asOrder, orderIn, OrderFor}
 
 -- ---- tests over a range of numbers
 
@@ -63,12 +66,6 @@ first-in t (suc n) k p e =
     some-is e = cc
 
 module _ (s t : ℕ → Bool) where
-  pub any-keep : (l : List ℕ) → any t (keep s l) ≡ any (λ x. s x && t x) l
-  unfolding any keep
-  any-keep [] = refl
-  any-keep (x ∷ l) =
-      by-test (s x) (λ y. rw y (ap (λ (z : Bool). t x || z) (any-keep l))) (λ y. rw y (any-keep l))
-
   pub first-keep : (l : List ℕ) → first t (keep s l) ≡ first (λ x. s x && t x) l
   unfolding first keep
   first-keep [] = refl
@@ -108,10 +105,6 @@ any-meets l t = same-test (any (λ x. hasProgram l x && t x) (rising 32 1)) (pro
     (and-both (hasProgram l (suc i)) (t (suc i)) (and-both (isNumber 32 (suc i)) (hasBit (l .bits) (suc i - 1))
     (is-number 32 (suc i) (omega arith) (omega arith)) (let k : suc i - 1 ≡ i = omega arith in rw k a)) e))
 
-pub held-is : (b : Board) (l : ProgramSet) (p : ℕ) → heldBack b (keep (hasProgram l) everyone) p ≡ programsMeet l (holders b p)
-unfolding heldBack holders
-held-is b l p = any-keep (hasProgram l) (stops b p) everyone ∙ any-meets l (stops b p)
-
 -- ---- the order, by sets
 
 pub left-without : (l : ProgramSet) (p : ℕ) → 1 ≤ p → without p (keep (hasProgram l) everyone) ≡ keep (hasProgram (withoutProgram l p)) everyone
@@ -126,26 +119,58 @@ left-without l p h =
         ∙ sym (ap (hasProgram (withoutProgram l p)) z ∙ without-number-same 32 (l .bits) p)))
         (λ y. let z : x ≢ p = eqb-false x p y in rw y (and-true (hasProgram l x) ∙ sym (without-number-other 32 (l .bits) p x z)))
 
-pub first-is : (b : Board) (rows : List ℕ) (l : ProgramSet) → RowsAt b rows
-    → first (λ p. not (heldBack b (keep (hasProgram l) everyone) p)) (keep (hasProgram l) everyone) ≡ first (free rows l) everyone
-unfolding everyone
-first-is b rows l f =
-    first-keep (hasProgram l) (λ p. not (heldBack b (keep (hasProgram l) everyone) p)) (rising 32 1)
-    ∙ first-same (λ p. hasProgram l p && not (heldBack b (keep (hasProgram l) everyone) p)) (free rows l) 32 1
-    (λ p k h. ap (λ (x : Bool). hasProgram l p && not x) (held-is b l p ∙ ap (programsMeet l) (sym (f p k (omega arith)))))
-
 first-from : (t : ℕ → Bool) (p : ℕ) → first t everyone ≡ some p → 1 ≤ p
 unfolding everyone
 first-from t p e = first-in t 32 1 p e .0
 
-pub order-is : (b : Board) (rows : List ℕ) → RowsAt b rows → (n : ℕ) (l : ProgramSet)
-    → carriedFrom n b (keep (hasProgram l) everyone) ≡ orderFrom n rows l
-unfolding carriedFrom orderFrom
-order-is b rows f zero l = refl
-order-is b rows f (suc n) l =
-    by-option (first (free rows l) everyone)
-    (λ e. rw (first-is b rows l f, e))
-    (λ p e. rw (first-is b rows l f, e, left-without l p (first-from (free rows l) p e), order-is b rows f n (withoutProgram l p)))
+-- none passes exactly if the number of those that pass is 0
+none-count : (t : ℕ → Bool) (l : List ℕ) → not (any t l) ≡ eqb (length (keep t l)) 0
+unfolding any keep
+none-count t [] = refl
+none-count t (x ∷ l) = by-test (t x)
+    (λ y. rw y (sym (ne-eqb (suc (length (keep t l))) 0 (λ d. let z : suc (length (keep t l)) ≡ 0 = d in omega arith)))) (λ y. rw y (none-count t l))
+
+pub low : (s : ProgramSet) (x : ℕ) → hasProgram s x ≡ true → 1 ≤ x
+low s x e = least 32 x (has-number 32 (s .bits) x e)
+
+pub high : (s : ProgramSet) (x : ℕ) → hasProgram s x ≡ true → x ≤ 32
+high s x e = most 32 x (has-number 32 (s .bits) x e)
+
+among-without : (l a : ProgramSet) (p : ℕ) → Among l a → Among (withoutProgram l p) a
+among-without l a p f = rest-more a l p f
+
+module _ (b : Board) (a : ProgramSet) (rows : List ℕ) (f : RowsOf b a rows) where
+  -- in how many rows of those left p stands is how many of them hold it back
+  held-count : (l : ProgramSet) (p : ℕ) → Among l a → hasProgram l p ≡ true → heldCount rows l p ≡ length (keep (stops b p) (those l))
+  held-count l p w e = ap length (keep-same-on (λ i. hasProgram (rowOf rows i) p) (stops b p) (those l)
+      (λ i m. let d = keep-mem (hasProgram l) everyone i m .1 in
+      f i p (low l i d) (high l i d) (low l p e) (high l p e) ∙ rw (w i d, w p e)))
+
+  first-is : (l : ProgramSet) → Among l a → first (λ p. not (heldBack b (those l) p)) (those l) ≡ first (free rows l) everyone
+  unfolding everyone heldBack
+  first-is l w =
+      first-keep (hasProgram l) (λ p. not (heldBack b (those l) p)) (rising 32 1)
+      ∙ first-same (λ p. hasProgram l p && not (heldBack b (those l) p)) (free rows l) 32 1
+      (λ p k h. by-test (hasProgram l p)
+      (λ e. ap (λ (x : Bool). hasProgram l p && x) (none-count (stops b p) (those l) ∙ ap (λ (n : ℕ). eqb n 0) (sym (held-count l p w e))))
+      (λ e. rw e))
+
+  order-is : (n : ℕ) (l : ProgramSet) → Among l a → carriedFrom n b (those l) ≡ orderFrom n rows l
+  unfolding carriedFrom orderFrom
+  order-is zero l w = refl
+  order-is (suc n) l w =
+      by-option (first (free rows l) everyone)
+      (λ e. rw (first-is l w, e))
+      (λ p e. rw (
+        first-is l w,
+        e,
+        left-without l p (first-from (free rows l) p e),
+        order-is n (withoutProgram l p) (among-without l a p w),
+      ))
+
+-- "every remaining program's count is that number": on boards
+pub counted-for : (rows : List ℕ) (a : ProgramSet) → CountedFor rows a
+counted-for rows a b l counts f w c p e = c .1 p e ∙ held-count b a rows f l p w e
 
 pub admitted-is : (b : Board) → admitted b ≡ keep (hasProgram (admittedSet b)) everyone
 unfolding admitted admittedSet everyone
@@ -153,25 +178,39 @@ admitted-is b = keep-same (admits b) (hasProgram (packed (admits b) 32)) 32 1
     (λ p k h. sym (packed-has (admits b) 32 p (omega arith) k (omega arith)))
 
 -- the search from the admitted programs is the carried order
-pub carried-is : (b : Board) (rows : List ℕ) → RowsAt b rows → orderFrom (length (admitted b)) rows (admittedSet b) ≡ carried b
+carried-is : (b : Board) (rows : List ℕ) → RowsOf b (admittedSet b) rows → orderFrom (length (admitted b)) rows (admittedSet b) ≡ carried b
 unfolding carried
 carried-is b rows f =
-    sym (ap (carriedFrom (length (admitted b)) b) (admitted-is b) ∙ order-is b rows f (length (admitted b)) (admittedSet b))
+    sym (ap (carriedFrom (length (admitted b)) b) (admitted-is b)
+    ∙ order-is b (admittedSet b) rows f (length (admitted b)) (admittedSet b) (λ x e. e))
 
 -- ---- the lowest
 
-pub lowest-none : (rows : List ℕ) (l : ProgramSet) → lowest rows l ≡ 0 → first (free rows l) everyone ≡ none
-unfolding lowest everyone
-lowest-none rows l e =
-    by-option (first (free rows l) (rising 32 1)) (λ z. z)
-    (λ p z. let a = first-in (free rows l) 32 1 p z .0 in let w : p ≡ 0 = rw z at e in absurd (omega arith))
+module _ (rows counts : List ℕ) (l : ProgramSet) (c : Counted rows l counts) where
+  firsts : first (atZero counts l) everyone ≡ first (free rows l) everyone
+  unfolding everyone
+  firsts = first-same (atZero counts l) (free rows l) 32 1 (λ p k h. by-test (hasProgram l p)
+      (λ e. ap (λ (n : ℕ). hasProgram l p && eqb n 0) (c .1 p e)) (λ e. rw e))
 
-pub lowest-some : (rows : List ℕ) (l : ProgramSet) (p : ℕ) → p ≡ lowest rows l → p ≢ 0 → first (free rows l) everyone ≡ some p
-unfolding lowest everyone
-lowest-some rows l p e n =
-    by-option (first (free rows l) (rising 32 1))
-    (λ z. let w : p ≡ 0 = rw z at e in absurd (n w))
-    (λ q z. let w : p ≡ q = rw z at e in z ∙ ap some (sym w))
+  lowest-none : lowest counts l ≡ 0 → first (free rows l) everyone ≡ none
+  unfolding lowest everyone
+  lowest-none e = sym firsts ∙
+      by-option (first (atZero counts l) (rising 32 1)) (λ z. z)
+      (λ p z. let a = first-in (atZero counts l) 32 1 p z .0 in let w : p ≡ 0 = rw z at e in absurd (omega arith))
+
+  found-lowest : (p : ℕ) → p ≡ lowest counts l → p ≢ 0 → first (atZero counts l) everyone ≡ some p
+  unfolding lowest everyone
+  found-lowest p e n =
+      by-option (first (atZero counts l) (rising 32 1))
+      (λ z. let w : p ≡ 0 = rw z at e in absurd (n w))
+      (λ q z. let w : p ≡ q = rw z at e in z ∙ ap some (sym w))
+
+  lowest-some : (p : ℕ) → p ≡ lowest counts l → p ≢ 0 → first (free rows l) everyone ≡ some p
+  lowest-some p e n = sym firsts ∙ found-lowest p e n
+
+  pub lowest-left : (p : ℕ) → p ≡ lowest counts l → p ≢ 0 → hasProgram l p ≡ true
+  unfolding everyone
+  lowest-left p e n = and-left (hasProgram l p) (eqb (countOf counts p) 0) (first-in (atZero counts l) 32 1 p (found-lowest p e n) .2)
 
 -- ---- the order's places
 
@@ -205,27 +244,24 @@ module _ (rows : List ℕ) (l : ProgramSet) (at : List ℕ) where
   unfolding orderFrom
   order-done n k e = rw (e, add-zero k, take-append-drop k at)
 
-  pub order-stuck : (n k p : ℕ) → n ≢ 0 → p ≡ lowest rows l → p ≡ 0
+module _ (rows counts : List ℕ) (l : ProgramSet) (c : Counted rows l counts) (at : List ℕ) where
+  pub order-stuck : (n k p : ℕ) → n ≢ 0 → p ≡ lowest counts l → p ≡ 0
       → _≡_ {A = Order} (record { kind = Search.Stuck; at = replicate 32 0 }) (placed at k (orderFrom n rows l))
   unfolding orderFrom
   order-stuck zero k p ne e z = absurd (ne refl)
-  order-stuck (suc n) k p ne e z = rw (lowest-none rows l (sym e ∙ z))
+  order-stuck (suc n) k p ne e z = rw (lowest-none rows counts l c (sym e ∙ z))
 
-  pub order-more : (n k p : ℕ) → n ≢ 0 → p ≡ lowest rows l → p ≢ 0 → k < length at
+  pub order-more : (n k p : ℕ) → n ≢ 0 → p ≡ lowest counts l → p ≢ 0 → k < length at
       → placed (set at k p) (k + 1) (orderFrom (n - 1) rows (withoutProgram l p)) ≡ placed at k (orderFrom n rows l)
   unfolding orderFrom
   order-more zero k p ne e z h = absurd (ne refl)
   order-more (suc n) k p ne e z h =
-      rw (lowest-some rows l p e z, sub-one (suc n)) (placed-more at k p (orderFrom n rows (withoutProgram l p)) h)
+      rw (lowest-some rows counts l c p e z, sub-one (suc n)) (placed-more at k p (orderFrom n rows (withoutProgram l p)) h)
 
--- ---- the rows
-
-pub rows-at : (b : Board) (rows : List ℕ) → RowsOf b rows → RowsAt b rows
-unfolding holders
-rows-at b rows f p h k = let z : suc (p - 1) ≡ p = omega arith in f .1 (p - 1) (omega arith) ∙ ap (λ (x : ℕ). packed (stops b x) 32) z
+-- ---- the whole search
 
 -- the search from no place on
-pub order-in-is : (rows at : List ℕ) (left : ProgramSet) (n : ℕ) (r : Bool) → n ≡ length (keep (hasProgram left) everyone)
+pub order-in-is : (rows at : List ℕ) (left : ProgramSet) (n : ℕ) (r : Bool) → n ≡ length (those left)
     → outcome r (0 + n) at ≡ placed (replicate 32 0) 0 (orderFrom n rows left) → outcome r n at ≡ orderIn rows left
 unfolding orderIn
 order-in-is rows at left n r c o =
@@ -236,9 +272,9 @@ order-in-is rows at left n r c o =
 pub order-for : (rows : List ℕ) (left : ProgramSet) → OrderFor rows left (orderIn rows left)
 unfolding orderIn
 order-for rows left b f e =
-    ap (λ (x : ProgramSet). asOrder (orderFrom (length (keep (hasProgram x) everyone)) rows x)) e
+    ap (λ (x : ProgramSet). asOrder (orderFrom (length (those x)) rows x)) e
     ∙ ap (λ (l : List ℕ). asOrder (orderFrom (length l) rows (admittedSet b))) (sym (admitted-is b))
-    ∙ ap asOrder (carried-is b rows (rows-at b rows f))
+    ∙ ap asOrder (carried-is b rows (subst (λ (x : ProgramSet). RowsOf b x rows) e f))
 
 -- ---- whether an order was found
 

@@ -16,9 +16,9 @@ use Rattle.search.specs.Gives.{orderGiven, OrderGiven}
 use Rattle.search.proofs.Laws.{order-for}
 
 -- by the arrays of the board
-pub order-of : (b : Board) (rows : List ℕ) (left : ProgramSet) → rows ≡ rowsOf (setsOf b) → left ≡ admittedSet b
+pub order-of : (b : Board) (rows : List ℕ) (left : ProgramSet) → rows ≡ rowsOf (setsOf b) left → left ≡ admittedSet b
     → orderIn rows left ≡ asOrder (carried b)
-order-of b rows left e d = ap (λ (l : List ℕ). orderIn l left) e ∙ order-for (rowsOf (setsOf b)) left b (rows-for b (setsOf b) (sets-of b)) d
+order-of b rows left e d = ap (λ (l : List ℕ). orderIn l left) e ∙ order-for (rowsOf (setsOf b) left) left b (rows-for b (setsOf b) left (sets-of b)) d
 
 -- ---- with a file given
 
@@ -33,5 +33,5 @@ sets-with b p f sets z i s = sets-given b (withGiven b p f) (opening (at b p) f)
 
 pub given-for : (sets : List ℕ) (a : ProgramSet) (p f : ℕ) → Is p → OrderGiven sets a p f (orderGiven sets a p f)
 given-for sets a p f i b z s e =
-    order-for (rowsOf (givenAt sets (p - 1) f)) a (withGiven b p f)
-    (rows-for (withGiven b p f) (givenAt sets (p - 1) f) (sets-with b p f sets z i s)) (e ∙ sym (admitted-with b p f z i))
+    order-for (rowsOf (givenAt sets (p - 1) f) a) a (withGiven b p f)
+    (rows-for (withGiven b p f) (givenAt sets (p - 1) f) a (sets-with b p f sets z i s)) (e ∙ sym (admitted-with b p f z i))

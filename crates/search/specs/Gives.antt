@@ -1,7 +1,7 @@
 -- Whether a file can be given, as the code decides it from the arrays of a board. The statements below, which proofs/ proves,
 -- lead from the arrays to every board that has them.
 -- Assumes nothing.
-use Prim.Native.Nat.{ℕ, zero, suc, _+_, _-_, _≤_}
+use Prim.Native.Nat.{ℕ, zero, suc, _-_}
 use mathlib.Core.Path.{_≡_}
 use mathlib.Core.Bool.{Bool, true, false, not, _&&_, _||_}
 use mathlib.Core.List.{List}
@@ -14,8 +14,8 @@ use Rattle.rules.specs.Orders.{carried, withGiven, inUse, safe, canGive}
 use Rattle.rules.specs.Soundness.{noConflict}
 use Rattle.tables.specs.declared.ProgramSet.{ProgramSet}
 use Rattle.tables.specs.ProgramSets.{noPrograms, hasProgram, withoutProgram}
-use Rattle.tables.specs.Tables.{SetsOf, openedFrom, packed, rowsOf}
-use Rattle.tables.specs.Claims.{claimsAt, holdsOne, givenAt}
+use Rattle.tables.specs.Tables.{SetsOf, openedFrom, packed, holdsOne, rowsOf}
+use Rattle.tables.specs.Claims.{claimsAt, givenAt}
 use Rattle.search.specs.declared.Order.{Order}
 use Rattle.search.specs.declared.Uses.{Uses}
 use Rattle.search.specs.Rows.{admits, admittedSet, asOrder, orderIn}
@@ -56,7 +56,7 @@ giveIn sets u p f = not (usedIn sets u p f) && safeIn sets (u .admitted) p f
 
 -- the order of those admitted, with f given to p
 abbrev pub orderGiven : List ℕ → ProgramSet → ℕ → ℕ → Order
-orderGiven sets a p f = orderIn (rowsOf (givenAt sets (p - 1) f)) a
+orderGiven sets a p f = orderIn (rowsOf (givenAt sets (p - 1) f) a) a
 
 -- ---- from the arrays to boards
 

@@ -1,24 +1,22 @@
 -- The search for the carried order as the code makes it, by sets of programs. The laws of proofs/ show that it is the carried order of the rules.
 -- Assumes nothing.
-use Prim.Native.Nat.{ℕ, zero, suc, _+_, _≤_}
+use Prim.Native.Nat.{ℕ, zero, suc, _+_}
 use mathlib.Core.Path.{_≡_}
-use mathlib.Core.Bool.{Bool, true, false, not, _&&_}
+use mathlib.Core.Bool.{Bool, true, false, _&&_}
 use mathlib.Core.List.{List, [], _∷_, _++_}
-use mathlib.Core.Option.{Option, none, some, Option·getD}
+use mathlib.Core.Option.{Option, none, some}
+use lib.Dec.{eqb}
 use lib.ListN.{length, take, drop, replicate}
 use Rattle.rules.specs.declared.Board.{Board}
-use Rattle.rules.specs.Lists.{keep, first, withFound, padded}
+use Rattle.rules.specs.Lists.{first, withFound, padded}
 use Rattle.rules.specs.Boards.{everyone, at, isAdmitted}
 use Rattle.rules.specs.Orders.{carried}
 use Rattle.tables.specs.declared.ProgramSet.{ProgramSet}
 use Rattle.search.specs.declared.Search.{Search}
 use Rattle.search.specs.declared.Order.{Order}
-use Rattle.tables.specs.ProgramSets.{hasProgram, withoutProgram, programsMeet}
-use Rattle.tables.specs.Tables.{packed, holders, rowOf, RowsOf}
-
--- the rows of the board: in each program's place, those that hold it back
-abbrev pub RowsAt : Board → List ℕ → Type 0
-RowsAt b rows = (p : ℕ) → 1 ≤ p → p ≤ 32 → rowOf rows p ≡ holders b p
+use Rattle.tables.specs.ProgramSets.{hasProgram, withoutProgram}
+use Rattle.tables.specs.Tables.{packed, RowsOf}
+use Rattle.search.specs.Counts.{those, heldCount}
 
 -- p is admitted
 abbrev pub admits : Board → ℕ → Bool
@@ -28,13 +26,9 @@ admits b p = isAdmitted (at b p .standing)
 unfoldable pub admittedSet : Board → ProgramSet
 admittedSet b = packed (admits b) 32
 
--- p is left, and none that is left is in its row
+-- p is left, and none that is left holds it back
 abbrev pub free : List ℕ → ProgramSet → ℕ → Bool
-free rows left p = hasProgram left p && not (programsMeet left (rowOf rows p))
-
--- the lowest program that is free, or 0
-unfoldable pub lowest : List ℕ → ProgramSet → ℕ
-lowest rows left = Option·getD (first (free rows left) everyone) 0
+free rows left p = hasProgram left p && eqb (heldCount rows left p) 0
 
 -- the order of the n programs left
 unfoldable pub orderFrom : ℕ → List ℕ → ProgramSet → Option (List ℕ)
@@ -65,8 +59,8 @@ isFound Search.Stuck = false
 
 -- the order of the programs left, by the rows
 unfoldable pub orderIn : List ℕ → ProgramSet → Order
-orderIn rows left = asOrder (orderFrom (length (keep (hasProgram left) everyone)) rows left)
+orderIn rows left = asOrder (orderFrom (length (those left)) rows left)
 
 -- the carried order of every board with these rows and admitted programs
 abbrev pub OrderFor : List ℕ → ProgramSet → Order → Type 0
-OrderFor rows left o = (b : Board) → RowsOf b rows → left ≡ admittedSet b → o ≡ asOrder (carried b)
+OrderFor rows left o = (b : Board) → RowsOf b left rows → left ≡ admittedSet b → o ≡ asOrder (carried b)

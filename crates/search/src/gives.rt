@@ -51,29 +51,27 @@ pub fn in_use(sets: &[u64; 128], u: Uses, p: u8, f: u8) -> bool
 }
 
 // Whether giving f to p is safe: on a board that has an order, whether one comes back. Those that hold p back, directly or through
-// others, are gathered round by round, until one claims f so that p would hold it back, or there are no more.
+// others, are found one after another, until one claims f so that p would hold it back, or there are no more. Who is found is
+// tested no more: each ordered pair is tested at most once.
 pub fn is_safe(sets: &[u64; 128], admitted: ProgramSet, p: u8, f: u8) -> bool
     requires { ⌜ (1 ≤ p) × (p ≤ 32) ⌝ }
     ensures { λ r. ⌜ r ≡ safeIn (now (sets .entry)) admitted p f ⌝ }
 {
     let i = (p - 1) as usize;
-    let v = sets[i];
-    let q = sets[32 + i];
-    let own = FileSet { bits: v };
+    let own = FileSet { bits: sets[i] };
     let both = own.has(f);
     let others = admitted.without(p);
-    let first = tables::claims::holders_by(sets, v, q);
-    let mut seen = ProgramSet::EMPTY;
-    let mut next = first.and(others);
-    while next.bits != seen.bits {
-        seen = next;
-        let w = tables::claims::files_of(sets, 0, seen);
-        let r = tables::claims::files_of(sets, 32, seen);
-        if tables::claims::is_claimed(FileSet { bits: w }, FileSet { bits: r }, f, both) {
+    let mut found = tables::holders_of(sets, p, others);
+    let mut rest = others.less(found);
+    while found.bits != 0 {
+        let q = found.lowest();
+        if tables::claims::has_claim(sets, q, f, both) {
             return false;
         }
-        let more = tables::claims::holders_by(sets, v | w, q | r);
-        next = seen.or(more.and(others));
+        let more = tables::holders_of(sets, q, rest);
+        rest = rest.less(more);
+        let left = found.but_lowest();
+        found = left.or(more);
     }
     true
 }
@@ -99,6 +97,6 @@ pub fn order_given(sets: &mut [u64; 128], admitted: ProgramSet, p: u8, f: u8) ->
     let i = (p - 1) as usize;
     tables::claims::give(sets, i, f);
     let mut rows = [0u32; 32];
-    tables::fill_rows(sets, &mut rows);
+    tables::rows::fill_rows(sets, admitted, &mut rows);
     crate::order_in(&rows, admitted)
 }

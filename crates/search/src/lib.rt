@@ -4,14 +4,12 @@ use rules::Board;
 use rules::Program;
 use tables::ProgramSet;
 ghost use mathlib.Core.Path.{_≡_};
-ghost use mathlib.Core.Bool.{not};
 ghost use Prim.Native.Nat.{_+_, _≤_};
-ghost use lib.ListN.{length};
+ghost use lib.ListN.{length, replicate};
 ghost use Rattle.rules.specs.Boards.{admitted, awaited, setProgram};
 ghost use Rattle.rules.specs.Orders.{carried};
-ghost use Rattle.tables.specs.ProgramSets.{programsMeet};
-ghost use Rattle.tables.specs.Tables.{rowOf};
-ghost use Rattle.search.specs.Rows.{admittedSet, lowest, orderFrom, placed, outcome, asOrder, orderIn, isFound};
+ghost use Rattle.search.specs.Counts.{countsOf, Counted, CanRaise, CanLower, raised, lowered, lowest};
+ghost use Rattle.search.specs.Rows.{admittedSet, orderFrom, placed, outcome, asOrder, orderIn, isFound};
 
 pub mod gives;
 
@@ -105,46 +103,93 @@ pub fn admitted_count(b: Board) -> u8
 
 // ---- the carried order
 
-// Whether none that is left holds p back.
-fn is_free(rows: &[u32; 32], left: ProgramSet, p: u8) -> bool
-    requires { ⌜ (1 ≤ p) × (p ≤ 32) ⌝ }
-    ensures { λ r. ⌜ r ≡ not (programsMeet left (rowOf (now (rows .entry)) p)) ⌝ }
+// One more for each program of a set.
+fn raise(set: ProgramSet, counts: &mut [u8; 32])
+    requires { ⌜ CanRaise set (now counts) ⌝ }
+    ensures { λ _. ⌜ now (counts .exit) ≡ raised set (now (counts .entry)) ⌝ }
 {
-    let i = (p - 1) as usize;
-    let row = ProgramSet { bits: rows[i] };
-    !left.meets(row)
+    let mut rest = set;
+    while rest.bits != 0 {
+        let p = rest.lowest();
+        let i = (p - 1) as usize;
+        counts[i] += 1;
+        rest = rest.but_lowest();
+    }
 }
 
-// The lowest-numbered program that no other remaining one holds back, or 0.
-fn lowest_free(rows: &[u32; 32], left: ProgramSet) -> u8
-    ensures { λ r. ⌜ (r ≡ lowest (now (rows .entry)) left) × (r ≤ 32) ⌝ }
+// One less for each program of a set.
+fn lower(set: ProgramSet, counts: &mut [u8; 32])
+    requires { ⌜ CanLower set (now counts) ⌝ }
+    ensures { λ _. ⌜ now (counts .exit) ≡ lowered set (now (counts .entry)) ⌝ }
+{
+    let mut rest = set;
+    while rest.bits != 0 {
+        let p = rest.lowest();
+        let i = (p - 1) as usize;
+        counts[i] -= 1;
+        rest = rest.but_lowest();
+    }
+}
+
+// For each program left the number of those left that hold it back, and 0 for the others.
+fn count_all(rows: &[u32; 32], left: ProgramSet, counts: &mut [u8; 32])
+    requires { ⌜ now counts ≡ replicate 32 0 ⌝ }
+    ensures { λ _. ⌜ now (counts .exit) ≡ countsOf (now (rows .entry)) left ⌝ }
 {
     let mut rest = left;
     while rest.bits != 0 {
         let p = rest.lowest();
-        if is_free(rows, left, p) {
+        let row = ProgramSet {
+            bits: rows[(p - 1) as usize],
+        };
+        raise(row.and(left), counts);
+        rest = rest.but_lowest();
+    }
+}
+
+// The lowest-numbered program left whose count is 0, or 0.
+fn lowest_free(counts: &[u8; 32], left: ProgramSet) -> u8
+    ensures { λ r. ⌜ (r ≡ lowest (now (counts .entry)) left) × (r ≤ 32) ⌝ }
+{
+    let mut rest = left;
+    while rest.bits != 0 {
+        let p = rest.lowest();
+        let i = (p - 1) as usize;
+        if counts[i] == 0 {
             return p;
         }
-        rest = rest.without(p);
+        rest = rest.but_lowest();
     }
     0
 }
 
 // The order of the n programs left, from place k of `at` on: one is taken, then the same for the rest. Whether all were taken.
-fn search_rest(rows: &[u32; 32], left: ProgramSet, n: usize, at: &mut [u8; 32], k: usize) -> bool
-    requires { ⌜ (k + n ≤ 32) × (length (now at) ≡ 32) ⌝ }
+// Before each taking the count of each program left is the number of those left that hold it back.
+fn search_rest(
+    rows: &[u32; 32],
+    left: ProgramSet,
+    n: usize,
+    counts: &mut [u8; 32],
+    at: &mut [u8; 32],
+    k: usize,
+) -> bool
+    requires { ⌜ (k + n ≤ 32) × (length (now at) ≡ 32) × Counted (now rows) left (now counts) ⌝ }
     ensures { λ r. ⌜ outcome r (k + n) (now (at .exit)) ≡ placed (now (at .entry)) k (orderFrom n (now (rows .entry)) left) ⌝ }
 {
     if n == 0 {
         return true;
     }
-    let p = lowest_free(rows, left);
+    let p = lowest_free(counts, left);
     if p == 0 {
         return false;
     }
     let rest = left.without(p);
+    let row = ProgramSet {
+        bits: rows[(p - 1) as usize],
+    };
+    lower(row.and(rest), counts);
     at[k] = p;
-    search_rest(rows, rest, n - 1, at, k + 1)
+    search_rest(rows, rest, n - 1, counts, at, k + 1)
 }
 
 // The order of the programs left, by the rows: the carried one of every board that has them.
@@ -152,8 +197,10 @@ pub fn order_in(rows: &[u32; 32], left: ProgramSet) -> Order
     ensures { λ r. ⌜ r ≡ orderIn (now (rows .entry)) left ⌝ }
 {
     let n = left.count() as usize;
+    let mut counts = [0u8; 32];
+    count_all(rows, left, &mut counts);
     let mut at = [0u8; 32];
-    if !search_rest(rows, left, n, &mut at, 0) {
+    if !search_rest(rows, left, n, &mut counts, &mut at, 0) {
         return Order::NONE;
     }
     Order {
@@ -168,8 +215,8 @@ pub fn carried_order(b: Board) -> Order
 {
     let mut sets = [0u64; 128];
     let mut rows = [0u32; 32];
-    tables::fill(b, &mut sets, &mut rows);
     let left = admitted_set(b);
+    tables::fill(b, left, &mut sets, &mut rows);
     order_in(&rows, left)
 }
 

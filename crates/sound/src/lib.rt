@@ -346,8 +346,8 @@ pub fn judge(b: Board) -> Judged
 {
     let mut sets = [0u64; 128];
     let mut rows = [0u32; 32];
-    tables::fill(b, &mut sets, &mut rows);
     let admitted = search::admitted_set(b);
+    tables::fill(b, admitted, &mut sets, &mut rows);
     let uses = search::gives::uses_in(admitted, &sets);
     let order = search::order_in(&rows, admitted);
     let ordered = search::is_found(order);

@@ -6,12 +6,13 @@ use mathlib.Core.Option.{Option, Option·getD}
 use Prim.Native.Nat.{ℕ, zero, suc, _+_, _-_, _/_, _%_, _^_, _<_}
 use native.Mathlib.Nat.{div-div-eq-div-mul, mul-comm, pow-suc, div-one}
 use native.Mathlib.Omega.{arith}
+use lib.Bits.{bitAnd, and-step, and-self}
 use lib.Count.{ones, ones-step, trailingZeros, under}
 use lib.Dec.{eqb}
 use lib.ListN.{length}
 use borrow.Author.Tests.{eqb-true, eqb-false}
 use Rattle.files.proofs.Tests.{by-test, no-true, never, and-both}
-use Rattle.files.specs.Bits.{hasBit, hasNumber, isNumber}
+use Rattle.files.specs.Bits.{hasBit, hasNumber, isNumber, withoutNumber}
 use Rattle.files.proofs.Bits.{is-number, least, has-number, has-bit}
 use Rattle.rules.specs.Lists.{keep, rising}
 use Rattle.rules.specs.Boards.{everyone}
@@ -66,6 +67,21 @@ trailing-none (suc k) n (suc i) h =
     (λ t. let d : n % 2 ≢ 1 = eqb-false (n % 2) 1 t in let e = even-more k n (omega arith) in
     half-bit n i ∙ trailing-none k (n / 2) i (omega arith))
 
+-- the lowest digit that is set, cleared
+trailing-clear : (k n : ℕ) → n ≢ 0 → n < 2 ^ k → bitAnd n (n - 1) + 2 ^ trailingZeros k n ≡ n
+trailing-clear zero n z h = absurd (omega arith)
+trailing-clear (suc k) n z h =
+    let s = and-step n (n - 1) in by-test (eqb (n % 2) 1)
+    (λ t. let o = eqb-true (n % 2) 1 t in let e = odd-none k n o in
+    let a : (n - 1) / 2 ≡ n / 2 = omega arith in let b : (n - 1) % 2 ≡ 0 = omega arith in
+    let c : bitAnd (n / 2) ((n - 1) / 2) ≡ n / 2 = ap (bitAnd (n / 2)) a ∙ and-self (n / 2) in
+    rw e (omega (arith, s, c, b, o)))
+    (λ t. let d : n % 2 ≢ 1 = eqb-false (n % 2) 1 t in let e = even-more k n (omega arith) in
+    let a : (n - 1) / 2 ≡ n / 2 - 1 = omega arith in
+    let c : bitAnd (n / 2) ((n - 1) / 2) ≡ bitAnd (n / 2) (n / 2 - 1) = ap (bitAnd (n / 2)) a in
+    let p = pow-suc 2 k in let r = trailing-clear k (n / 2) (omega arith) (omega arith) in let q = pow-suc 2 (trailingZeros k (n / 2)) in
+    rw e (omega (arith, s, c, r, q, d)))
+
 -- the lowest program of a set
 pub lowest-is : (s : ProgramSet) → s .bits ≢ 0 → s .bits < 2 ^ 32 → IsLowest s (trailingZeros 32 (s .bits) + 1)
 lowest-is s z w =
@@ -85,6 +101,15 @@ pub lowest-first : (s : ProgramSet) (p : ℕ) → IsLowest s p → p ≡ lowestO
 unfolding lowestOf everyone
 lowest-first s p (h, k, t, f) =
     sym (ap (λ (o : Option ℕ). Option·getD o 0) (first-at (hasProgram s) 32 1 p h (omega arith) t (λ q l m. f q m)))
+
+pub lowest-cleared : (s : ProgramSet) → s .bits ≢ 0 → s .bits < 2 ^ 32 → bitAnd (s .bits) (s .bits - 1) ≡ withoutNumber 32 (s .bits) (lowestOf s)
+lowest-cleared s z w =
+    let t = trailingZeros 32 (s .bits) in let h : t < 32 = trailing-lt 32 (s .bits) z w in let e : t + 1 - 1 ≡ t = omega arith in
+    ap-lowest (rw (is-number 32 (t + 1) (omega arith) (omega arith), e, trailing-has 32 (s .bits) h) (omega (arith, trailing-clear 32 (s .bits) z w)))
+  where
+    ap-lowest : bitAnd (s .bits) (s .bits - 1) ≡ withoutNumber 32 (s .bits) (trailingZeros 32 (s .bits) + 1)
+        → bitAnd (s .bits) (s .bits - 1) ≡ withoutNumber 32 (s .bits) (lowestOf s)
+    ap-lowest x = x ∙ ap (withoutNumber 32 (s .bits)) (lowest-first s _ (lowest-is s z w))
 
 -- ---- how many digits are set
 

@@ -1,6 +1,6 @@
 -- From the tables to boards: the sets of a board are in their places, and the rows by its sets are those of the board. Assumes nothing.
 use mathlib.Core.Path.{_≡_, refl, sym, ap, ap₂, subst, _∙_}
-use mathlib.Core.Bool.{Bool, not, _&&_}
+use mathlib.Core.Bool.{Bool, cond, _&&_}
 use mathlib.Core.List.{List, _++_}
 use Prim.Native.Nat.{ℕ, suc, _+_, _-_, _≤_, _<_}
 use native.Mathlib.Nat.{zero-add}
@@ -8,14 +8,18 @@ use native.Mathlib.Omega.{arith}
 use lib.Dec.{eqb, ltb}
 use lib.ListN.{length, getD, length-append, List·getD-append}
 use lib.Seq.{ext-getD, getD-append-add}
-use borrow.Author.Tests.{ltb-true, ltb-false}
-use Rattle.files.proofs.Tests.{by-test}
+use borrow.Author.Tests.{eqb-true, eqb-false, ltb-true, ltb-false}
+use Rattle.files.specs.Bits.{hasNumber}
+use Rattle.files.proofs.Bits.{without-number-same, without-number-other}
+use Rattle.files.proofs.Tests.{by-test, and-false}
 use Rattle.rules.specs.declared.Program.{Program}
 use Rattle.rules.specs.declared.Board.{Board}
+use Rattle.rules.specs.Boards.{at}
+use Rattle.rules.specs.Orders.{holdsBack}
 use Rattle.tables.specs.declared.ProgramSet.{ProgramSet}
-use Rattle.tables.specs.Tables.{inPlace, places, setsOf, SetsTo, SetsOf, stops, stopsIn, rowsOf, RowsOf, packed}
-use Rattle.tables.proofs.Laws.{places-length, places-at, rows-at, rows-length}
-use Rattle.tables.proofs.Given.{packed-same}
+use Rattle.tables.specs.ProgramSets.{hasProgram, withoutProgram}
+use Rattle.tables.specs.Tables.{inPlace, places, setsOf, SetsOf, heldBy, holdsOne, rowsOf, RowsOf, packed}
+use Rattle.tables.proofs.Laws.{places-length, places-at, packed-has, none-has}
 
 -- ---- the sets
 
@@ -75,12 +79,22 @@ module _ (b : Board) where
 
 -- ---- the rows
 
+-- who holds back whom, by the sets
+pub holds-is : (b : Board) (sets : List ℕ) (x y : ℕ) → SetsOf b sets → 1 ≤ x → x ≤ 32 → 1 ≤ y → y ≤ 32
+    → holdsOne sets y x ≡ holdsBack (at b x) (at b y)
+holds-is b sets x y (n, s) i j l m = let c = s (x - 1) (omega arith) in let d = s (y - 1) (omega arith) in rw (c .2, c .3, d .0, d .1)
+
 -- the rows by the sets of a board
-pub rows-for : (b : Board) (sets : List ℕ) → SetsOf b sets → RowsOf b (rowsOf sets)
-rows-for b sets (n, s) = (
-  rows-length sets,
-  λ i h. ap {B = ProgramSet} (λ x. record { bits = x }) (rows-at sets i h)
-      ∙ packed-same (stopsIn sets (suc i)) (stops b (suc i)) 32 (λ x l m.
-      let z : suc i - 1 ≡ i = omega arith in
-      let a = s (x - 1) (omega arith) in let c = s i h in rw (z, a .2, a .3, c .0, c .1)),
-)
+pub rows-for : (b : Board) (sets : List ℕ) (a : ProgramSet) → SetsOf b sets → RowsOf b a (rowsOf sets a)
+unfolding rowsOf
+rows-for b sets a s i x h k l m = ap (λ (n : ℕ). hasNumber 32 n x) row ∙ by-test (hasProgram a i)
+    (λ e. rw e (packed-has (heldBy sets i (withoutProgram a i)) 32 x (omega arith) l m ∙ by-test (eqb i x)
+    (λ t. let z : i ≡ x = eqb-true i x t in
+    rw t (ap (λ (w : Bool). w && holdsOne sets x i) (ap (hasProgram (withoutProgram a i)) (sym z) ∙ without-number-same 32 (a .bits) i)
+    ∙ sym (and-false (hasProgram a x))))
+    (λ t. rw t (ap₂ (λ (w v : Bool). w && v) (without-number-other 32 (a .bits) i x (λ d. eqb-false i x t (sym d))) (holds-is b sets i x s h k l m)))))
+    (λ e. rw e (none-has x))
+  where
+    row : getD (rowsOf sets a) (i - 1) 0 ≡ cond (hasProgram a i) (packed (heldBy sets i (withoutProgram a i)) 32 .bits) 0
+    row = let z : suc (0 + (i - 1)) ≡ i = omega arith in places-at _ 32 0 (i - 1) (omega arith)
+        ∙ ap (λ (y : ℕ). cond (hasProgram a y) (packed (heldBy sets y (withoutProgram a y)) 32 .bits) 0) z

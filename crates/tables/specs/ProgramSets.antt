@@ -4,7 +4,7 @@ use Prim.Native.Nat.{ℕ, _≤_, _<_}
 use mathlib.Core.Path.{_≡_}
 use mathlib.Core.Bool.{Bool, true, false}
 use mathlib.Core.Option.{Option·getD}
-use lib.Bits.{bitAnd, bitOr}
+use lib.Bits.{bitAnd, bitOr, bitXor}
 use Rattle.files.specs.Bits.{hasNumber, withNumber, withoutNumber, share}
 use Rattle.rules.specs.Lists.{first}
 use Rattle.rules.specs.Boards.{everyone}
@@ -36,6 +36,10 @@ unionOf s t = record { bits = bitOr (s .bits) (t .bits) }
 -- the programs that they have in common
 abbrev pub commonOf : ProgramSet → ProgramSet → ProgramSet
 commonOf s t = record { bits = bitAnd (s .bits) (t .bits) }
+
+-- the programs of s that are not in t
+abbrev pub lessOf : ProgramSet → ProgramSet → ProgramSet
+lessOf s t = record { bits = bitXor (s .bits) (bitAnd (s .bits) (t .bits)) }
 
 -- the lowest program of s, or 0
 unfoldable pub lowestOf : ProgramSet → ℕ

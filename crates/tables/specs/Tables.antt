@@ -1,4 +1,4 @@
--- The arrays of a board: the sets of its programs, and for each program the set of those that hold it back.
+-- The arrays of a board: the sets of its programs, and for each admitted program the set of those that it holds back.
 -- Assumes nothing.
 use Prim.Native.Nat.{ℕ, zero, suc, _+_, _-_, _≤_, _<_}
 use mathlib.Core.Path.{_≡_}
@@ -14,7 +14,7 @@ use Rattle.rules.specs.declared.Board.{Board}
 use Rattle.rules.specs.Boards.{noProgram, at}
 use Rattle.rules.specs.Orders.{holdsBack}
 use Rattle.tables.specs.declared.ProgramSet.{ProgramSet}
-use Rattle.tables.specs.ProgramSets.{noPrograms, withProgram}
+use Rattle.tables.specs.ProgramSets.{noPrograms, hasProgram, withProgram, withoutProgram}
 
 -- the program at place i
 abbrev pub inPlace : Board → ℕ → Program
@@ -63,46 +63,31 @@ packed t (suc n) = joined (packed t n) (suc n) (t (suc n))
 abbrev pub stops : Board → ℕ → ℕ → Bool
 stops b p i = not (eqb i p) && holdsBack (at b i) (at b p)
 
--- the programs that hold p back
-unfoldable pub holders : Board → ℕ → ProgramSet
-holders b p = packed (stops b p) 32
-
--- the row of every program, in 32 places: those that hold it back
-abbrev pub RowsOf : Board → List ℕ → Type 0
-RowsOf b l = (length l ≡ 32) × ((i : ℕ) → i < 32 → record { bits = getD l i 0 } ≡ packed (stops b (suc i)) 32)
-
 -- W and R hold back a program with claims V and Q
 abbrev pub holdsBits : ℕ → ℕ → ℕ → ℕ → Bool
 holdsBits w r v q = share w v || share w q || share r v
 
--- by the sets: i is another program than p, and holds it back
-abbrev pub stopsIn : List ℕ → ℕ → ℕ → Bool
-stopsIn sets p i = not (eqb i p)
-    && holdsBits (getD sets (64 + (i - 1)) 0) (getD sets (96 + (i - 1)) 0) (getD sets (p - 1) 0) (getD sets (32 + (p - 1)) 0)
+-- by the sets: program x holds back program y
+abbrev pub holdsOne : List ℕ → ℕ → ℕ → Bool
+holdsOne sets y x = holdsBits (getD sets (64 + (x - 1)) 0) (getD sets (96 + (x - 1)) 0) (getD sets (y - 1) 0) (getD sets (32 + (y - 1)) 0)
 
--- by the sets: for each program the set of those that hold it back, in 32 places
-unfoldable pub rowsOf : List ℕ → List ℕ
-rowsOf sets = places (λ i. packed (stopsIn sets (suc i)) 32 .bits) 32 0
+-- x is of the set, and p holds it back
+abbrev pub heldBy : List ℕ → ℕ → ProgramSet → ℕ → Bool
+heldBy sets p s x = hasProgram s x && holdsOne sets x p
 
--- the row of the program at place i holds those of the first n programs that hold it back, by the sets
-abbrev pub RowsUpTo : List ℕ → ℕ → List ℕ → Type 0
-RowsUpTo sets n l = (i : ℕ) → i < 32 → record { bits = getD l i 0 } ≡ packed (stopsIn sets (suc i)) n
+-- x is of the set, and holds p back
+abbrev pub holdersOf : List ℕ → ℕ → ProgramSet → ℕ → Bool
+holdersOf sets p s x = hasProgram s x && holdsOne sets p x
 
--- the program at place i has joined the rows of those it holds back
-abbrev pub HolderAdded : List ℕ → ℕ → List ℕ → List ℕ → Type 0
-HolderAdded sets i before after = (length after ≡ 32) × ((j : ℕ) → j < 32 → record { bits = getD after j 0 }
-    ≡ joined (record { bits = getD before j 0 }) (suc i) (not (eqb i j)
-    && holdsBits (getD sets (64 + i) 0) (getD sets (96 + i) 0) (getD sets j 0) (getD sets (32 + j) 0)))
+-- by the sets: for each program of the set a the others of a that it holds back, in 32 places
+unfoldable pub rowsOf : List ℕ → ProgramSet → List ℕ
+rowsOf sets a = places (λ i. cond (hasProgram a (suc i)) (packed (heldBy sets (suc i) (withoutProgram a (suc i))) 32 .bits) 0) 32 0
 
 -- the row of p
 abbrev pub rowOf : List ℕ → ℕ → ProgramSet
 rowOf rows p = record { bits = getD rows (p - 1) 0 }
 
--- 32 places that hold nobody
-abbrev pub Cleared : List ℕ → Type 0
-Cleared rows = (length rows ≡ 32) × ((i : ℕ) → i < 32 → getD rows i 0 ≡ 0)
-
--- no program from place n on has any set
-abbrev pub EmptyFrom : List ℕ → ℕ → Type 0
-EmptyFrom sets n = (i : ℕ) → n ≤ i → i < 32 → (getD sets i 0 ≡ 0) × (getD sets (32 + i) 0 ≡ 0) × (getD sets (64 + i) 0 ≡ 0)
-    × (getD sets (96 + i) 0 ≡ 0)
+-- the rows of the board: the row of i, one of the set a, has those others of a that i holds back
+abbrev pub RowsOf : Board → ProgramSet → List ℕ → Type 0
+RowsOf b a rows = (i x : ℕ) → 1 ≤ i → i ≤ 32 → 1 ≤ x → x ≤ 32
+    → hasProgram (rowOf rows i) x ≡ ((hasProgram a i && hasProgram a x) && stops b x i)

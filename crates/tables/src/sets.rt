@@ -6,7 +6,7 @@ ghost use Prim.Native.Nat.{_≤_};
 ghost use lib.ListN.{length};
 ghost use Rattle.rules.specs.Lists.{keep};
 ghost use Rattle.rules.specs.Boards.{everyone};
-ghost use Rattle.tables.specs.ProgramSets.{hasProgram, withProgram, withoutProgram, programsMeet, unionOf, commonOf, lowestOf, IsLowest};
+ghost use Rattle.tables.specs.ProgramSets.{hasProgram, withProgram, withoutProgram, programsMeet, unionOf, commonOf, lessOf, lowestOf, IsLowest};
 
 impl ProgramSet {
     // No program.
@@ -64,6 +64,16 @@ impl ProgramSet {
         u32::trailing_zeros(self.bits) as u8 + 1
     }
 
+    // The set, which has some, but its lowest program.
+    pub fn but_lowest(self) -> ProgramSet
+        requires { ⌜ self .bits ≢ 0 ⌝ }
+        ensures { λ r. ⌜ r ≡ withoutProgram self (lowestOf self) ⌝ }
+    {
+        ProgramSet {
+            bits: self.bits & (self.bits - 1),
+        }
+    }
+
     // Whether the sets have a program in common.
     pub fn meets(self, other: ProgramSet) -> bool
         ensures { λ r. ⌜ r ≡ programsMeet self other ⌝ }
@@ -86,6 +96,15 @@ impl ProgramSet {
     {
         ProgramSet {
             bits: self.bits & other.bits,
+        }
+    }
+
+    // The programs of the set that are not in the other.
+    pub fn less(self, other: ProgramSet) -> ProgramSet
+        ensures { λ r. ⌜ r ≡ lessOf self other ⌝ }
+    {
+        ProgramSet {
+            bits: self.bits ^ (self.bits & other.bits),
         }
     }
 

@@ -6,8 +6,8 @@ use Rattle.search.proofs.carried_order.Statement.{statement}
 use Rattle.search.proofs.carried_order.Tie as tie
 
 returns : tie.Need-returns
-returns c = let f = c .before .before .before in
-    c .order-in .ensures ∙ order-of (f .before .before .before .args .b) _ _ (f .fill .ensures .1) (c .before .before .admitted-set .ensures)
+returns c = let f = c .before .before in let a = f .before .before .before in
+    c .order-in .ensures ∙ order-of (a .before .args .b) _ _ (f .fill .ensures .1) (a .admitted-set .ensures)
 
 pub carried-order-spec : {M : Type 1} → statement M
 carried-order-spec =

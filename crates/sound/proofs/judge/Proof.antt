@@ -14,14 +14,14 @@ use Rattle.sound.proofs.judge.Tie as tie
 
 order : (c : tie.After-order-in) → c .order-in .result
     ≡ asOrder (carried (c .before .before .before .before .before .before .before .before .args .b))
-order c = let a = c .before .before .before .before in let f = a .before in
-    c .order-in .ensures ∙ order-of (f .before .before .before .args .b) _ _ (f .fill .ensures .1) (a .admitted-set .ensures)
+order c = let f = c .before .before .before .before in let a = f .before .before .before in
+    c .order-in .ensures ∙ order-of (a .before .args .b) _ _ (f .fill .ensures .1) (a .admitted-set .ensures)
 
 is-sound-by-requires : tie.Need-is-sound-by-requires
 is-sound-by-requires c κs = let h = c .before in let v = h .before in let i = v .before in let o = i .before in let u = o .before .before in
-    let a = u .before .before in let f = a .before in let b = f .before .before .before .args .b in (
+    let f = u .before .before in let a = f .before .before .before in let b = a .before .args .b in (
       sets-in b _ (f .fill .ensures .0),
-      u .uses-in .ensures ∙ ap (λ (x : ProgramSet). usesIn x (f .fill .last .1 .0)) (a .admitted-set .ensures),
+      u .uses-in .ensures ∙ ap (λ (x : ProgramSet). usesIn x (f .fill .last .1 .1 .0)) (a .admitted-set .ensures),
       i .is-found .ensures ∙ ap (λ (z : Order). isFound (z .kind)) (order o) ∙ has-found (carried b),
       v .standing-set .ensures,
       h .standing-set2 .ensures,

@@ -10,7 +10,8 @@ use Rattle.search.proofs.gives.order_given.Tie as tie
 
 returns : tie.Need-returns
 returns c = let g = c .before .before .before .before .before in let a = g .before .before .args in (
-  c .order-in .ensures ∙ ap (λ (l : List ℕ). orderIn l (a .admitted)) (c .before .before .fill-rows .ensures ∙ ap rowsOf (g .give .ensures)),
+  c .order-in .ensures ∙ ap (λ (l : List ℕ). orderIn l (a .admitted)) (c .before .before .fill-rows .ensures
+      ∙ ap (λ (l : List ℕ). rowsOf l (a .admitted)) (g .give .ensures)),
   g .give .ensures,
 )
 
