@@ -6,6 +6,7 @@ pub mod whole;
 
 use std::fs::{self, File};
 use std::io::{Read, Write};
+use std::os::unix::process::CommandExt;
 use std::path::{Path, PathBuf};
 use std::process::{Child, Command, ExitStatus, Stdio};
 
@@ -22,7 +23,11 @@ pub const SIGTERM: i32 = 15;
 
 extern "C" {
     fn kill(process: i32, signal: i32) -> i32;
+    fn signal(signal: i32, action: usize) -> usize;
 }
+
+/// What a process does on a signal if nobody has said otherwise: it ends.
+const USUAL: usize = 0;
 
 /// A file under target/, which must be there.
 pub fn built(name: &str) -> PathBuf {
@@ -73,7 +78,18 @@ pub struct Running {
 impl Running {
     pub fn start(host: &str, place: &Place) -> Running {
         let messages = File::create(place.folder.join("messages")).expect("a file for messages");
-        let child = Command::new(built(host))
+        let mut command = Command::new(built(host));
+        // A shell runs what is in the background with SIGINT ignored, nohup with SIGHUP, and that is handed on.
+        // SAFETY: signal(2) may be called between fork and exec.
+        unsafe {
+            command.pre_exec(|| {
+                for number in [SIGHUP, SIGINT, SIGTERM] {
+                    signal(number, USUAL);
+                }
+                Ok(())
+            });
+        }
+        let child = command
             .arg("--image")
             .arg(place.image())
             .env("LD_PRELOAD", built("hosts/power_cut.so"))
