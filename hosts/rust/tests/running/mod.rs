@@ -9,6 +9,9 @@ use std::io::{Read, Write};
 use std::os::unix::process::CommandExt;
 use std::path::{Path, PathBuf};
 use std::process::{Child, Command, ExitStatus, Stdio};
+use std::sync::mpsc::{channel, RecvTimeoutError};
+use std::thread;
+use std::time::Duration;
 
 pub const HOSTS: [&str; 3] = [
     "hosts/serve-c",
@@ -133,9 +136,21 @@ impl Running {
         assert_eq!(unsafe { kill(self.child.id() as i32, signal) }, 0);
     }
 
-    /// Waits for the end of a host that a signal ends; its input stays open until then.
+    /// Waits for the end of a host that a signal ends; its input stays open until then. A signal
+    /// that meets GnuCOBOL while it starts may leave it waiting for a lock of its own for ever, so
+    /// what has not ended after half a minute is killed, as an operator would.
     pub fn ended(mut self) -> (ExitStatus, Vec<u8>) {
+        let process = self.child.id() as i32;
+        let (ended, watch) = channel::<()>();
+        let killer = thread::spawn(move || {
+            if watch.recv_timeout(Duration::from_secs(30)) == Err(RecvTimeoutError::Timeout) {
+                // SAFETY: it takes numbers; the child has not been waited for, so its number is its own.
+                unsafe { kill(process, SIGKILL) };
+            }
+        });
         self.wait_for(usize::MAX);
+        drop(ended);
+        killer.join().expect("the watch");
         let status = self.child.wait().expect("the end of a host");
         (status, self.seen)
     }
