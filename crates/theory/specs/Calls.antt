@@ -9,7 +9,8 @@ use mathlib.Core.List.{List, [], _∷_, _++_, List·Memᴰ·tail, List·Memᴰ·
 use lib.Dec.{eqb}
 use lib.ListN.{length, take, drop, replicate, length-append}
 use borrow.Author.Tests.{eqb-true, eqb-false, eq-eqb, ne-eqb}
-use Rattle.files.proofs.Tests.{by-test, never, or-cases, and-left, and-right, not-of}
+use Rattle.files.proofs.Tests.{by-test, never, or-cases, or-left, or-right, and-left, and-both, not-of}
+use Rattle.files.proofs.Laws.{member-file}
 use Rattle.files.specs.declared.FileSet.{FileSet}
 use Rattle.files.specs.Sets.{isFile, member, meets}
 use Rattle.rules.specs.declared.Standing.{Standing}
@@ -26,12 +27,12 @@ use Rattle.rules.specs.Boards.{noProgram, isAbsent, isHeld, isWaiting, isAdmitt
 use Rattle.rules.specs.Boards.{hasOpen, setProgram, setWaiting, setEntry, setFavour, setStanding, closing, dropping}
 use Rattle.rules.specs.Orders.{withGiven, inUse, safe, canGive}
 use Rattle.rules.specs.Settling.{line, Step, settle}
-use Rattle.rules.specs.Replies.{settlingLines, blank, linesOf, reply, refuse}
+use Rattle.rules.specs.Replies.{blank, linesOf, reply, refuse}
 use Rattle.rules.specs.Checks.{refuseIf, unlessRunning, unlessStopped, enterCheck, openCheck, closeCheck, leaveCheck, cancelCheck}
 use Rattle.rules.specs.Calls.{newcomer, enter, wait, openFile, done, closeFile, dropFile, countLeave, leave, Call, Enter, Open, Close, Drop}
 use Rattle.rules.specs.Calls.{Leave, Cancel, countCancel, withdrawn, cancel, checked, accepted, unless, apply}
 use Rattle.theory.specs.Lists.{_∈_, Pairs, NoRepeat, by-mem, Pairs-append, no-longer, length-rising}
-use Rattle.theory.specs.Programs.{Is, is-of, mem-everyone, prog, put, put-same, put-other, put-case, give, can, canGive-is}
+use Rattle.theory.specs.Programs.{Is, is-of, of-is, Claims, mem-everyone, prog, put, put-same, put-other, put-case, give, can, canGive-is}
 use Rattle.theory.specs.Loose.{stands, waitsIn, heldAt, absent-is, held-is, waiting-file, Asked, LooseIn, Loose, Free, Good}
 use Rattle.theory.specs.Loose.{test-same, loose-close, loose-drop, loose-leave, loose-withdraw, loose-unhold, loose-open, stuck-open}
 use Rattle.theory.specs.Loose.{loose-wait, stuck-wait, loose-enter}
@@ -146,6 +147,16 @@ enter-may b p v q e =
       claims-apart = m;
     }
 
+-- A file that is claimed, by the test and as one of two cases.
+pub claims-of : (x : Program) (f : ℕ) → claims x f ≡ true → Claims x f
+claims-of x f e = or-cases (member (x .writable) f) (member (x .readable) f) e inl inr
+
+claims-true : (x : Program) (f : ℕ) → Claims x f → claims x f ≡ true
+claims-true x f = ⊎-elim (or-left (member (x .writable) f) (member (x .readable) f)) (or-right (member (x .writable) f) (member (x .readable) f))
+
+pub claims-file : (x : Program) (f : ℕ) → Claims x f → isFile f ≡ true
+claims-file x f = ⊎-elim (member-file (x .writable) f) (member-file (x .readable) f)
+
 pub open-may : (b : Board) (p f : ℕ) → openCheck b p f ≡ Check.Passed → OpenMay b p f
 unfolding openCheck
 open-may b p f e =
@@ -157,10 +168,30 @@ open-may b p f e =
       is = is-of p (and-left (isProgram p) (isFile f) (not-of (isProgram p && isFile f) a));
       runs = s;
       asked = record {
-        claimed = or-cases (member (at b p .writable) f) (member (at b p .readable) f) (not-of (claims (at b p) f) c) inl inr;
+        claimed = claims-of (at b p) f (not-of (claims (at b p) f) c);
         shut = o;
       };
     }
+
+-- And the other way round: what may be opened passes the checks.
+if-not : (t : Bool) (r : Refusal) (k : Check) → t ≡ false → refuseIf t r k ≡ k
+if-not t r k e = rw e
+
+if-so : (t : Bool) (r : Refusal) (k : Check) → t ≡ true → refuseIf (not t) r k ≡ k
+if-so t r k e = rw e
+
+if-runs : (s : Standing) (k : Check) → s ≡ Standing.Running → unlessRunning s k ≡ k
+if-runs s k e = ap (λ t. unlessRunning t k) e
+
+pub may-open : (b : Board) (p f : ℕ) → OpenMay b p f → openCheck b p f ≡ Check.Passed
+unfolding openCheck
+may-open b p f m =
+    let x = at b p in
+    let c = m .asked .claimed in
+    if-so (isProgram p && isFile f) Refusal.OutOfRange _ (and-both (isProgram p) (isFile f) (of-is p (m .is)) (claims-file x f c))
+    ∙ if-runs (x .standing) _ (m .runs)
+    ∙ if-so (claims x f) Refusal.NotClaimed _ (claims-true x f c)
+    ∙ if-not (hasOpen x f) Refusal.IsOpen Check.Passed (m .asked .shut)
 
 pub close-may : (b : Board) (p f : ℕ) → closeCheck b p f ≡ Check.Passed → RunsMay b p
 unfolding closeCheck
@@ -175,6 +206,10 @@ leave-may b p e =
     let (a, e₁) = if-passed (not (isProgram p)) Refusal.OutOfRange _ e in
     let (s, _) = running-passed (at b p .standing) _ e₁ in
     record { is = is-of p (not-of (isProgram p) a); runs = s }
+
+pub may-leave : (b : Board) (p : ℕ) → RunsMay b p → leaveCheck b p ≡ Check.Passed
+unfolding leaveCheck
+may-leave b p m = if-so (isProgram p) Refusal.OutOfRange _ (of-is p (m .is)) ∙ if-runs (at b p .standing) Check.Passed (m .runs)
 
 pub stopped-passed : (s : Standing) (k : Check) → unlessStopped s k ≡ Check.Passed → (isWaiting s ≡ true) ⊎ (isHeld s ≡ true)
 stopped-passed Standing.Absent k e = failed-passed Refusal.IsAbsent e
@@ -349,7 +384,7 @@ open-unsafe : (b : Board) (p f : ℕ) → inUse b p f ≡ false → safe b p f �
 unfolding openFile
 open-unsafe b p f u v = rw (u, v)
 
-open-given : (b : Board) (p f : ℕ) → inUse b p f ≡ false → safe b p f ≡ true → openFile b p f ≡ reply
+pub open-given : (b : Board) (p f : ℕ) → inUse b p f ≡ false → safe b p f ≡ true → openFile b p f ≡ reply
     (withGiven b p f) Answer.Given (line Word.Given p f ∷ [])
 unfolding openFile
 open-given b p f u v = rw (u, v)

@@ -152,6 +152,16 @@ keep-but t t′ p (x ∷ l) e f = let r = keep-but t t′ p l e (λ a m. f a (Li
     (λ u. let d = eqb-true x p u in by-test (t x) (λ w. rw (ap t′ d ∙ e, w, u) r) (λ w. rw (ap t′ d ∙ e, w) r))
     (λ u. let d = f x here (eqb-false x p u) in by-test (t x) (λ w. rw (d ∙ w, w, u) (ap (x ∷_) r)) (λ w. rw (d ∙ w, w) r))
 
+-- ── Empty or not, by the length ──
+
+pub nil-length : (l : List ℕ) (a : ℕ) → length l ≡ 0 → a ∈ l → ⊥
+nil-length [] a e m = List·Memᴰ·not-nil m
+nil-length (x ∷ l) a e m = let k : suc (length l) ≡ 0 = e in omega arith
+
+pub some-length : (l : List ℕ) → 0 < length l → (a : ℕ) × (a ∈ l)
+some-length [] m = absurd (let k : 0 < 0 = m in omega arith)
+some-length (x ∷ l) m = (x, here)
+
 -- ── Rising numbers ──
 
 pub rising-mem : (n k a : ℕ) → a ∈ rising n k → (k ≤ a) × (a < k + n)

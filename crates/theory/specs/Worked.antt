@@ -60,7 +60,7 @@ worked-good cs = workedFrom-good emptyBoard cs empty-good
 pub worked-sound : (cs : List Call) → sound (worked cs) ≡ true
 worked-sound cs = sound-iff (worked cs) .1 (good-sound (worked cs) (worked-good cs))
 
-workedFrom-append : (b : Board) (xs ys : List Call) → workedFrom b (xs ++ ys) ≡ workedFrom (workedFrom b xs) ys
+pub workedFrom-append : (b : Board) (xs ys : List Call) → workedFrom b (xs ++ ys) ≡ workedFrom (workedFrom b xs) ys
 unfolding workedFrom
 workedFrom-append b [] ys = refl
 workedFrom-append b (x ∷ xs) ys = workedFrom-append (apply b x .board) xs ys
@@ -214,6 +214,12 @@ reply-order : (b : Board) (a : Answer) (ls : List Line) → orderOf (reply b a l
 unfolding reply
 reply-order b a ls = take-padded 0 (Option·getD (carried b) [])
 
+-- "Every answer carries the order of the board after the call, a refusal that of the unchanged board".
+pub order-carried : (b : Board) (c : Call) → orderOf (apply b c) ≡ Option·getD (carried (apply b c .board)) []
+order-carried b c =
+    let k = apply-reply b c in
+    ap orderOf (k .is) ∙ reply-order (apply b c .board) (apply b c .answer) (k .its-lines)
+
 -- The carried order of a sound board is a completion order.
 pub carried-order : (b : Board) → Good b → (o : List ℕ) × (carried b ≡ some o) × CompletionOrder b o
 carried-order b g = let (o, e) = carried-complete b (g .loose .base .order .0)
@@ -224,10 +230,8 @@ carried-order b g = let (o, e) = carried-complete b (g .loose .base .order .0)
 pub order-of-reply : (b : Board) (c : Call) → Good b → CompletionOrder (apply b c .board) (orderOf (apply b c))
 order-of-reply b c g =
     let r = apply b c in
-    let k = apply-reply b c in
     let (o, e, i) = carried-order (r .board) (apply-stepped b c g .good) in
-    subst (IsOrder (holdsOn (r .board)) (admitted (r .board))) (sym (ap orderOf (k .is) ∙ reply-order (r .board)
-    (r .answer) (k .its-lines) ∙ ap (λ z. Option·getD z []) e)) i
+    subst (IsOrder (holdsOn (r .board)) (admitted (r .board))) (sym (order-carried b c ∙ ap (λ z. Option·getD z []) e)) i
 
 -- At most 32 lines follow a call, and at most 32 programs are in its order.
 pub record Fits (r : Reply) : Type 0 where

@@ -1,0 +1,2 @@
+-- Computed cases of theory.
+pub mod Rounds
