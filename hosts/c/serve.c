@@ -4,6 +4,7 @@
  *     lockboard [--image FILE]         serve; FILE keeps the board from session to session
  *     lockboard --image FILE --show    show what stands on the board, and why somebody waits
  *     lockboard --image FILE --dot     show who holds back whom, for Graphviz
+ *     lockboard --image FILE --plan    write the requests that empty the board
  *     lockboard --refusals             list the refusals and their words
  *     lockboard --version              show the version, and the kit that proved the board
  *
@@ -16,6 +17,7 @@
 #include "explain.h"
 #include "image_file.h"
 #include "lock_board.h"
+#include "plan.h"
 #include "session.h"
 #include "show.h"
 #include "version.h"
@@ -100,6 +102,12 @@ static int write_order(const struct session *s) {
     return session_flush(s->number);
 }
 
+/* The options that look at an image file and change nothing. */
+static const struct {
+    const char *option;
+    int (*look)(const char *path);
+} looks[] = {{"--show", show_board}, {"--dot", show_digraph}, {"--plan", write_plan}};
+
 int main(int argc, char **argv) {
     struct session s = {.len = 0};
     session_begin();
@@ -107,13 +115,12 @@ int main(int argc, char **argv) {
         return list_refusals();
     if (argc == 2 && strcmp(argv[1], "--version") == 0)
         return show_version();
-    if (argc == 4 && strcmp(argv[1], "--image") == 0 && strcmp(argv[3], "--show") == 0)
-        return show_board(argv[2]);
-    if (argc == 4 && strcmp(argv[1], "--image") == 0 && strcmp(argv[3], "--dot") == 0)
-        return show_digraph(argv[2]);
+    for (size_t i = 0; i < sizeof looks / sizeof looks[0]; i++)
+        if (argc == 4 && strcmp(argv[1], "--image") == 0 && strcmp(argv[3], looks[i].option) == 0)
+            return looks[i].look(argv[2]);
     if (argc != 1 && !(argc == 3 && strcmp(argv[1], "--image") == 0)) {
-        fprintf(stderr,
-                "usage: lockboard [--image FILE [--show | --dot] | --refusals | --version]\n");
+        fprintf(stderr, "usage: lockboard [--image FILE [--show | --dot | --plan] | --refusals |"
+                        " --version]\n");
         return 2;
     }
     if (argc == 1)

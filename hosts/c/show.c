@@ -12,6 +12,8 @@
 /* Bytes of the longest paragraph: 31 programs, each with up to 64 files. */
 #define PARAGRAPH_LEN 10000
 
+static const char not_shown[] = "the board cannot be shown";
+
 /* Writes a paragraph, broken at blanks. */
 static void write_paragraph(const char *text) {
     size_t column = 0;
@@ -103,11 +105,11 @@ static void show_list(const char *name, const uint8_t *programs) {
     write_paragraph(bytes);
 }
 
-static int written(void) {
+int shown(const char *if_not) {
     if (fflush(stdout) == 0 && !ferror(stdout))
         return 0;
     if (errno != EPIPE) /* a reader that has seen enough */
-        fprintf(stderr, "the board cannot be shown: %s\n", strerror(errno));
+        fprintf(stderr, "%s: %s\n", if_not, strerror(errno));
     return 1;
 }
 
@@ -123,7 +125,7 @@ int show_board(const char *path) {
     show_favoured(&view);
     show_list("Held at entry, oldest first", view.entry_line);
     show_list("Completion order", order);
-    return written();
+    return shown(not_shown);
 }
 
 /* The edges from program i: `1 -> 2 [label="file 1"];` */
@@ -156,5 +158,5 @@ int show_digraph(const char *path) {
     for (int p = 1; p <= LOCK_BOARD_PROGRAMS; p++)
         show_edges(&view, p);
     puts("}");
-    return written();
+    return shown(not_shown);
 }

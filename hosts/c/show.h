@@ -15,4 +15,8 @@ int show_board(const char *path);
 /* Who holds back whom among the admitted programs, and in which files, for Graphviz. */
 int show_digraph(const char *path);
 
+/* Ends what was written, by these or by another such function; the text says what failed if it did.
+ */
+int shown(const char *if_not);
+
 #endif

@@ -2,12 +2,14 @@
 
 mod bytes;
 mod cancels;
+mod chosen;
 mod direct;
 mod entry_vectors;
 mod favoured;
 mod image_files;
 mod images;
 mod journals;
+mod plan;
 mod program;
 mod refusals;
 mod sessions;

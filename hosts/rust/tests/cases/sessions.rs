@@ -1,6 +1,8 @@
-//! Random sessions from the empty board.
+//! Random sessions from the empty board, each run through to the empty board again.
 
+use super::plan::emptied;
 use super::{calls, seed};
+use crate::compare::call::Call;
 use crate::compare::counters::{Counters, CANCELS};
 use crate::compare::session::Session;
 use crate::generate::lines;
@@ -25,6 +27,7 @@ const MET: &[&str] = &[
     "favouring passes on",
     "open settled by all orders",
     "open that waits by all orders",
+    "run through",
 ];
 
 #[test]
@@ -41,6 +44,7 @@ fn sessions_agree() {
             let request = cast.request(&run.board, at, &mut random);
             run.call(&request, profile.damaged, &mut random);
         }
+        run.to_the_end();
         for script in SCRIPTS {
             let (requests, mut run) = (script(&mut random), Run::new(&mut met));
             if round % 10 == 0 {
@@ -96,7 +100,10 @@ impl Run<'_> {
         if random.per_mille(damaged) {
             lines::damage(&mut line, random);
         }
-        let call = lines::call(line, random);
+        self.serve(lines::call(line, random));
+    }
+
+    fn serve(&mut self, call: Call) {
         let outcome = self.session.add(&self.image, call.clone());
         let after = image::layout(&outcome.image)
             .expect("the layout of a board")
@@ -105,6 +112,15 @@ impl Run<'_> {
         self.met.boards(&self.board, &after);
         self.all_orders(&call.line, &after);
         (self.board, self.image) = (after, outcome.image);
+    }
+
+    /// 02's rounds, whose answers the model has looked at.
+    fn to_the_end(&mut self) {
+        for (request, _) in emptied(&self.board) {
+            self.serve(Call::plain(&line::write(&request, b"")));
+        }
+        assert_eq!(self.board, Board::EMPTY);
+        self.met.add("run through");
     }
 
     /// Demand 3's account of an open, by trying all orders, on small boards.

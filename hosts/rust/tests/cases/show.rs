@@ -1,19 +1,19 @@
 //! --show and --dot of the C host, and the views of the Rust wrapper, on boards
 //! of the vectors and of the examples: all of the text is compared.
 
-use super::vectors;
+use super::chosen;
 use crate::expected::phrases::users;
 use crate::expected::show::{dot, edges, show};
 use crate::model::board::{only, Board, Files, Program, Standing};
-use crate::model::{image, program};
+use crate::model::image;
 use crate::running::whole::{file, run};
 use crate::running::{built, HOSTS};
 use lock_board::{Files as ViewedFiles, Standing as ViewedStanding};
 use std::ffi::OsStr;
-use std::path::{Path, PathBuf};
+use std::path::Path;
 
 /// The text that the C host writes of a board with this argument.
-fn shown(file: &Path, argument: &str, board: &Board) -> String {
+pub fn shown(file: &Path, argument: &str, board: &Board) -> String {
     let image = image::write(board);
     std::fs::write(file, &image).expect("the image is written");
     let arguments = [
@@ -35,37 +35,10 @@ fn shown(file: &Path, argument: &str, board: &Board) -> String {
     String::from_utf8(output.stdout).expect("plain text")
 }
 
-/// The examples' requests.
-fn examples() -> Vec<PathBuf> {
-    let folder = Path::new(env!("CARGO_MANIFEST_DIR")).join("../../examples");
-    let files = std::fs::read_dir(folder).expect("the examples");
-    let mut paths: Vec<PathBuf> = files.map(|file| file.unwrap().path()).collect();
-    paths.retain(|path| path.extension().is_none());
-    paths.sort();
-    assert!(!paths.is_empty());
-    paths
-}
-
-/// The boards after each request of an input that was not refused, the empty one first.
-fn boards(input: &[u8]) -> Vec<Board> {
-    let mut boards = vec![Board::EMPTY];
-    for line in program::requests(input) {
-        let board = image::step(boards.last().unwrap(), line).0;
-        if board != *boards.last().unwrap() {
-            boards.push(board);
-        }
-    }
-    boards
-}
-
 /// Boards of all the examples, of short vectors, and some of each long one.
 fn chosen_boards() -> Vec<Board> {
     let mut chosen = longest_texts();
-    for path in examples().into_iter().chain(vectors::names()) {
-        let all = boards(&std::fs::read(path).unwrap());
-        let step = 1 + all.len() / 40;
-        chosen.extend(all.into_iter().rev().step_by(step));
-    }
+    chosen.extend(chosen::some(40));
     chosen
 }
 
@@ -251,12 +224,10 @@ fn numbers(line: &[u8]) -> Vec<usize> {
 #[test]
 fn views_agree() {
     let mut compared = 0;
-    for path in examples().into_iter().chain(vectors::names()) {
-        for board in boards(&std::fs::read(path).unwrap()) {
-            let viewed = lock_board::Board::from_image(&image::write(&board)).unwrap();
-            same_views(&viewed, &board);
-            compared += 1;
-        }
+    for board in chosen::all().flatten() {
+        let viewed = lock_board::Board::from_image(&image::write(&board)).unwrap();
+        same_views(&viewed, &board);
+        compared += 1;
     }
     assert!(compared > 1000);
 }

@@ -1,7 +1,8 @@
 //! Every board that three programs can reach on two files, with every claim: on
 //! each of them every call that is accepted, and every cancel, of the library and
-//! of the model.
+//! of the model; and each of them run through to the empty one.
 
+use super::plan::emptied;
 use crate::compare::call::Call;
 use crate::compare::counters::{Counters, CANCELS};
 use crate::compare::session::one;
@@ -39,6 +40,7 @@ fn every_call_on_every_board_of_a_small_scope() {
     let mut met = Counters::default();
     while let Some(board) = ahead.pop() {
         let before = image::write(&board);
+        emptied(&board);
         for request in &requests {
             let after = match events::call(&board, request) {
                 Ok((after, _)) => after,

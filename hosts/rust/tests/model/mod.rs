@@ -1,7 +1,7 @@
 //! A model of the lock board, written from the text of documents 01 and 02
 //! alone and kept apart from the library: it shares no code with it. Each module
 //! holds one part of 01, with what 02's second request, cancel, adds to it;
-//! `writer` has 02's first request.
+//! `writer` has 02's first request, `rounds` its fourth.
 
 pub mod board;
 pub mod direct;
@@ -11,6 +11,7 @@ pub mod journal;
 pub mod line;
 pub mod order;
 pub mod program;
+pub mod rounds;
 pub mod settle;
 pub mod sound;
 pub mod writer;
