@@ -15,8 +15,7 @@ int show_board(const char *path);
 /* Who holds back whom among the admitted programs, and in which files, for Graphviz. */
 int show_digraph(const char *path);
 
-/* Ends what was written, by these or by another such function; the text says what failed if it did.
- */
+/* Ends what such a function has written; the text says what has failed, if anything has. */
 int shown(const char *if_not);
 
 #endif

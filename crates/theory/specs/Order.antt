@@ -211,8 +211,9 @@ pub order-members : (h : ℕ → ℕ → Bool) (l l′ o : List ℕ) → ((a : �
 order-members h l l′ o f g c = record { all = λ a m. c .all a (f a m); only = λ a m. g a (c .only a m); once = c .once; clear = c .clear }
 
 -- One more program p, which holds back nobody, at the end.
-pub order-last : (h : ℕ → ℕ → Bool) (l l′ o : List ℕ) (p : ℕ) → ((a : ℕ) → a ∈ l′ → (a ≡ p) ⊎ (a ∈ l)) → ((a : ℕ) → a ∈ l → a ∈ l′) → p ∈ l′
-    → (p ∈ l → ⊥) → ((a : ℕ) → a ∈ l → h p a ≡ false) → IsOrder h l o → IsOrder h l′ (o ++ (p ∷ []))
+pub order-last : (h : ℕ → ℕ → Bool) (l l′ o : List ℕ) (p : ℕ)
+    → ((a : ℕ) → a ∈ l′ → (a ≡ p) ⊎ (a ∈ l)) → ((a : ℕ) → a ∈ l → a ∈ l′) → p ∈ l′ → (p ∈ l → ⊥)
+    → ((a : ℕ) → a ∈ l → h p a ≡ false) → IsOrder h l o → IsOrder h l′ (o ++ (p ∷ []))
 unfolding Pairs
 order-last h l l′ o p f g i n k c = record {
   all = λ a m. ⊎-elim (λ d. Memᴰ·append-right o (List·Memᴰ·head d)) (λ m′. Memᴰ·append-left (p ∷ []) (c .all a m′)) (f a m);

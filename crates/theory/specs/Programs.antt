@@ -61,7 +61,8 @@ any₃ a b c (any-3 e) = or-right (a || b) c e
 which₃ : (a b c : Bool) → a || b || c ≡ true → Any₃ a b c
 which₃ a b c e = or-cases (a || b) c e (λ u. or-cases a b u any-1 any-2) any-3
 
-map₃ : {a b c a′ b′ c′ : Bool} → (a ≡ true → a′ ≡ true) → (b ≡ true → b′ ≡ true) → (c ≡ true → c′ ≡ true) → Any₃ a b c → Any₃ a′ b′ c′
+map₃ : {a b c a′ b′ c′ : Bool} → (a ≡ true → a′ ≡ true) → (b ≡ true → b′ ≡ true) → (c ≡ true → c′ ≡ true)
+    → Any₃ a b c → Any₃ a′ b′ c′
 map₃ f g h (any-1 e) = any-1 (f e)
 map₃ f g h (any-2 e) = any-2 (g e)
 map₃ f g h (any-3 e) = any-3 (h e)
@@ -284,7 +285,8 @@ apart-less : (P′ P : Progs) → Less P′ P → ((i j : ℕ) → Is i → Is j
     → (i j : ℕ) → Is i → Is j → i ≢ j → conflict (prog P′ i) (prog P′ j) ≡ false
 apart-less P′ P l f i j a b n = no-true _ (λ t. never (conflict-mono _ _ _ _ (l i a) (l j b) t) (f i j a b n))
 
-apart-put : (P : Progs) (p : ℕ) (x : Program) → Sized P → Is p → ((i j : ℕ) → Is i → Is j → i ≢ j → conflict (prog P i) (prog P j) ≡ false)
+apart-put : (P : Progs) (p : ℕ) (x : Program) → Sized P → Is p
+    → ((i j : ℕ) → Is i → Is j → i ≢ j → conflict (prog P i) (prog P j) ≡ false)
     → ((j : ℕ) → Is j → j ≢ p → conflict x (prog P j) ≡ false) → ((j : ℕ) → Is j → j ≢ p → conflict (prog P j) x ≡ false)
     → (i j : ℕ) → Is i → Is j → i ≢ j → conflict (prog (put P p x) i) (prog (put P p x) j) ≡ false
 apart-put P p x z c f g h i j a b n = put-case (λ y. conflict y (prog (put P p x) j) ≡ false) P p x z c i a

@@ -102,7 +102,7 @@ pub record Round (l : Latest) : Type 0 where
   pub order : l .order ≡ first ∷ rest
   -- "No such open waits", nor is one refused: each open is answered GIVEN, and the leave DONE.
   pub answers : answersFrom (l .board) (round l) ≡ replicate (length (toOpen (at (l .board) first))) Answer.Given ++ (Answer.Done ∷ [])
-  -- It has gone, and no other program, held ones neither.
+  -- It has gone, and no other program has, admitted or held.
   pub others-stay : present (after l (round l) .board) ≡ without first (present (l .board))
   pub one-fewer : programsOn (l .board) ≡ suc (programsOn (after l (round l) .board))
 
