@@ -1,7 +1,9 @@
--- The cases (a) to (j) of 01, and more, with those of 02's CR 2, as one table with one theorem over it: each case is computed from the definitions.
+-- The cases (a) to (j) of 01, and more, with those of 02's CR 2 and CR 5, as one table with one theorem over it: each case is computed
+-- from the definitions. That direct calls come to the same is proved in theory/proofs/Cases.
 -- Assumes nothing.
 use Prim.Native.Nat.{ℕ}
 use mathlib.Core.Path.{_≡_, refl, sym, ap, _∙_}
+use mathlib.Core.Bool.{true}
 use mathlib.Core.List.{List, [], _∷_, map}
 use mathlib.Core.Option.{Option·getD}
 use lib.ListN.{getD, List·getD-map}
@@ -13,48 +15,53 @@ use Rattle.rules.specs.declared.Word.{Word}
 use Rattle.rules.specs.declared.Line.{Line}
 use Rattle.rules.specs.declared.Reply.{Reply}
 use Rattle.rules.specs.Lists.{any, all, keep, first, padded, rising, listed, distinct, without, same, names}
-use Rattle.rules.specs.Boards.{emptyBoard, everyone, admitted, opening, closing, dropping}
+use Rattle.rules.specs.Boards.{emptyBoard, everyone, admitted, tallied, opening, closing, dropping}
 use Rattle.rules.specs.Orders.{heldBack, carriedFrom, carried, withGiven, inUse, safe, canGive}
-use Rattle.rules.specs.Soundness.{setsSound, standingSound, programSound, noConflict, lineSound, waiterSound, noneFavoured, someFavoured, sound}
-use Rattle.rules.specs.Settling.{line, unfavour, resume, tryGive, pass, candidate, favour, runHeld, choose, settle}
-use Rattle.rules.specs.Replies.{reply, refuse, refuseUnsound, wordOf, linesOf, orderOf}
+use Rattle.rules.specs.Soundness.{setsSound, standingSound, programSound, noConflict, lineSound, waiterSound, noneFavoured, someFavoured, countSound, sound}
+use Rattle.rules.specs.Settling.{line, unfavour, resume, tryGive, pass, candidate, favour, overdue, admitHeld, runHeld, choose, settle}
+use Rattle.rules.specs.Replies.{reply, refuse, wordOf, linesOf, orderOf}
 use Rattle.rules.specs.Checks.{enterCheck, openCheck, closeCheck, leaveCheck, cancelCheck}
-use Rattle.rules.specs.Calls.{enter, wait, openFile, done, closeFile, dropFile, countLeave, leave, countCancel, cancel, apply, direct}
-use Rattle.rules.specs.Calls.{Call, Enter, Open, Close, Drop, Leave, Cancel, programOf, fileOf}
+use Rattle.rules.specs.Calls.{admit, hold, holdFor, enter, wait, openFile, done, closeFile, dropFile, countLeave, leave, countCancel, cancel}
+use Rattle.rules.specs.Calls.{Call, Enter, Open, Close, Drop, Leave, Cancel, programOf, fileOf, apply}
+use Rattle.rules.specs.Worked.{workedFrom, worked}
 use Rattle.rules.proofs.Tables.{set}
 
--- ---- what a list of direct calls, from the empty board, comes to
+-- ---- what a list of calls, from the empty board, comes to
 
 -- a call, its answer, and all its lines
-record Told : Type 0 where
-  call : Call
-  answer : Answer
-  lines : List Line
+pub record Told : Type 0 where
+  pub call : Call
+  pub answer : Answer
+  pub lines : List Line
 
 -- the calls of a list with their answers and lines; after the last, the order, and the board's favoured program, number and leaves
-record Case : Type 0 where
-  told : List Told
-  order : List ℕ
-  favoured : List ℕ
+pub record Case : Type 0 where
+  pub told : List Told
+  pub order : List ℕ
+  pub favoured : List ℕ
 
--- the replies of direct calls, each handed the board that the one before it gave back, with the calls that they answer
-toldFrom : Board → List ℕ → List Call → Case
-unfolding any all keep first padded rising listed distinct without same names
-    everyone admitted opening closing dropping
-    heldBack carriedFrom carried withGiven inUse safe canGive
-    setsSound standingSound programSound noConflict lineSound waiterSound noneFavoured someFavoured sound
-    unfavour resume tryGive pass candidate favour runHeld choose settle
-    reply refuse refuseUnsound enterCheck openCheck closeCheck leaveCheck cancelCheck
-    enter wait openFile done closeFile dropFile countLeave leave countCancel cancel apply direct
-toldFrom b o [] = record { told = []; order = o; favoured = b .favoured ∷ b .initial ∷ b .leaves ∷ [] }
-toldFrom b o (c ∷ cs) =
-    let r = direct b c in
-    let k = toldFrom (r .board) (orderOf r) cs in
+-- the replies to calls, each made on the board that the one before it gave back, with the calls that they answer
+unfoldable pub toldBy : (Board → Call → Reply) → Board → List ℕ → List Call → Case
+toldBy f b o [] = record { told = []; order = o; favoured = b .favoured ∷ b .initial ∷ b .leaves ∷ [] }
+toldBy f b o (c ∷ cs) =
+    let r = f b c in
+    let k = toldBy f (r .board) (orderOf r) cs in
     record { told = record { call = c; answer = r .answer; lines = linesOf r } ∷ k .told; order = k .order; favoured = k .favoured }
 
-outcome : List Call → Case
-unfolding toldFrom carried carriedFrom admitted keep everyone rising
-outcome cs = toldFrom emptyBoard (Option·getD (carried emptyBoard) []) cs
+-- by the rules, from the empty board
+pub outcome : List Call → Case
+unfolding any all keep first padded rising listed distinct without same names
+    everyone admitted tallied opening closing dropping
+    heldBack carriedFrom carried withGiven inUse safe canGive
+    unfavour resume tryGive pass candidate favour overdue admitHeld runHeld choose settle
+    reply refuse enterCheck openCheck closeCheck leaveCheck cancelCheck
+    admit hold holdFor enter wait openFile done closeFile dropFile countLeave leave countCancel cancel apply
+    toldBy
+outcome cs = toldBy apply emptyBoard (Option·getD (carried emptyBoard) []) cs
+
+pub outcome-is : (cs : List Call) → outcome cs ≡ toldBy apply emptyBoard (Option·getD (carried emptyBoard) []) cs
+unfolding outcome
+outcome-is cs = refl
 
 -- ---- words for the table
 
@@ -87,7 +94,7 @@ nobody = 0 ∷ 0 ∷ 0 ∷ []
 -- ---- the table
 
 -- (a) empty board, empty order
-a : Case
+pub a : Case
 unfolding nobody
 a = record { told = []; order = []; favoured = nobody }
 
@@ -488,12 +495,194 @@ z =
       favoured = 2 ∷ 3 ∷ 0 ∷ [];
     }
 
-table : List Case
-unfolding a b c d e f g h i j k l m n o p q r s t u v w x y z
-table = a ∷ b ∷ c ∷ d ∷ e ∷ f ∷ g ∷ h ∷ i ∷ j ∷ k ∷ l ∷ m ∷ n ∷ o ∷ p ∷ q ∷ r ∷ s ∷ t ∷ u ∷ v ∷ w ∷ x ∷ y ∷ z ∷ []
+-- (aa) 1 waits behind readers. Eight pass it; settling alone then favours nobody; the ninth is held and 1 favoured, though its file is in
+-- conflicting use. It gets its file with the ninth leave: 8 more than the other programs admitted when its wait began.
+aa : Case
+unfolding writer reader gets yes set nobody
+aa =
+    record {
+      told =
+          reader 2 (1 ∷ [])
+          ∷ writer 1 (1 ∷ [])
+          ∷ gets 2 1
+          ∷ yes (Open 1 1) Answer.Wait []
+          ∷ reader 3 (1 ∷ [])
+          ∷ reader 4 (1 ∷ [])
+          ∷ reader 5 (1 ∷ [])
+          ∷ reader 6 (1 ∷ [])
+          ∷ reader 7 (1 ∷ [])
+          ∷ reader 8 (1 ∷ [])
+          ∷ reader 9 (1 ∷ [])
+          ∷ reader 10 (1 ∷ [])
+          ∷ gets 10 1
+          ∷ yes (Close 2 1) Answer.Done []
+          ∷ yes (Enter 11 noFiles (set (1 ∷ []))) Answer.Held (line Word.Favour 1 1 ∷ [])
+          ∷ yes (Leave 2) Answer.Done []
+          ∷ yes (Leave 3) Answer.Done []
+          ∷ yes (Leave 4) Answer.Done []
+          ∷ yes (Leave 5) Answer.Done []
+          ∷ yes (Leave 6) Answer.Done []
+          ∷ yes (Leave 7) Answer.Done []
+          ∷ yes (Leave 8) Answer.Done []
+          ∷ yes (Leave 9) Answer.Done []
+          ∷ yes (Leave 10) Answer.Done (line Word.Given 1 1 ∷ line Word.Admit 11 0 ∷ [])
+          ∷ yes (Leave 11) Answer.Done []
+          ∷ [];
+      order = 1 ∷ [];
+      favoured = nobody;
+    }
+
+-- (bb) settling admits one held program after another: the third stays held, since by then eight have passed 3; 2, which has its file
+-- before them, is not passed
+bb : Case
+unfolding writer reader gets yes
+bb =
+    record {
+      told =
+          writer 1 (11 ∷ 12 ∷ 13 ∷ [])
+          ∷ writer 2 (11 ∷ 12 ∷ [])
+          ∷ writer 3 (1 ∷ [])
+          ∷ reader 4 (1 ∷ [])
+          ∷ gets 4 1
+          ∷ yes (Open 3 1) Answer.Wait []
+          ∷ reader 5 []
+          ∷ reader 6 []
+          ∷ reader 7 []
+          ∷ reader 8 []
+          ∷ reader 9 []
+          ∷ reader 10 []
+          ∷ gets 1 11
+          ∷ gets 1 13
+          ∷ yes (Open 2 12) Answer.Unsafe []
+          ∷ yes (Close 1 13) Answer.Done (line Word.Favour 2 12 ∷ [])
+          ∷ yes (Enter 11 noFiles noFiles) Answer.Held []
+          ∷ yes (Enter 12 noFiles noFiles) Answer.Held []
+          ∷ yes (Enter 13 noFiles noFiles) Answer.Held []
+          ∷ yes (Leave 1) Answer.Done
+          (line Word.Given 2 12 ∷ line Word.Admit 11 0 ∷ line Word.Admit 12 0 ∷ line Word.Favour 3 1 ∷ [])
+          ∷ yes (Leave 5) Answer.Done []
+          ∷ [];
+      order = 2 ∷ 4 ∷ 3 ∷ 6 ∷ 7 ∷ 8 ∷ 9 ∷ 10 ∷ 11 ∷ 12 ∷ [];
+      favoured = 3 ∷ 11 ∷ 1 ∷ [];
+    }
+
+-- (cc) eight have passed both 2 and 1: the older one is favoured, by enter; when it has its file, the other one, by settling, and 12
+-- stays held
+cc : Case
+unfolding writer reader gets yes
+cc =
+    record {
+      told =
+          reader 3 (1 ∷ [])
+          ∷ writer 2 (1 ∷ [])
+          ∷ writer 1 (1 ∷ [])
+          ∷ gets 3 1
+          ∷ yes (Open 2 1) Answer.Wait []
+          ∷ yes (Open 1 1) Answer.Wait []
+          ∷ reader 4 []
+          ∷ reader 5 []
+          ∷ reader 6 []
+          ∷ reader 7 []
+          ∷ reader 8 []
+          ∷ reader 9 []
+          ∷ reader 10 []
+          ∷ reader 11 []
+          ∷ yes (Enter 12 noFiles noFiles) Answer.Held (line Word.Favour 2 1 ∷ [])
+          ∷ yes (Leave 3) Answer.Done (line Word.Given 2 1 ∷ line Word.Favour 1 1 ∷ [])
+          ∷ [];
+      order = 2 ∷ 1 ∷ 4 ∷ 5 ∷ 6 ∷ 7 ∷ 8 ∷ 9 ∷ 10 ∷ 11 ∷ [];
+      favoured = 1 ∷ 10 ∷ 0 ∷ [];
+    }
+
+-- (dd) two have passed 1 when it is given its file. Its count is then 0, and its next wait begins with 0: eight more are admitted.
+dd : Case
+unfolding writer reader gets yes
+dd =
+    record {
+      told =
+          reader 2 (1 ∷ [])
+          ∷ writer 1 (1 ∷ [])
+          ∷ gets 2 1
+          ∷ yes (Open 1 1) Answer.Wait []
+          ∷ reader 3 []
+          ∷ reader 4 []
+          ∷ yes (Close 2 1) Answer.Done (line Word.Given 1 1 ∷ [])
+          ∷ yes (Close 1 1) Answer.Done []
+          ∷ gets 2 1
+          ∷ yes (Open 1 1) Answer.Wait []
+          ∷ reader 5 []
+          ∷ reader 6 []
+          ∷ reader 7 []
+          ∷ reader 8 []
+          ∷ reader 9 []
+          ∷ reader 10 []
+          ∷ reader 11 []
+          ∷ reader 12 []
+          ∷ yes (Enter 13 noFiles noFiles) Answer.Held (line Word.Favour 1 1 ∷ [])
+          ∷ [];
+      order = 2 ∷ 1 ∷ 3 ∷ 4 ∷ 5 ∷ 6 ∷ 7 ∷ 8 ∷ 9 ∷ 10 ∷ 11 ∷ 12 ∷ [];
+      favoured = 1 ∷ 12 ∷ 0 ∷ [];
+    }
+
+-- (ee) one has passed 1 when it is cancelled: the number 1 has no count any more
+ee : Case
+unfolding writer reader gets yes nobody
+ee =
+    record {
+      told =
+          reader 2 (1 ∷ [])
+          ∷ writer 1 (1 ∷ [])
+          ∷ gets 2 1
+          ∷ yes (Open 1 1) Answer.Wait []
+          ∷ reader 3 []
+          ∷ yes (Cancel 1) Answer.Done []
+          ∷ [];
+      order = 2 ∷ 3 ∷ [];
+      favoured = nobody;
+    }
+
+-- (ff) 01's favouring comes first: eight have passed 3, the oldest waiter, and 14 is held, but the file of 6 is in no conflicting use
+ff : Case
+unfolding writer reader gets yes
+ff =
+    record {
+      told =
+          writer 1 (1 ∷ 2 ∷ [])
+          ∷ writer 2 (1 ∷ 2 ∷ [])
+          ∷ writer 3 (3 ∷ [])
+          ∷ reader 4 (3 ∷ [])
+          ∷ writer 5 (5 ∷ 6 ∷ [])
+          ∷ writer 6 (5 ∷ 6 ∷ [])
+          ∷ gets 4 3
+          ∷ yes (Open 3 3) Answer.Wait []
+          ∷ gets 1 1
+          ∷ yes (Open 2 2) Answer.Unsafe []
+          ∷ gets 5 5
+          ∷ yes (Open 6 6) Answer.Unsafe []
+          ∷ reader 7 []
+          ∷ reader 8 []
+          ∷ reader 9 []
+          ∷ reader 10 []
+          ∷ reader 11 []
+          ∷ reader 12 []
+          ∷ reader 13 []
+          ∷ reader 14 []
+          ∷ yes (Leave 14) Answer.Done (line Word.Favour 2 2 ∷ [])
+          ∷ yes (Enter 14 noFiles noFiles) Answer.Held []
+          ∷ yes (Leave 1) Answer.Done (line Word.Given 2 2 ∷ line Word.Favour 6 6 ∷ [])
+          ∷ [];
+      order = 2 ∷ 4 ∷ 3 ∷ 5 ∷ 6 ∷ 7 ∷ 8 ∷ 9 ∷ 10 ∷ 11 ∷ 12 ∷ 13 ∷ [];
+      favoured = 6 ∷ 12 ∷ 0 ∷ [];
+    }
+
+pub table : List Case
+unfolding a b c d e f g h i j k l m n o p q r s t u v w x y z aa bb cc dd ee ff
+table =
+    a ∷ b ∷ c ∷ d ∷ e ∷ f ∷ g ∷ h ∷ i ∷ j ∷ k ∷ l ∷ m ∷ n ∷ o ∷ p ∷ q ∷ r ∷ s ∷ t ∷ u ∷ v ∷ w ∷ x ∷ y ∷ z
+    ∷ aa ∷ bb ∷ cc ∷ dd ∷ ee ∷ ff ∷ []
 
 -- the calls of a case
-calls : Case → List Call
+pub calls : Case → List Call
 calls k = map (λ (x : Told). x .call) (k .told)
 
 -- the table is what its calls come to
@@ -501,12 +690,24 @@ computed : map (λ (k : Case). outcome (calls k)) table ≡ table
 unfolding outcome table calls
 computed = refl
 
+-- and the board after (ee) is sound: it has no count of one who is absent
+ee-sound : sound (worked (calls ee)) ≡ true
+unfolding any all keep first padded rising listed distinct without same names
+    everyone admitted tallied opening closing dropping
+    heldBack carriedFrom carried withGiven inUse safe canGive
+    setsSound standingSound programSound noConflict lineSound waiterSound noneFavoured someFavoured countSound sound
+    unfavour resume tryGive pass candidate favour overdue admitHeld runHeld choose settle
+    reply refuse enterCheck openCheck closeCheck leaveCheck cancelCheck
+    admit hold holdFor enter wait openFile done closeFile dropFile countLeave leave countCancel cancel apply
+    workedFrom worked calls ee
+ee-sound = refl
+
 a-holds : outcome (calls a) ≡ a
 unfolding outcome a calls
 a-holds = refl
 
 -- each case of the table is what its calls come to (past the end of the table stands case a)
-table-holds : (i : ℕ) → outcome (calls (getD table i a)) ≡ getD table i a
+pub table-holds : (i : ℕ) → outcome (calls (getD table i a)) ≡ getD table i a
 table-holds i =
     sym (List·getD-map (λ (k : Case). outcome (calls k)) table i a)
     ∙ ap (λ (l : List Case). getD l i (outcome (calls a))) computed

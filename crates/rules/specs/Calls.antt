@@ -15,11 +15,12 @@ use Rattle.rules.specs.declared.Check.{Check}
 use Rattle.rules.specs.declared.Answer.{Answer}
 use Rattle.rules.specs.declared.Word.{Word}
 use Rattle.rules.specs.declared.Reply.{Reply}
-use Rattle.rules.specs.Lists.{names, without}
-use Rattle.rules.specs.Boards.{noProgram, at, setProgram, setWaiting, setEntry, setFavour, setStanding, closing, dropping}
+use Rattle.rules.specs.Lists.{withFound, names, without}
+use Rattle.rules.specs.Boards.{noProgram, at, setProgram, setWaiting, setEntry, setFavour, setStanding, uncount, tally, closing}
+use Rattle.rules.specs.Boards.{dropping}
 use Rattle.rules.specs.Orders.{withGiven, inUse, safe}
 use Rattle.rules.specs.Soundness.{sound}
-use Rattle.rules.specs.Settling.{line, settle}
+use Rattle.rules.specs.Settling.{line, overdue, favour, settle}
 use Rattle.rules.specs.Replies.{reply, refuse, refuseUnsound}
 use Rattle.rules.specs.Checks.{enterCheck, openCheck, closeCheck, leaveCheck, cancelCheck}
 
@@ -29,13 +30,25 @@ use Rattle.rules.specs.Checks.{enterCheck, openCheck, closeCheck, leaveC
 abbrev pub newcomer : FileSet → FileSet → Standing → Program
 newcomer v q s = record { writable = v; readable = q; writing = noFiles; reading = noFiles; standing = s }
 
--- Enter: "with somebody favoured, p is held at the end of the entry line (HELD); otherwise running (ADMIT)"
+-- p runs, and the count of each waiting program goes up by 1
+unfoldable pub admit : Board → ℕ → FileSet → FileSet → Board
+admit b p v q = tally (setProgram b p (newcomer v q Standing.Running))
+
+-- p is held at the end of the entry line
+unfoldable pub hold : Board → ℕ → FileSet → FileSet → Board
+hold b p v q = setEntry (setProgram b p (newcomer v q Standing.Held)) (names (b .entry) ++ (p ∷ []))
+
+-- p is held, and the waiter w is favoured: "FAVOUR, after HELD"
+unfoldable pub holdFor : Board → ℕ → FileSet → FileSet → ℕ → Reply
+holdFor b p v q w = let s = favour (hold b p v q) w in reply (s .board) Answer.Held (line Word.Held p 0 ∷ s .lines)
+
+-- Enter: "with somebody favoured, p is held at the end of the entry line (HELD); otherwise running (ADMIT)"; but "if nobody is favoured
+-- and some waiter's count is 8, nobody is admitted: the oldest such waiter is favoured"
 unfoldable pub enter : Board → ℕ → FileSet → FileSet → Reply
 enter b p v q =
     cond (eqb (b .favoured) 0)
-    (reply (setProgram b p (newcomer v q Standing.Running)) Answer.Admit (line Word.Admit p 0 ∷ []))
-    (reply (setEntry (setProgram b p (newcomer v q Standing.Held)) (names (b .entry) ++ (p ∷ []))) Answer.Held
-    (line Word.Held p 0 ∷ []))
+    (withFound (overdue b) (reply (admit b p v q) Answer.Admit (line Word.Admit p 0 ∷ [])) (holdFor b p v q))
+    (reply (hold b p v q) Answer.Held (line Word.Held p 0 ∷ []))
 
 -- p waits for f: "A waiter joins the end of the waiting line."
 unfoldable pub wait : Board → ℕ → ℕ → Board
@@ -72,12 +85,13 @@ leave b p = done (countLeave (setProgram b p noProgram)) p 0
 unfoldable pub countCancel : Board → ℕ → Board
 countCancel b p = cond (eqb (b .favoured) p) (setFavour b 0 0 0) (countLeave b)
 
--- "The program goes with its files and claims", out of its line; "a cancel of a held one counts nowhere"; an absent or a running
--- program is refused before, by 11 and 18
+-- "The program goes with its files and claims", out of its line, and its count is 0; "a cancel of a held one counts nowhere"; an absent
+-- or a running program is refused before, by 11 and 18
 abbrev pub withdrawn : Board → ℕ → Standing → Board
 withdrawn b p Standing.Absent = b
 withdrawn b p Standing.Running = b
-withdrawn b p (Standing.Waiting f) = countCancel (setWaiting (setProgram b p noProgram) (without p (names (b .waiting)))) p
+withdrawn b p (Standing.Waiting f) =
+    countCancel (uncount (setWaiting (setProgram b p noProgram) (without p (names (b .waiting)))) p) p
 withdrawn b p Standing.Held = setEntry (setProgram b p noProgram) (without p (names (b .entry)))
 
 -- Cancel: "the answer is DONE, and the board settles"

@@ -1,8 +1,8 @@
 -- What a call gives back: the board after it, the answer, its lines and the carried order; and 01's number and word of each answer.
 -- Assumes nothing.
-use Prim.Native.Nat.{ℕ}
-use mathlib.Core.Bool.{Bool, true, false}
-use mathlib.Core.List.{List, []}
+use Prim.Native.Nat.{ℕ, _+_}
+use mathlib.Core.Bool.{Bool, true, false, cond}
+use mathlib.Core.List.{List, [], _∷_}
 use mathlib.Core.Option.{Option·getD}
 use lib.ListN.{length, take, drop}
 use Rattle.rules.specs.declared.Board.{Board}
@@ -103,9 +103,26 @@ refuseUnsound b = replyWith b (Answer.Refuse Refusal.NotSound) [] []
 abbrev pub linesOf : Reply → List Line
 linesOf r = take (r .count) (r .lines)
 
--- the lines of settling: "The answer comes first, then settling's GIVEN lines, then FAVOUR .. or ADMIT lines."
+-- the lines of settling: "The answer comes first, then settling's GIVEN lines, then FAVOUR .. or ADMIT lines."; after an enter's HELD the
+-- FAVOUR line of a waiter
 abbrev pub settlingLines : Reply → List Line
 settlingLines r = drop 1 (linesOf r)
+
+-- the line says that a program was admitted
+abbrev pub isAdmit : Word → Bool
+isAdmit Word.Admit = true
+isAdmit Word.Held = false
+isAdmit Word.Given = false
+isAdmit Word.Wait = false
+isAdmit Word.Unsafe = false
+isAdmit Word.Done = false
+isAdmit Word.Favour = false
+isAdmit Word.Refuse = false
+
+-- the number of ADMIT lines
+unfoldable pub admits : List Line → ℕ
+admits [] = 0
+admits (l ∷ ls) = cond (isAdmit (l .word)) 1 0 + admits ls
 
 -- its order: the first `placed` of the 32 places
 abbrev pub orderOf : Reply → List ℕ

@@ -10,7 +10,7 @@ use Rattle.rules.specs.declared.Program.{Program}
 use Rattle.rules.specs.declared.Board.{Board}
 use Rattle.rules.specs.Lists.{any, all, found, listed, distinct, same, names, padded}
 use Rattle.files.specs.Sets.{meets, within, isEmpty}
-use Rattle.rules.specs.Boards.{isProgram, everyone, at, awaited, admitted, isWaiting, isHeld, claims, hasOpen}
+use Rattle.rules.specs.Boards.{isProgram, everyone, at, awaited, passedBy, admitted, isWaiting, isHeld, claims, hasOpen}
 use Rattle.rules.specs.Orders.{conflict, carried, canGive}
 
 -- ---- each program
@@ -64,7 +64,11 @@ someFavoured b =
     && eqb (b .leaves + length (admitted b)) (b .initial)
     && leb (b .initial) 32
 
--- sets as above; no conflict; a completion order exists; the two lines; the waiters; the favoured program
+-- "no count above 8, and 0 for all who aren't waiting"
+unfoldable pub countSound : Board → ℕ → Bool
+countSound b p = leb (passedBy b p) 8 && (isWaiting (at b p .standing) || eqb (passedBy b p) 0)
+
+-- sets as above; no conflict; a completion order exists; the two lines; the waiters; the favoured program; the counts
 unfoldable pub sound : Board → Bool
 sound b =
     all (λ p. programSound (at b p)) everyone
@@ -74,3 +78,4 @@ sound b =
     && lineSound (b .entry) (λ p. isHeld (at b p .standing))
     && all (λ p. waiterSound b p (awaited b p)) (names (b .waiting))
     && cond (eqb (b .favoured) 0) (noneFavoured b) (someFavoured b)
+    && all (countSound b) everyone

@@ -19,5 +19,6 @@ impl Board {
         favoured: 0,
         initial: 0,
         leaves: 0,
+        passed: [0; 32],
     };
 }

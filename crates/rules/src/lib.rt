@@ -26,6 +26,7 @@ pub struct Program {
 // Program p stands at index p - 1. The waiting line and the entry line are oldest first, and then 0.
 // favoured is the favoured program or 0, initial the number admitted when it was favoured, leaves the accepted leaves since,
 // with the cancels that count as leaves.
+// passed has for each waiting program the number of programs admitted since it began to wait, and 0 for all others.
 pub struct Board {
     pub programs: [Program; 32],
     pub waiting: [u8; 32],
@@ -33,6 +34,7 @@ pub struct Board {
     pub favoured: u8,
     pub initial: u8,
     pub leaves: u8,
+    pub passed: [u8; 32],
 }
 
 // The six calls.
