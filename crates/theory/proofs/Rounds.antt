@@ -9,12 +9,12 @@ use Rattle.rules.specs.declared.Answer.{Answer}
 use Rattle.rules.specs.declared.Word.{Word}
 use Rattle.rules.specs.declared.Line.{Line}
 use Rattle.rules.specs.Lists.{any, all, keep, first, padded, rising, without, names}
-use Rattle.rules.specs.Boards.{emptyBoard, everyone, admitted, opening, closing, dropping}
+use Rattle.rules.specs.Boards.{emptyBoard, everyone, admitted, tallied, opening, closing, dropping}
 use Rattle.rules.specs.Orders.{heldBack, carriedFrom, carried, withGiven, inUse, safe, canGive}
-use Rattle.rules.specs.Settling.{line, unfavour, resume, tryGive, pass, candidate, favour, runHeld, choose, settle}
+use Rattle.rules.specs.Settling.{line, unfavour, resume, tryGive, pass, candidate, favour, overdue, admitHeld, runHeld, choose, settle}
 use Rattle.rules.specs.Replies.{reply, refuse, linesOf, orderOf}
 use Rattle.rules.specs.Checks.{enterCheck, openCheck, closeCheck, leaveCheck, cancelCheck}
-use Rattle.rules.specs.Calls.{enter, wait, openFile, done, closeFile, dropFile, countLeave, leave, countCancel, cancel, apply}
+use Rattle.rules.specs.Calls.{admit, hold, holdFor, enter, wait, openFile, done, closeFile, dropFile, countLeave, leave, countCancel, cancel, apply}
 use Rattle.rules.specs.Calls.{Call, Enter, Open, Close, Leave, Cancel}
 use Rattle.rules.proofs.Tables.{set}
 use Rattle.theory.specs.Rounds.{Latest, start, after, toOpen, finishing, round, rounds, held, programsOn}
@@ -28,11 +28,11 @@ record Told : Type 0 where
 
 toldFrom : Board → List Call → List Told
 unfolding any all keep first padded rising without names
-    everyone admitted opening closing dropping
+    everyone admitted tallied opening closing dropping
     heldBack carriedFrom carried withGiven inUse safe canGive
-    unfavour resume tryGive pass candidate favour runHeld choose settle
+    unfavour resume tryGive pass candidate favour overdue admitHeld runHeld choose settle
     reply refuse enterCheck openCheck closeCheck leaveCheck cancelCheck
-    enter wait openFile done closeFile dropFile countLeave leave countCancel cancel apply
+    admit hold holdFor enter wait openFile done closeFile dropFile countLeave leave countCancel cancel apply
 toldFrom b [] = []
 toldFrom b (c ∷ cs) =
     let r = apply b c in

@@ -6,7 +6,7 @@ use mathlib.Core.Bool.{true, false}
 use mathlib.Core.List.{List, [], _∷_}
 use lib.Dec.{eqb}
 use lib.ListN.{drop}
-use Rattle.files.proofs.Tests.{by-test, never}
+use Rattle.files.proofs.Tests.{by-test, by-option, never}
 use Rattle.rules.specs.declared.Board.{Board}
 use Rattle.rules.specs.declared.Answer.{Answer}
 use Rattle.rules.specs.declared.Line.{Line}
@@ -14,16 +14,16 @@ use Rattle.rules.specs.declared.Reply.{Reply}
 use Rattle.rules.specs.Boards.{at, setProgram, closing, dropping, noProgram}
 use Rattle.rules.specs.Orders.{inUse, safe}
 use Rattle.rules.specs.Soundness.{sound}
-use Rattle.rules.specs.Settling.{line, settle}
+use Rattle.rules.specs.Settling.{line, overdue, favour, settle}
 use Rattle.rules.specs.Replies.{refused, wordOf, blank, reply, refuse, refuseUnsound, linesOf, settlingLines}
-use Rattle.rules.specs.Calls.{enter, openFile, done, closeFile, dropFile, countLeave, leave, Call, Enter, Open, Close, Drop, Leave}
+use Rattle.rules.specs.Calls.{hold, holdFor, enter, openFile, done, closeFile, dropFile, countLeave, leave, Call, Enter, Open, Close, Drop, Leave}
 use Rattle.rules.specs.Calls.{Cancel, withdrawn, cancel, programOf, fileOf, checked, accepted, direct}
 use Rattle.theory.specs.Calls.{take-padded, by-check, apply-accepted, apply-refused}
 
 -- ══ The statement ══
 
 -- "The answer comes first": the lines of a call that isn't refused are the answer's word with the call's program and file,
--- then those of settling
+-- then those of settling, or of favouring by an enter
 abbrev pub AnswerFirst : Type 0
 AnswerFirst = (b : Board) (c : Call) → refused (direct b c .answer) ≡ false
     → linesOf (direct b c) ≡ line (wordOf (direct b c .answer)) (programOf c) (fileOf c) ∷ settlingLines (direct b c)
@@ -51,9 +51,11 @@ unfolding done
 done-answered b c = replied (settle b .board) c Answer.Done (settle b .lines) refl
 
 pub accepted-answered : (b : Board) (c : Call) → Answered c (accepted b c)
-unfolding enter openFile closeFile dropFile leave cancel
+unfolding enter holdFor openFile closeFile dropFile leave cancel
 accepted-answered b (Enter p v q) =
-    by-test (eqb (b .favoured) 0) (λ e. rw e (replied _ (Enter p v q) Answer.Admit [] refl))
+    by-test (eqb (b .favoured) 0)
+    (λ e. by-option (overdue b) (λ u. rw (e, u) (replied _ (Enter p v q) Answer.Admit [] refl))
+    (λ w u. rw (e, u) (replied _ (Enter p v q) Answer.Held (favour (hold b p v q) w .lines) refl)))
     (λ e. rw e (replied _ (Enter p v q) Answer.Held [] refl))
 accepted-answered b (Open p f) =
     by-test (inUse b p f) (λ e. rw e (replied _ (Open p f) Answer.Wait [] refl))

@@ -59,7 +59,7 @@ cancel-board b p s e = rw (s, apply-accepted b (Cancel p) e)
 pub cancelled-goes : CancelledGoes
 unfolding direct
 cancelled-goes b p z s a = ap (λ (x : Board). at x p) (cancel-board b p s e)
-    ∙ settle-settled c (l .w-loose) .others p d (ap isWaiting gone) (ap isHeld gone) ∙ is-gone
+    ∙ settle-settled c (l .w-loose) (l .w-counts) .others p d (ap isWaiting gone) (ap isHeld gone) ∙ is-gone
   where
     e : checked b (Cancel p) ≡ Check.Passed
     e = passed-of b (Cancel p) (rw s at a)

@@ -26,14 +26,14 @@ use Rattle.theory.specs.Programs.{admitted-is, inUse-is, used-by, by-use
 use Rattle.theory.specs.Loose.{stands}
 use Rattle.theory.specs.Settling.{Newly}
 use Rattle.theory.specs.Calls.{stepOf, by-check, FavourMore, EndedIn, Withdrew, Stepped, cancelCount, countIf, none-counted, leavesBy}
-use Rattle.theory.specs.Calls.{cancelledBy, apply-accepted, apply-stepped}
+use Rattle.theory.specs.Calls.{goneBy, cancelledBy, apply-accepted, apply-stepped}
 use Rattle.theory.specs.Carried.{holdsOn, EveryOrderHeld, unsafe-iff}
 use Rattle.theory.specs.Worked.{worked-good, worked-snoc, direct-worked, replies-split, passed-of}
 use Rattle.theory.specs.Worked.{order-of-reply, first-runs, favoured-bound}
 use Rattle.theory.specs.Demand3.{replyAfter, Accepted, Waits, ConflictingUse, admittedAfter, acceptedLeave, leavesIn, Favours}
 use Rattle.theory.specs.Demand3.{FavouredThrough, StandsAt, LastOrder, FavouredBy, GetsFile, CancelledIn, Demand3}
 
-step : (xs : List Call) (c : Call) → Stepped (worked xs) (leavesBy (worked xs) c) (cancelledBy (worked xs) c)
+pub step : (xs : List Call) (c : Call) → Stepped (worked xs) (leavesBy (worked xs) c) (goneBy (worked xs) c) (cancelledBy (worked xs) c)
     (stepOf (replyAfter xs c))
 step xs c = apply-stepped (worked xs) c (worked-good xs)
 
@@ -47,7 +47,7 @@ by-end D z s xs = go [] xs z
     go done (c ∷ left) h = subst D (append-assoc done (c ∷ []) left) (go (done ++ (c ∷ [])) left (s done c h))
 
 -- Where a list with one more at its end is split, the split is at the end, or before it.
-snoc-split : (xs us vs : List Call) (c d : Call) → xs ++ (c ∷ []) ≡ us ++ (d ∷ vs) → ((us ≡ xs) × (d ≡ c)) ⊎
+pub snoc-split : (xs us vs : List Call) (c d : Call) → xs ++ (c ∷ []) ≡ us ++ (d ∷ vs) → ((us ≡ xs) × (d ≡ c)) ⊎
     ((ws : List Call) × (xs ≡ us ++ (d ∷ ws)))
 snoc-split [] [] vs c d e = inl (refl, let k : d ≡ c = cc in k)
 snoc-split [] (u ∷ us) vs c d e = absurd (let k = ap length e in let j = lib.ListN.length-append us (d ∷ vs) in omega arith)
@@ -123,7 +123,7 @@ own-cancel xs es c p z v d w = let (e, k) = cancelled-is (worked xs) c p z d in 
       ∙ ap (λ b. isWaiting (at b p .standing)) (worked-snoc xs c) ∙ w;
 }
 
-leavesIn-snoc : (p : ℕ) (xs ys : List Call) (c : Call) → leavesIn p xs (ys ++ (c ∷ [])) ≡ leavesIn p xs ys + acceptedLeave p (xs ++ ys) c
+pub leavesIn-snoc : (p : ℕ) (xs ys : List Call) (c : Call) → leavesIn p xs (ys ++ (c ∷ [])) ≡ leavesIn p xs ys + acceptedLeave p (xs ++ ys) c
 unfolding leavesIn
 leavesIn-snoc p xs [] c = rw (append-nil xs) (omega arith)
 leavesIn-snoc p xs (y ∷ ys) c =

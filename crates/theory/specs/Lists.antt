@@ -136,6 +136,10 @@ unfolding without keep
 without-absent p [] n = refl
 without-absent p (q ∷ l) n = rw (ne-eqb q p (λ d. n (List·Memᴰ·head (sym d)))) (ap (q ∷_) (without-absent p l (λ m. n (List·Memᴰ·tail m))))
 
+pub without-first : (p : ℕ) (l : List ℕ) → NoRepeat (p ∷ l) → without p (p ∷ l) ≡ l
+unfolding without keep Pairs
+without-first p l n = rw (eq-eqb p p refl) (without-absent p l (λ m. n .0 p m refl))
+
 pub length-without : (p : ℕ) (l : List ℕ) → NoRepeat l → p ∈ l → length l ≡ suc (length (without p l))
 unfolding without keep Pairs
 length-without p [] n m = absurd (List·Memᴰ·not-nil m)

@@ -7,7 +7,7 @@ use mathlib.Core.Logic.{_≢_}
 use mathlib.Core.Bool.{Bool, true, false, _||_}
 use mathlib.Core.List.{List, [], _∷_, _++_, List·Memᴰ·head, Memᴰ·append-left, Memᴰ·append-right}
 use lib.Dec.{eqb}
-use lib.ListN.{length}
+use lib.ListN.{length, getD}
 use borrow.Author.Tests.{eqb-true, eqb-false}
 use Rattle.files.proofs.Tests.{by-test, never, no-true}
 use Rattle.files.specs.declared.FileSet.{FileSet}
@@ -135,8 +135,21 @@ Stuck P = (p f : ℕ) → Is p → stands P p ≡ Standing.Waiting f → can P p
 abbrev pub Free : Progs → ℕ → Type 0
 Free P fav = fav ≡ 0 → (p : ℕ) → Is p → heldAt P p ≡ false
 
+-- p's count
+abbrev pub countIn : List ℕ → ℕ → ℕ
+countIn C p = getD C (p - 1) 0
+
+-- "no count above 8, and 0 for all who aren't waiting"
+pub record Counted (C : List ℕ) (P : Progs) : Type 0 where
+  pub most : (p : ℕ) → Is p → countIn C p ≤ 8
+  pub rest : (p : ℕ) → Is p → waitsIn P p ≡ false → countIn C p ≡ 0
+
+abbrev pub Counts : Board → Type 0
+Counts b = Counted (b .passed) (b .programs)
+
 pub record Good (b : Board) : Type 0 where
   pub loose : Loose b
+  pub counts : Counts b
   pub stuck : Stuck (b .programs)
   pub free : Free (b .programs) (b .favoured)
 
@@ -564,9 +577,9 @@ pub stuck-enter : (P : Progs) (p : ℕ) (x : Program) → Base P → Is p → st
     → x .standing ≡ Standing.Running → Stuck P → Stuck (put P p x)
 stuck-enter P p x b c s r k = stuck-in P p x (b .size) c (ap isAdmitted s) (absent-within (prog P p) x (b .own p c) s) r k
 
--- Enter, with somebody favoured: the program is held.
+-- Enter, with somebody favoured, or to be: the program is held.
 pub loose-hold : (P : Progs) (w e : List ℕ) (fav n l p : ℕ) (v q : FileSet) → Is p → stands P p ≡ Standing.Absent
-    → meets v q ≡ false → fav ≢ 0 → LooseIn P w e fav n l
+    → meets v q ≡ false → LooseIn P w e fav n l
     → LooseIn (put P p (record {
       writable = v;
       readable = q;
@@ -574,7 +587,7 @@ pub loose-hold : (P : Progs) (w e : List ℕ) (fav n l p : ℕ) (v q : FileSet) 
       reading = noFiles;
       standing = Standing.Held;
     })) w (padded 0 (names e ++ (p ∷ []))) fav n l
-loose-hold P w e fav n l p v q c s m t k = record {
+loose-hold P w e fav n l p v q c s m k = record {
   base = record {
     size = sized-put P p x z;
     own = λ i j. put-case Own P p x z c i j (λ _. newcomer-own Standing.Held v q m refl) (λ _. k .base .own i j);

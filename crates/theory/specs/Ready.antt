@@ -19,9 +19,10 @@ use Rattle.rules.specs.Settling.{settle}
 use Rattle.rules.specs.Checks.{enterCheck, openCheck, closeCheck, leaveCheck, cancelCheck}
 use Rattle.rules.specs.Calls.{countLeave, withdrawn}
 use Rattle.theory.specs.Programs.{Is, Sized}
-use Rattle.theory.specs.Loose.{waitsIn, heldAt, Loose, Good, test-same, loose-close, loose-drop}
+use Rattle.theory.specs.Loose.{waitsIn, heldAt, Loose, Counts, Good, test-same, loose-close, loose-drop}
 use Rattle.theory.specs.Settling.{settle-settled}
 use Rattle.theory.specs.Calls.{crowd, enter-may, open-may, close-may, leave-may, leave-left, cancel-may, cancel-withdrawn}
+use Rattle.theory.specs.Calls.{still-counts}
 use Rattle.theory.specs.Sound.{sound-iff, sound-good}
 
 -- A board that may be settled, with room in the reply for the answer's line and settling's.
@@ -29,9 +30,11 @@ pub record Ready (c : Board) : Type 0 where
   pub loose : Loose c
   pub room : suc (length (settle c .lines)) ≤ 32
   pub crowded : suc (length (names (c .waiting)) + length (names (c .entry))) ≤ 32
+  pub counts : Counts c
 
-ready : (c : Board) (p : ℕ) → Loose c → Is p → waitsIn (c .programs) p ≡ false → heldAt (c .programs) p ≡ false → Ready c
-ready c p k i w h = let m = settle-settled c k .many in let n = crowd c p k i w h in record { loose = k; room = omega arith; crowded = n }
+ready : (c : Board) (p : ℕ) → Loose c → Counts c → Is p → waitsIn (c .programs) p ≡ false → heldAt (c .programs) p ≡ false → Ready c
+ready c p k t i w h = let m = settle-settled c k t .many in let n = crowd c p k i w h in
+    record { loose = k; room = omega arith; crowded = n; counts = t }
 
 module _ (b : Board) (z : Sized (b .programs)) (s : sound b ≡ true) where
   -- What the proofs of the theory use of a sound board.
@@ -53,7 +56,7 @@ module _ (b : Board) (z : Sized (b .programs)) (s : sound b ≡ true) where
   unfolding closing
   close-ready p f e = let m = close-may b p f e in
       ready (setProgram b p (closing (at b p) f)) p (loose-close (b .programs) (b .waiting) (b .entry) (b .favoured)
-      (b .initial) (b .leaves) p f (m .is) (m .runs) (good .loose)) (m .is)
+      (b .initial) (b .leaves) p f (m .is) (m .runs) (good .loose)) (still-counts b p (closing (at b p) f) good m (m .runs)) (m .is)
       (test-same isWaiting (b .programs) p (closing (at b p) f) z (m .is) ∙ ap isWaiting (m .runs))
       (test-same isHeld (b .programs) p (closing (at b p) f) z (m .is) ∙ ap isHeld (m .runs))
 
@@ -61,19 +64,20 @@ module _ (b : Board) (z : Sized (b .programs)) (s : sound b ≡ true) where
   unfolding dropping
   drop-ready p f e = let m = open-may b p f e in
       ready (setProgram b p (dropping (at b p) f)) p (loose-drop (b .programs) (b .waiting) (b .entry) (b .favoured)
-      (b .initial) (b .leaves) p f (m .is) (m .runs) (m .asked .shut) (good .loose)) (m .is)
+      (b .initial) (b .leaves) p f (m .is) (m .runs) (m .asked .shut) (good .loose))
+      (still-counts b p (dropping (at b p) f) good (record { is = m .is; runs = m .runs }) (m .runs)) (m .is)
       (test-same isWaiting (b .programs) p (dropping (at b p) f) z (m .is) ∙ ap isWaiting (m .runs))
       (test-same isHeld (b .programs) p (dropping (at b p) f) z (m .is) ∙ ap isHeld (m .runs))
 
   pub leave-ready : (p : ℕ) → leaveCheck b p ≡ Check.Passed → Ready (countLeave (setProgram b p noProgram))
   leave-ready p e = let m = leave-may b p e in let l = leave-left b p good m in
-      ready (countLeave (setProgram b p noProgram)) p (l .l-loose) (m .is)
+      ready (countLeave (setProgram b p noProgram)) p (l .l-loose) (l .l-counts) (m .is)
       (ap (λ P. waitsIn P p) (l .l-programs) ∙ test-same isWaiting (b .programs) p noProgram z (m .is))
       (ap (λ P. heldAt P p) (l .l-programs) ∙ test-same isHeld (b .programs) p noProgram z (m .is))
 
   pub cancel-ready : (p : ℕ) → cancelCheck b p ≡ Check.Passed → Ready (withdrawn b p (at b p .standing))
   cancel-ready p e = let m = cancel-may b p e in let l = cancel-withdrawn b p good m in
-      ready (withdrawn b p (at b p .standing)) p (l .w-loose) (m .is)
+      ready (withdrawn b p (at b p .standing)) p (l .w-loose) (l .w-counts) (m .is)
       (ap (λ P. waitsIn P p) (l .w-programs) ∙ test-same isWaiting (b .programs) p noProgram z (m .is))
       (ap (λ P. heldAt P p) (l .w-programs) ∙ test-same isHeld (b .programs) p noProgram z (m .is))
 

@@ -21,6 +21,7 @@ use Rattle.rules.specs.Calls.{Call, Open, Leave, apply}
 use Rattle.rules.specs.Worked.{worked, repliesFrom, directFrom}
 use Rattle.theory.specs.Lists.{_∈_, Pairs}
 use Rattle.theory.specs.Programs.{Sized}
+use Rattle.theory.specs.Sizes.{Counts32}
 
 -- ══ Definitions ══
 
@@ -110,7 +111,7 @@ pub record Round (l : Latest) : Type 0 where
 pub record Emptied (l : Latest) : Type 0 where
   pub each-round : (k : ℕ) → k < programsOn (l .board) → Round (after l (rounds k l))
   -- The board is then the constant, the same in every part: 32 absent programs with empty sets, both lines 0 throughout, nobody favoured,
-  -- both numbers 0. The order in the last answer is empty.
+  -- both numbers and all counts 0. The order in the last answer is empty.
   pub empties : after l (rounds (programsOn (l .board)) l) ≡ start
 
 -- "this empties every board reached from the empty one": after the calls cs.
@@ -125,4 +126,5 @@ pub record RunsThrough (cs : List Call) : Type 0 where
 
 -- Beyond 02: the same of every sound board with its carried order, as an image holds it. `sound-emptied` proves it.
 abbrev pub SoundEmptied : Type 0
-SoundEmptied = (b : Board) → Sized (b .programs) → sound b ≡ true → Emptied (record { board = b; order = Option·getD (carried b) [] })
+SoundEmptied = (b : Board) → Sized (b .programs) → Counts32 b → sound b ≡ true
+    → Emptied (record { board = b; order = Option·getD (carried b) [] })

@@ -18,14 +18,15 @@ use Rattle.rules.specs.declared.Program.{Program}
 use Rattle.rules.specs.declared.Board.{Board}
 use Rattle.rules.specs.Lists.{keep, listed, without, names, padded}
 use Rattle.rules.specs.Boards.{noProgram, emptyBoard, isAbsent, isHeld, isWaiting, isAdmitted, everyone, at, admitted, setProgram}
-use Rattle.rules.specs.Boards.{setEntry, setStanding}
-use Rattle.rules.specs.Settling.{pass, candidate, favour, runHeld, choose, settle}
+use Rattle.rules.specs.Boards.{setStanding}
+use Rattle.rules.specs.Settling.{pass, candidate, favour, overdue, admitHeld, runHeld, choose, settle}
 use Rattle.theory.specs.Lists.{_∈_, NoRepeat, here, keep-mem, mem-keep, keep-but, Pairs-keep, Pairs-map, rising-pairs, listed-mem}
 use Rattle.theory.specs.Lists.{mem-listed}
 use Rattle.theory.specs.Order.{IsOrder}
 use Rattle.theory.specs.Programs.{Is, mem-everyone, everyone-is, Progs, prog, Sized, sized-put, holds, isIn, ins, mem-ins, ins-mem, Own}
-use Rattle.theory.specs.Loose.{stands, absent-is, held-is, waiting-in, OnLine, Loose, Good, test-put}
+use Rattle.theory.specs.Loose.{stands, absent-is, held-is, waiting-in, OnLine, countIn, Loose, Good, test-put}
 use Rattle.theory.specs.Settling.{Passed, pass-passed}
+use Rattle.theory.specs.Sizes.{Counts32}
 use Rattle.theory.specs.Rounds.{held, programsOn, isPresent, present}
 
 -- ── Who is there ──
@@ -114,20 +115,22 @@ pass-there b k i j = by-test (listed i (names (b .waiting)))
 
 runHeld-there : (hs : List ℕ) (b : Board) → Sized (b .programs) → ((p : ℕ) → p ∈ hs → Is p × (absentIn (b .programs) p ≡ false))
     → SameThere (b .programs) (runHeld hs b .board .programs)
-unfolding runHeld
+unfolding runHeld admitHeld favour
 runHeld-there [] b z f i j = refl
 runHeld-there (p ∷ hs) b z f i j =
     let (c, a) = f p here in
     let x = setStanding (at b p) Standing.Running in
     let same : SameThere (b .programs) (setProgram b p x .programs) = test-put isAbsent (b .programs) p x z c (sym a) in
-    runHeld-there hs (setProgram b p x) (sized-put (b .programs) p x z)
-    (λ q m. let (d, e) = f q (List·Memᴰ·tail m) in (d, same q d ∙ e)) i j ∙ same i j
+    by-option (overdue b)
+    (λ u. rw u (runHeld-there hs (admitHeld b p hs) (sized-put (b .programs) p x z)
+    (λ q m. let (d, e) = f q (List·Memᴰ·tail m) in (d, same q d ∙ e)) i j ∙ same i j))
+    (λ w u. rw u)
 
 choose-there : (b : Board) → Loose b → SameThere (b .programs) (choose b .board .programs)
 unfolding choose favour
 choose-there b k i j = by-test (eqb (b .favoured) 0)
     (λ t. by-option (candidate b)
-    (λ u. rw (t, u) (runHeld-there (names (b .entry)) (setEntry b []) (k .base .size) (λ p m. let (c, h) = k .helds .of p m in
+    (λ u. rw (t, u) (runHeld-there (names (b .entry)) b (k .base .size) (λ p m. let (c, h) = k .helds .of p m in
     (c, ap isAbsent (held-is (stands (b .programs) p) h))) i j))
     (λ p u. rw (t, u)))
     (λ t. rw t)
@@ -175,18 +178,24 @@ empty-line : (l : List ℕ) (t : ℕ → Bool) → OnLine l t → ((p : ℕ) →
 unfolding padded
 empty-line l t k f = k .form ∙ ap (padded 0) (no-names (names l) (λ p m. let (c, u) = k .of p m in never u (f p c)))
 
-empty-board : (P : Progs) (w e : List ℕ) (f n l : ℕ) → P ≡ replicate 32 noProgram → w ≡ replicate 32 0 → e ≡ replicate 32 0 → f ≡ 0
-    → n ≡ 0 → l ≡ 0
-    → _≡_ {A = Board} (record { programs = P; waiting = w; entry = e; favoured = f; initial = n; leaves = l }) emptyBoard
-empty-board P w e f n l a b c d i j = rw (a, b, c, d, i, j)
+empty-counts : (C : List ℕ) → length C ≡ 32 → ((i : ℕ) → Is i → countIn C i ≡ 0) → C ≡ replicate 32 0
+empty-counts C z f = ext-getD 0 C (replicate 32 0) (z ∙ sym (length-replicate {A = ℕ} 32 0))
+    (λ i l. let e : suc i - 1 ≡ i = omega arith in ap (λ k. getD C k 0) (sym e)
+    ∙ f (suc i) (record { least = omega arith; most = omega arith }) ∙ sym (getD-replicate 32 i 0 0 (omega arith)))
+
+empty-board : (P : Progs) (w e C : List ℕ) (f n l : ℕ) → P ≡ replicate 32 noProgram → w ≡ replicate 32 0 → e ≡ replicate 32 0 → f ≡ 0
+    → n ≡ 0 → l ≡ 0 → C ≡ replicate 32 0
+    → _≡_ {A = Board} (record { programs = P; waiting = w; entry = e; favoured = f; initial = n; leaves = l; passed = C }) emptyBoard
+empty-board P w e C f n l a b c d i j k = rw (a, b, c, d, i, j, k)
 
 -- "The empty board is a constant": the only sound board without programs.
-pub is-empty : (b : Board) → Good b → ((i : ℕ) → Is i → absentIn (b .programs) i ≡ true) → b ≡ emptyBoard
-is-empty b g h = empty-board (b .programs) (b .waiting) (b .entry) (b .favoured) (b .initial) (b .leaves)
+pub is-empty : (b : Board) → Good b → Counts32 b → ((i : ℕ) → Is i → absentIn (b .programs) i ≡ true) → b ≡ emptyBoard
+is-empty b g z h = empty-board (b .programs) (b .waiting) (b .entry) (b .passed) (b .favoured) (b .initial) (b .leaves)
     (empty-programs (b .programs) (g .loose .base .size) (λ i c. gone-program (prog (b .programs) i) (g .loose .base .own i c) (h i c)))
     (empty-line (b .waiting) _ (g .loose .waits) (λ p c. ap isWaiting (absent-is (stands (b .programs) p) (h p c))))
     (empty-line (b .entry) _ (g .loose .helds) (λ p c. ap isHeld (absent-is (stands (b .programs) p) (h p c))))
     nobody (g .loose .nobody nobody .0) (g .loose .nobody nobody .1)
+    (empty-counts (b .passed) z (λ p c. g .counts .rest p c (ap isWaiting (absent-is (stands (b .programs) p) (h p c)))))
   where
     nobody : b .favoured ≡ 0
     nobody = unfavoured b g (λ p c. ap isAdmitted (absent-is (stands (b .programs) p) (h p c)))

@@ -29,6 +29,7 @@ use Rattle.theory.specs.Calls.{RunsMay, may-leave, apply-accepted, apply
 use Rattle.theory.specs.Carried.{holdsOn}
 use Rattle.theory.specs.Sound.{sound-iff, sound-good}
 use Rattle.theory.specs.Worked.{worked-good, workedFrom-append, direct-worked, order-carried, carried-order, first-runs}
+use Rattle.theory.specs.Sizes.{Counts32, apply-32}
 use Rattle.theory.specs.Rounds.{Latest, start, after, toOpen, finishing, roundWith, round, rounds, answersFrom, present}
 use Rattle.theory.specs.Rounds.{programsOn, Round, Emptied, RunsThrough, SoundEmptied}
 use Rattle.theory.specs.RoundsOpens.{Opened, opens, to-open-asked, to-open-once}
@@ -138,6 +139,11 @@ unfolding after
 after-carries l [] e = e
 after-carries l (c ∷ cs) e = after-carries _ cs (order-carried (l .board) c)
 
+after-32 : (l : Latest) (cs : List Call) → Counts32 (l .board) → Counts32 (after l cs .board)
+unfolding after
+after-32 l [] z = z
+after-32 l (c ∷ cs) z = after-32 _ cs (apply-32 (l .board) c z)
+
 start-carries : Carries start
 unfolding any all keep first rising everyone admitted heldBack carriedFrom carried
 start-carries = refl
@@ -145,6 +151,7 @@ start-carries = refl
 -- What a round begins with.
 record Fresh (l : Latest) : Type 0 where
   good : Good (l .board)
+  counts : Counts32 (l .board)
   carries : Carries l
 
 -- ── One round ──
@@ -177,7 +184,11 @@ one-round l f e = let (o, u, r) = carried-order b (f .good) in
             one-fewer = programs-on b ∙ length-without p (present b) (present-once b) (k .there) ∙ ap (λ m. suc (length m)) (sym s)
                 ∙ ap suc (sym (programs-on (after l (round l) .board)));
           },
-          record { good = subst Good (sym x) (k .good-after); carries = after-carries l (round l) (f .carries) },
+          record {
+            good = subst Good (sym x) (k .good-after);
+            counts = after-32 l (round l) (f .counts);
+            carries = after-carries l (round l) (f .carries);
+          },
         )
 
 -- ── n rounds ──
@@ -187,7 +198,7 @@ nobody-left : (l : Latest) → Fresh l → length (present (l .board)) ≡ 0 →
 nobody-left l f e = is-start (l .board) (l .order) empty (f .carries ∙ ap (λ b. Option·getD (carried b) []) empty ∙ sym start-carries)
   where
     empty : l .board ≡ emptyBoard
-    empty = is-empty (l .board) (f .good) (λ i c. by-test (absentIn (l .board .programs) i) (λ t. t)
+    empty = is-empty (l .board) (f .good) (f .counts) (λ i c. by-test (absentIn (l .board .programs) i) (λ t. t)
         (λ t. absurd (nil-length (present (l .board)) i e (mem-present (l .board) i c t))))
 
     is-start : (b : Board) (o : List ℕ) → b ≡ emptyBoard → o ≡ [] → _≡_ {A = Latest} (record { board = b; order = o }) start
@@ -238,7 +249,11 @@ run-through cs =
     let l = after start cs in
     let e : l .board ≡ worked cs = after-board start cs in
     let n = programsOn (worked cs) in
-    let r = emptied l (record { good = subst Good (sym e) (worked-good cs); carries = after-carries start cs start-carries }) in
+    let r = emptied l (record {
+      good = subst Good (sym e) (worked-good cs);
+      counts = after-32 start cs refl;
+      carries = after-carries start cs start-carries;
+    }) in
     record {
       on-worked = e;
       emptied = r;
@@ -249,4 +264,4 @@ run-through cs =
     }
 
 pub sound-emptied : SoundEmptied
-sound-emptied b z s = emptied _ (record { good = sound-good b z (sound-iff b .0 s); carries = refl })
+sound-emptied b z n s = emptied _ (record { good = sound-good b z (sound-iff b .0 s); counts = n; carries = refl })

@@ -1,15 +1,15 @@
 -- Settling keeps a board sound, and what its lines say.
 -- Assumes nothing.
-use Prim.Native.Nat.{ℕ, suc, _≤_, _+_}
+use Prim.Native.Nat.{ℕ, _≤_, _+_, _-_}
 use native.Mathlib.Omega.{arith}
 use mathlib.Core.Path.{_≡_, refl, sym, _∙_, ap, ap₂, subst}
 use mathlib.Core.Logic.{_≢_, _⊎_, inl, inr, ⊎-elim}
 use mathlib.Core.Bool.{true, false, not}
 use mathlib.Core.Option.{none, some}
-use mathlib.Core.List.{List, [], _∷_, List·Memᴰ·head, List·Memᴰ·tail, List·Memᴰ·not-nil, Memᴰ·append-left, Memᴰ·append-right}
+use mathlib.Core.List.{List, [], _∷_, _++_, List·Memᴰ·head, List·Memᴰ·tail, List·Memᴰ·not-nil, Memᴰ·append-left, Memᴰ·append-right}
 use mathlib.Core.List.{List·Memᴰ·append-cases, List·Memᴰ·eq-of-singleton}
 use lib.Dec.{eqb}
-use lib.ListN.{length, length-append}
+use lib.ListN.{length, set, length-append}
 use borrow.Author.Tests.{eqb-true, eqb-false, eq-eqb, ne-eqb}
 use Rattle.files.proofs.Tests.{by-test, by-option, never, no-true}
 use Rattle.rules.specs.declared.Standing.{Standing}
@@ -17,13 +17,23 @@ use Rattle.rules.specs.declared.Program.{Program}
 use Rattle.rules.specs.declared.Board.{Board}
 use Rattle.rules.specs.declared.Word.{Word}
 use Rattle.rules.specs.declared.Line.{Line}
-use Rattle.rules.specs.Lists.{without, listed, names, padded}
-use Rattle.rules.specs.Boards.{isAbsent, isHeld, isWaiting, isAdmitted, awaitedOf, awaited, setProgram, setEntry, setFavour, setStanding}
+use Rattle.files.specs.Sets.{noFiles}
+use Rattle.rules.specs.Lists.{without, names, padded}
+use Rattle.rules.specs.Boards.{isAbsent, isHeld, isWaiting, isAdmitted, awaitedOf, awaited, passedBy, setProgram, setEntry, setFavour}
+use Rattle.rules.specs.Boards.{setStanding}
 use Rattle.rules.specs.Orders.{withGiven, inUse, canGive}
-use Rattle.rules.specs.Settling.{line, Step, still, andThen, unfavour, resume, tryGive, pass, candidate, favour, runHeld, choose, settle}
-use Rattle.theory.specs.Lists.{_∈_, Pairs, NoRepeat, by-mem, here, first-some, names-padded, length-without, listed-mem, mem-listed}
-use Rattle.theory.specs.Programs.{Is, prog, put, Sized, put-same, put-other, isIn, ins, give, can, canGive-is, admitted-is, length-ins}
-use Rattle.theory.specs.Loose.{stands, waitsIn, heldAt, waiting-file, held-is, line-make, LooseIn, Loose, Stuck, Good, served}
+use Rattle.rules.specs.Settling.{line, Step, still, andThen, unfavour, resume, tryGive, pass, candidate, favour, overdue, admitHeld}
+use Rattle.rules.specs.Settling.{runHeld}
+use Rattle.rules.specs.Settling.{choose, settle}
+use Rattle.rules.specs.Replies.{admits}
+use Rattle.theory.specs.Lists.{_∈_, Pairs, NoRepeat, by-mem, here, first-some, names-padded, length-without}
+use Rattle.theory.specs.Programs.{Is, Own, Progs, prog, put, Sized, put-same, put-other, isIn, ins, give, can, canGive-is}
+use Rattle.theory.specs.Programs.{admitted-is}
+use Rattle.theory.specs.Programs.{length-ins}
+use Rattle.theory.specs.Loose.{stands, waitsIn, heldAt, waiting-file, held-is, OnLine, line-make, LooseIn, Loose, Stuck, countIn}
+use Rattle.theory.specs.Loose.{Counted, Counts}
+use Rattle.theory.specs.Loose.{Good, test-put, test-other, test-same, served}
+use Rattle.theory.specs.Counts.{uncount-other, counted-stop, tallied-waits, counted-tally, admits-append, admits-none, length-in}
 use Rattle.theory.specs.Loose.{served-runs, served-other, served-ins, served-stuck, loose-serve, loose-admit, stuck-in}
 
 -- ── Giving ──
@@ -76,6 +86,11 @@ module _ (b : Board) (p f : ℕ) where
   given-entry = by-test (eqb (b .favoured) p) (λ t. ap (λ (c : Board). c .entry) (given-stop (eqb-true (b .favoured) p t)))
       (λ t. ap (λ (c : Board). c .entry) (given-keep (eqb-false (b .favoured) p t)))
 
+  given-passed : given b p f .passed ≡ set (b .passed) (p - 1) 0
+  unfolding resume withGiven
+  given-passed = by-test (eqb (b .favoured) p) (λ t. ap (λ (c : Board). c .passed) (given-stop (eqb-true (b .favoured) p t)))
+      (λ t. ap (λ (c : Board). c .passed) (given-keep (eqb-false (b .favoured) p t)))
+
   given-favour : b .favoured ≢ p → Favour b (given b p f)
   unfolding resume withGiven
   given-favour n = let e = given-keep n in record {
@@ -119,6 +134,8 @@ pub record Passed (b : Board) (ps : List ℕ) (s : Step) : Type 0 where
   pub fewer : length (s .lines) + length (names (s .board .waiting)) ≡ length (names (b .waiting))
   pub only-given : (k : Line) → k ∈ s .lines → k .word ≡ Word.Given
   pub fav : Favour b (s .board) ⊎ Served b s
+  pub counted : Counts b → Counts (s .board)
+  pub same-count : (y : ℕ) → Is y → waitsIn (s .board .programs) y ≡ true → countIn (s .board .passed) y ≡ countIn (b .passed) y
 
 pass-given : (p : ℕ) (ps : List ℕ) (b : Board) → canGive b p (awaited b p) ≡ true → pass (p ∷ ps) b ≡ andThen
     (line Word.Given p (awaited b p) ∷ []) (pass ps (given b p (awaited b p)))
@@ -159,6 +176,12 @@ passed-given p f ps b k c s m r = record {
       (λ t. let n = eqb-false (b .favoured) p t in let w = given-favour b p f n in
       ⊎-elim (λ q. inl (favour-trans b (given b p f) _ w q))
       (λ (q : Served (given b p f) (pass ps (given b p f))). inr (kept n w q)) (r .fav));
+  counted = λ h. r .counted (subst (λ C. Counted C (given b p f .programs)) (sym (given-passed b p f)) (counted-stop (b .passed)
+      (b .programs) (given b p f .programs) p c (λ i j n w. ap (λ P. waitsIn P i) eP ∙ ap (λ (q : Program). isWaiting (q .standing))
+      (served-other (b .programs) p f z c i j n) ∙ w) h));
+  same-count = λ y i w. let (g, u) = waiting-file (stands (pass ps (given b p f) .board .programs) y) w in
+      r .same-count y i w ∙ ap (λ C. countIn C y) (given-passed b p f)
+      ∙ uncount-other (b .passed) p y c i (before y g i (r .waited y g i u) .0);
 }
   where
     z : Sized (b .programs)
@@ -202,6 +225,8 @@ pass-passed [] b k n h = record {
   fewer = omega arith;
   only-given = λ q m. absurd (List·Memᴰ·not-nil m);
   fav = inl (favour-refl b);
+  counted = λ h. h;
+  same-count = λ y i w. refl;
 }
 pass-passed (p ∷ ps) b k n h =
     let (c, v) = h p here in
@@ -233,80 +258,9 @@ pass-passed (p ∷ ps) b k n h =
       fewer = r .fewer;
       only-given = r .only-given;
       fav = r .fav;
+      counted = r .counted;
+      same-count = r .same-count;
     }))
-
--- ── Those held run ──
-
-pub record Ran (b : Board) (hs : List ℕ) (s : Step) : Type 0 where
-  pub loose : LooseIn (s .board .programs) (s .board .waiting) (padded 0 []) 0 (s .board .initial) (s .board .leaves)
-  pub stuck : Stuck (s .board .programs)
-  pub nobody : s .board .favoured ≡ b .favoured
-  pub no-entry : s .board .entry ≡ b .entry
-  pub many : length (s .lines) ≡ length hs
-  pub only-admit : (k : Line) → k ∈ s .lines → k .word ≡ Word.Admit
-  pub others : (i : ℕ) → Is i → (i ∈ hs → ⊥) → prog (s .board .programs) i ≡ prog (b .programs) i
-  pub now-runs : (i : ℕ) → i ∈ hs → stands (s .board .programs) i ≡ Standing.Running
-  pub same-initial : s .board .initial ≡ b .initial
-  pub same-leaves : s .board .leaves ≡ b .leaves
-
-runHeld-ran : (hs : List ℕ) (b : Board) → LooseIn (b .programs) (b .waiting) (padded 0 hs) 0 (b .initial) (b .leaves)
-    → Stuck (b .programs) → NoRepeat hs
-    → ((p : ℕ) → p ∈ hs → Is p × (heldAt (b .programs) p ≡ true)) → ((p : ℕ) → Is p → heldAt (b .programs) p ≡ true
-    → p ∈ hs) → Ran b hs (runHeld hs b)
-unfolding runHeld Pairs
-runHeld-ran [] b k st n f g = record {
-  loose = k;
-  stuck = st;
-  nobody = refl;
-  no-entry = refl;
-  many = refl;
-  only-admit = λ q m. absurd (List·Memᴰ·not-nil m);
-  others = λ i j m. refl;
-  now-runs =
-      λ i m. absurd (List·Memᴰ·not-nil m);
-  same-initial = refl;
-  same-leaves = refl;
-}
-runHeld-ran (p ∷ hs) b k st n f g =
-    let P = b .programs in
-    let (c, v) = f p here in
-    let s = held-is (stands P p) v in
-    let x = setStanding (prog P p) Standing.Running in
-    let o = k .base .own p c in
-    let i = o .idle (ap isAdmitted s) in
-    let z = k .base .size in
-    let f′ : (q : ℕ) → q ∈ hs → Is q × (heldAt (put P p x) q ≡ true) = (λ q m. let (j, w) = f q (List·Memᴰ·tail m) in
-    (j, ap (λ (y : Program). isHeld (y .standing)) (put-other P p q x c j (λ d. n .0 q m (sym d))) ∙ w)) in
-    let g′ : (q : ℕ) → Is q → heldAt (put P p x) q ≡ true → q ∈ hs =
-    (λ q j w. by-test (eqb q p)
-    (λ t. never {t = false} (sym (ap (λ (y : Program). isHeld (y .standing)) (put-same P p x z c))
-    ∙ ap (heldAt (put P p x)) (sym (eqb-true q p t)) ∙ w) refl)
-    (λ t. let d = eqb-false q p t in
-    by-mem (g q j (sym (ap (λ (y : Program). isHeld (y .standing)) (put-other P p q x c j d)) ∙ w)) (λ e. absurd (d e)) (λ m. m))) in
-    let r = runHeld-ran hs (setProgram b p x)
-    (loose-admit P (b .waiting) (padded 0 (p ∷ hs)) (padded 0 hs) (b .initial) (b .leaves) p x c (ap isAdmitted s) (i .0) (i .1) refl
-    (record { wv = o .wv; rq = o .rq; vq = o .vq; idle = λ u. never {t = true} refl u; gone = λ u. never {t = false} (ap isAbsent u) refl })
-    (line-make hs (heldAt (put P p x)) (n .1) f′ g′) k)
-    (stuck-in P p x z c (ap isAdmitted s) (record {
-      in-v = λ _ u. u;
-      in-q = λ _ u. u;
-      in-w = λ _ u. u;
-      in-r = λ _ u. u;
-    }) refl st) (n .1) f′ g′ in
-    record {
-      loose = r .loose;
-      stuck = r .stuck;
-      nobody = r .nobody;
-      no-entry = r .no-entry;
-      many = ap suc (r .many);
-      only-admit = λ q m. by-mem m (λ d. ap (λ (w : Line). w .word) d) (r .only-admit q);
-      others =
-          λ q j m. r .others q j (λ w. m (List·Memᴰ·tail w)) ∙ put-other P p q x c j (λ d. m (List·Memᴰ·head d));
-      now-runs = λ q m. by-mem m (λ d. ap (stands (runHeld hs (setProgram b p x) .board .programs)) d
-          ∙ ap (λ (y : Program). y .standing) (r .others p c (λ w. n .0 p w refl) ∙ put-same P p x z c)) (r .now-runs q);
-      same-initial = r .same-initial;
-      same-leaves = r .same-leaves;
-    }
 
 -- ── Favouring, or running those held ──
 
@@ -325,6 +279,22 @@ pub record Newly (s : Step) (p : ℕ) : Type 0 where
   pub counted : s .board .initial ≡ length (ins (s .board .programs))
   pub none-left : s .board .leaves ≡ 0
 
+-- Lines that favour nobody come first.
+pub newly-more : (ls : List Line) (s : Step) (p : ℕ) → NoFavour ls → Newly s p → Newly (andThen ls s) p
+newly-more ls s p n w = record {
+  file = w .file;
+  line-there = Memᴰ·append-right ls (w .line-there);
+  no-other = λ k m d. ⊎-elim (λ v. absurd (n k v d)) (λ v. w .no-other k v d) (List·Memᴰ·append-cases ls m);
+  is = w .is;
+  now = w .now;
+  waits = w .waits;
+  counted = w .counted;
+  none-left = w .none-left;
+}
+
+pub quiet-more : (ls ms : List Line) → NoFavour ls → NoFavour ms → NoFavour (ls ++ ms)
+quiet-more ls ms n m k i d = ⊎-elim (λ v. n k v d) (λ v. m k v d) (List·Memᴰ·append-cases ls i)
+
 pub record Chosen (b : Board) (s : Step) : Type 0 where
   pub good : Good (s .board)
   pub many : length (s .lines) ≤ length (names (b .waiting)) + length (names (b .entry))
@@ -332,6 +302,9 @@ pub record Chosen (b : Board) (s : Step) : Type 0 where
   pub runs : (p : ℕ) → Is p → stands (b .programs) p ≡ Standing.Running → stands (s .board .programs) p ≡ Standing.Running
   pub waited : (y g : ℕ) → Is y → stands (s .board .programs) y ≡ Standing.Waiting g → stands (b .programs) y ≡ Standing.Waiting g
   pub others : (i : ℕ) → Is i → heldAt (b .programs) i ≡ false → prog (s .board .programs) i ≡ prog (b .programs) i
+  pub count : (y : ℕ) → Is y → waitsIn (s .board .programs) y ≡ true
+      → countIn (s .board .passed) y ≡ countIn (b .passed) y + admits (s .lines)
+  pub sum : length (ins (s .board .programs)) ≡ length (ins (b .programs)) + admits (s .lines)
 
 pub choose-still : (b : Board) → b .favoured ≢ 0 → choose b ≡ still b
 unfolding choose
@@ -341,7 +314,7 @@ choose-some : (b : Board) (p : ℕ) → b .favoured ≡ 0 → candidate b ≡ so
 unfolding choose
 choose-some b p e u = rw (eq-eqb (b .favoured) 0 e, u)
 
-choose-none : (b : Board) → b .favoured ≡ 0 → candidate b ≡ none → choose b ≡ runHeld (names (b .entry)) (setEntry b [])
+choose-none : (b : Board) → b .favoured ≡ 0 → candidate b ≡ none → choose b ≡ runHeld (names (b .entry)) b
 unfolding choose
 choose-none b e u = rw (eq-eqb (b .favoured) 0 e, u)
 
@@ -355,19 +328,23 @@ mem-length : {A : Type 0} (a : A) (l : List A) → a ∈ l → 1 ≤ length l
 mem-length a [] m = absurd (List·Memᴰ·not-nil m)
 mem-length a (x ∷ l) m = omega arith
 
-chosen-still : (b : Board) → Loose b → Stuck (b .programs) → b .favoured ≢ 0 → Chosen b (still b)
-chosen-still b k st n = record {
-  good = record { loose = k; stuck = st; free = λ d. absurd (n d) };
+chosen-still : (b : Board) → Loose b → Stuck (b .programs) → Counts b → b .favoured ≢ 0 → Chosen b (still b)
+unfolding admits
+chosen-still b k st t n = record {
+  good = record { loose = k; counts = t; stuck = st; free = λ d. absurd (n d) };
   many = omega arith;
   fav = inr (favour-refl b, λ q m. absurd (List·Memᴰ·not-nil m));
   runs = λ p c u. u;
   waited = λ y g i u. u;
   others = λ i c n. refl;
+  count = λ y i w. omega arith;
+  sum = omega arith;
 }
 
-chosen-some : (b : Board) (p : ℕ) → Loose b → Stuck (b .programs) → b .favoured ≡ 0 → p ∈ names (b .waiting) → Chosen b (favour b p)
-unfolding favour
-chosen-some b p k st e m =
+pub chosen-some : (b : Board) (p : ℕ) → Loose b → Stuck (b .programs) → Counts b → b .favoured ≡ 0 → p ∈ names (b .waiting)
+    → Chosen b (favour b p)
+unfolding favour admits
+chosen-some b p k st n e m =
     let (c, v) = k .waits .of p m in
     let (f, s) = waiting-file (stands (b .programs) p) v in
     let z = ap length (admitted-is b) in
@@ -385,6 +362,7 @@ chosen-some b p k st e m =
           count = λ _. (omega arith, omega arith);
           nobody = λ d. absurd (omega arith);
         };
+        counts = n;
         stuck = st;
         free = λ d. absurd (omega arith);
       };
@@ -408,53 +386,180 @@ chosen-some b p k st e m =
       runs = λ p c u. u;
       waited = λ y g i u. u;
       others = λ i c n. refl;
+      count = λ y i w. omega arith;
+      sum = omega arith;
     }
 
-chosen-none : (b : Board) → Loose b → Stuck (b .programs) → b .favoured ≡ 0 → Chosen b (runHeld (names (b .entry)) (setEntry b []))
-chosen-none b k st e = record {
+-- Nobody is held any more.
+chosen-end : (b : Board) → Loose b → Stuck (b .programs) → Counts b → names (b .entry) ≡ [] → Chosen b (still b)
+unfolding admits
+chosen-end b k st n h = record {
   good = record {
-    loose = subst (λ v. LooseIn (s .board .programs) (s .board .waiting) (s .board .entry) v (s .board .initial)
-        (s .board .leaves)) (sym zero-now) (subst (λ v. LooseIn (s .board .programs) (s .board .waiting) v 0
-        (s .board .initial) (s .board .leaves)) (sym (r .no-entry)) (r .loose));
-    stuck = r .stuck;
-    free = λ _ p c. no-true _
-        (λ u. List·Memᴰ·not-nil (subst (λ l. p ∈ l) (names-padded [] (λ q m. absurd (List·Memᴰ·not-nil m))) (r .loose .helds .on p c u)));
+    loose = k;
+    counts = n;
+    stuck = st;
+    free = λ _ p c. no-true _ (λ u. List·Memᴰ·not-nil (subst (λ l. p ∈ l) h (k .helds .on p c u)));
   };
-  many = let i = r .many in omega arith;
-  fav = inr (
-    record { who = r .nobody; number = r .same-initial; left = r .same-leaves },
-    λ q m d. words-differ
-        (sym (r .only-admit q m) ∙ d),
-  );
-  runs = λ p c u. ap (λ (x : Program). x .standing) (r .others p c (λ m. never {t = false} (sym (ap isHeld u)
-      ∙ k .helds .of p m .1) refl)) ∙ u;
-  waited = λ y g i u. by-test (listed y (names (b .entry)))
-      (λ t. never {t = false} (sym (ap isWaiting (r .now-runs y (listed-mem y (names (b .entry)) t))) ∙ ap isWaiting u) refl)
-      (λ t. ap (λ (x : Program). x .standing) (sym (r .others y i (λ m. never (mem-listed y (names (b .entry)) m) t))) ∙ u);
-  others = λ i c n. r .others i c (λ m. never (k .helds .of i m .1) n);
+  many = omega arith;
+  fav = inr (favour-refl b, λ q m. absurd (List·Memᴰ·not-nil m));
+  runs = λ p c u. u;
+  waited = λ y g i u. u;
+  others = λ i c n. refl;
+  count = λ y i w. omega arith;
+  sum = omega arith;
+}
+
+pub run-one : (p : ℕ) (ps : List ℕ) (b : Board) → overdue b ≡ none
+    → runHeld (p ∷ ps) b ≡ andThen (line Word.Admit p 0 ∷ []) (runHeld ps (admitHeld b p ps))
+unfolding runHeld
+run-one p ps b u = rw u
+
+pub run-stop : (p w : ℕ) (ps : List ℕ) (b : Board) → overdue b ≡ some w → runHeld (p ∷ ps) b ≡ favour b w
+unfolding runHeld
+run-stop p w ps b u = rw u
+
+-- One held program runs: p, the first of the entry line.
+pub record Admitted (b c : Board) (p : ℕ) (ps : List ℕ) : Type 0 where
+  pub a-loose : Loose c
+  pub a-stuck : Stuck (b .programs) → Stuck (c .programs)
+  pub a-counts : Counts c
+  pub a-who : c .favoured ≡ b .favoured
+  pub a-same : Favour b c
+  pub a-waiting : c .waiting ≡ b .waiting
+  pub a-entry : names (c .entry) ≡ ps
+  pub a-is : Is p
+  pub a-held : heldAt (b .programs) p ≡ true
+  pub a-runs : stands (c .programs) p ≡ Standing.Running
+  pub a-other : (i : ℕ) → Is i → i ≢ p → prog (c .programs) i ≡ prog (b .programs) i
+  pub a-count : (y : ℕ) → Is y → waitsIn (c .programs) y ≡ true → countIn (c .passed) y ≡ countIn (b .passed) y + 1
+  pub a-sum : length (ins (c .programs)) ≡ length (ins (b .programs)) + 1
+
+pub admit-held : (b : Board) (p : ℕ) (ps : List ℕ) → Loose b → Counts b → b .favoured ≡ 0 → names (b .entry) ≡ p ∷ ps
+    → overdue b ≡ none → Admitted b (admitHeld b p ps) p ps
+unfolding admitHeld Pairs
+admit-held b p ps k n e h v = record {
+  a-loose = subst (λ w. LooseIn (put P p x) (b .waiting) (padded 0 ps) w (b .initial) (b .leaves)) (sym e)
+      (loose-admit P (b .waiting) (b .entry) (padded 0 ps) (b .initial) (b .leaves) p x c (ap isAdmitted s) (i .0) (i .1) refl
+      (record {
+        wv = o .wv;
+        rq = o .rq;
+        vq = o .vq;
+        idle = λ u. never {t = true} refl u;
+        gone = λ u. never {t = false} (ap isAbsent u) refl;
+      })
+      l (subst (λ w. LooseIn P (b .waiting) (b .entry) w (b .initial) (b .leaves)) e k));
+  a-stuck = λ st. stuck-in P p x z c (ap isAdmitted s) (record {
+    in-v = λ _ u. u;
+    in-q = λ _ u. u;
+    in-w = λ _ u. u;
+    in-r = λ _ u. u;
+  }) refl st;
+  a-counts = counted-tally b d v (k .waits) refl same n;
+  a-who = refl;
+  a-same = record { who = refl; number = refl; left = refl };
+  a-waiting = refl;
+  a-entry = names-padded ps (λ q m o. let w = f q m .0 .least in omega arith);
+  a-is = c;
+  a-held = k .helds .of p (subst (λ w. p ∈ w) (sym h) here) .1;
+  a-runs = ap (λ (y : Program). y .standing) (put-same P p x z c);
+  a-other = λ q j m. put-other P p q x c j m;
+  a-count = tallied-waits d;
+  a-sum = length-in P p x z c (ap isAdmitted s) refl;
 }
   where
-    s : Step
-    s = runHeld (names (b .entry)) (setEntry b [])
+    P : Progs
+    P = b .programs
 
-    k′ : LooseIn (b .programs) (b .waiting) (padded 0 (names (b .entry))) 0 (b .initial) (b .leaves)
-    k′ = subst (λ v. LooseIn (b .programs) (b .waiting) v 0 (b .initial) (b .leaves)) (k .helds .form)
-        (subst (λ v. LooseIn (b .programs) (b .waiting) (b .entry) v (b .initial) (b .leaves)) e k)
+    x : Program
+    x = setStanding (prog P p) Standing.Running
 
-    r : Ran (setEntry b []) (names (b .entry)) s
-    r = runHeld-ran (names (b .entry)) (setEntry b []) k′ st (k .helds .once) (k .helds .of) (k .helds .on)
+    d : Board
+    d = setEntry (setProgram b p x) ps
 
-    zero-now : s .board .favoured ≡ 0
-    zero-now = r .nobody ∙ e
+    c : Is p
+    c = k .helds .of p (subst (λ w. p ∈ w) (sym h) here) .0
 
-choose-chosen : (b : Board) → Loose b → Stuck (b .programs) → Chosen b (choose b)
+    s : stands P p ≡ Standing.Held
+    s = held-is (stands P p) (k .helds .of p (subst (λ w. p ∈ w) (sym h) here) .1)
+
+    z : Sized P
+    z = k .base .size
+
+    o : Own (prog P p)
+    o = k .base .own p c
+
+    i : (prog P p .writing ≡ noFiles) × (prog P p .reading ≡ noFiles)
+    i = o .idle (ap isAdmitted s)
+
+    once : NoRepeat (p ∷ ps)
+    once = subst NoRepeat h (k .helds .once)
+
+    same : (q : ℕ) → Is q → waitsIn (put P p x) q ≡ waitsIn P q
+    same = test-put isWaiting P p x z c (sym (ap isWaiting s))
+
+    f : (q : ℕ) → q ∈ ps → Is q × (heldAt (put P p x) q ≡ true)
+    f q m = let (j, w) = k .helds .of q (subst (λ l. q ∈ l) (sym h) (List·Memᴰ·tail m)) in
+        (j, test-other isHeld P p x c q j (λ d. once .0 q m (sym d)) ∙ w)
+
+    g : (q : ℕ) → Is q → heldAt (put P p x) q ≡ true → q ∈ ps
+    g q j w = by-test (eqb q p)
+        (λ t. never {t = false} (sym (test-same isHeld P p x z c) ∙ ap (heldAt (put P p x)) (sym (eqb-true q p t)) ∙ w) refl)
+        (λ t. let d = eqb-false q p t in
+        by-mem (subst (λ l. q ∈ l) h (k .helds .on q j (sym (test-other isHeld P p x c q j d) ∙ w))) (λ e. absurd (d e)) (λ m. m))
+
+    l : OnLine (padded 0 ps) (heldAt (put P p x))
+    l = line-make ps (heldAt (put P p x)) (once .1) f g
+
+-- One more is admitted, and then the rest.
+chosen-one : (b c : Board) (p : ℕ) (ps : List ℕ) (s : Step) → b .favoured ≡ 0 → names (b .entry) ≡ p ∷ ps → Admitted b c p ps → Chosen c s
+    → Chosen b (andThen (line Word.Admit p 0 ∷ []) s)
+unfolding admits
+chosen-one b c p ps s e h a r = record {
+  good = r .good;
+  many = let m = r .many in let x = ap (λ l. length (names l)) (a .a-waiting) in let y = ap length (a .a-entry) in
+      let z = ap length h in omega arith;
+  fav = ⊎-elim
+      (λ x. inl (e, (x .1 .0, newly-more (line Word.Admit p 0 ∷ []) s (x .1 .0) quiet (x .1 .1))))
+      (λ x. inr (favour-trans b c _ (a .a-same) (x .0), quiet-more (line Word.Admit p 0 ∷ []) (s .lines) quiet (x .1)))
+      (r .fav);
+  runs = λ q j u. r .runs q j (ap (λ (y : Program). y .standing) (a .a-other q j (other q u)) ∙ u);
+  waited = λ y g i u. back y g i (r .waited y g i u);
+  others = λ i j n. let d = a .a-other i j (λ q. never (ap (heldAt (b .programs)) q ∙ a .a-held) n) in
+      r .others i j (ap (λ (y : Program). isHeld (y .standing)) d ∙ n) ∙ d;
+  count = λ y i w. let (g, u) = waiting-file (stands (s .board .programs) y) w in
+      let x = r .count y i w in let v = a .a-count y i (ap isWaiting (r .waited y g i u)) in omega arith;
+  sum = let x = r .sum in let y = a .a-sum in omega arith;
+}
+  where
+    quiet : NoFavour (line Word.Admit p 0 ∷ [])
+    quiet k m d = words-differ (ap (λ (l : Line). l .word) (sym (List·Memᴰ·eq-of-singleton m)) ∙ d)
+
+    other : (q : ℕ) → stands (b .programs) q ≡ Standing.Running → q ≢ p
+    other q u d = never {t = false} (sym (ap isHeld u) ∙ ap (heldAt (b .programs)) d ∙ a .a-held) refl
+
+    back : (y g : ℕ) → Is y → stands (c .programs) y ≡ Standing.Waiting g → stands (b .programs) y ≡ Standing.Waiting g
+    back y g i u = ap (λ (q : Program). q .standing) (sym (a .a-other y i (λ d. never {t = false} (sym (ap isWaiting (a .a-runs))
+        ∙ ap (waitsIn (c .programs)) (sym d) ∙ ap isWaiting u) refl))) ∙ u
+
+run-chosen : (hs : List ℕ) (b : Board) → Loose b → Stuck (b .programs) → Counts b → b .favoured ≡ 0 → names (b .entry) ≡ hs
+    → Chosen b (runHeld hs b)
+unfolding runHeld overdue
+run-chosen [] b k st n e h = chosen-end b k st n h
+run-chosen (p ∷ ps) b k st n e h = by-option (overdue b)
+    (λ u. let a = admit-held b p ps k n e h u in
+    subst (Chosen b) (sym (run-one p ps b u)) (chosen-one b (admitHeld b p ps) p ps _ e h a
+    (run-chosen ps (admitHeld b p ps) (a .a-loose) (a .a-stuck st) (a .a-counts) (a .a-who ∙ e) (a .a-entry))))
+    (λ w u. subst (Chosen b) (sym (run-stop p w ps b u)) (chosen-some b w k st n e
+    (first-some (λ q. eqb (passedBy b q) 8) (names (b .waiting)) w u .0)))
+
+choose-chosen : (b : Board) → Loose b → Stuck (b .programs) → Counts b → Chosen b (choose b)
 unfolding candidate
-choose-chosen b k st = by-test (eqb (b .favoured) 0)
+choose-chosen b k st v = by-test (eqb (b .favoured) 0)
     (λ t. let e = eqb-true (b .favoured) 0 t in by-option (candidate b)
-    (λ u. subst (Chosen b) (sym (choose-none b e u)) (chosen-none b k st e))
-    (λ p u. subst (Chosen b) (sym (choose-some b p e u)) (chosen-some b p k st e (first-some
+    (λ u. subst (Chosen b) (sym (choose-none b e u)) (run-chosen (names (b .entry)) b k st v e refl))
+    (λ p u. subst (Chosen b) (sym (choose-some b p e u)) (chosen-some b p k st v e (first-some
     (λ q. not (inUse b q (awaited b q))) (names (b .waiting)) p u .0))))
-    (λ t. let n = eqb-false (b .favoured) 0 t in subst (Chosen b) (sym (choose-still b n)) (chosen-still b k st n))
+    (λ t. let n = eqb-false (b .favoured) 0 t in subst (Chosen b) (sym (choose-still b n)) (chosen-still b k st v n))
 
 -- ── Settling ──
 
@@ -471,33 +576,22 @@ pub record Settled (b : Board) (s : Step) : Type 0 where
   pub waited : (y g : ℕ) → Is y → stands (s .board .programs) y ≡ Standing.Waiting g → stands (b .programs) y ≡ Standing.Waiting g
   pub others : (i : ℕ) → Is i → waitsIn (b .programs) i ≡ false → heldAt (b .programs) i ≡ false
       → prog (s .board .programs) i ≡ prog (b .programs) i
+  pub count : (y : ℕ) → Is y → waitsIn (s .board .programs) y ≡ true
+      → countIn (s .board .passed) y ≡ countIn (b .passed) y + admits (s .lines)
+  pub sum : length (ins (s .board .programs)) ≡ length (ins (b .programs)) + admits (s .lines)
 
-pub settle-settled : (b : Board) → Loose b → Settled b (settle b)
+pub settle-settled : (b : Board) → Loose b → Counts b → Settled b (settle b)
 unfolding settle
-settle-settled b k = record {
+settle-settled b k n = record {
   good = q .good;
   many = let x = r .fewer in let y = q .many in let z = ap (λ l. length (names l)) (r .same-entry) in let v =
       length-append (s .lines) (choose (s .board) .lines) in omega arith;
   fav = ⊎-elim
-      (λ x. let p = x .1 .0 in let w = x .1 .1 in inl (
-        p,
-        record {
-          file = w .file;
-          line-there = Memᴰ·append-right (s .lines) (w .line-there);
-          no-other = λ k m d. ⊎-elim (λ v. absurd (given-not-favour (sym (r .only-given k v) ∙ d)))
-              (λ v. w .no-other k v d) (List·Memᴰ·append-cases (s .lines) m);
-          is = w .is;
-          now = w .now;
-          waits = w .waits;
-          counted = w .counted;
-          none-left = w .none-left;
-        },
-      ))
-      (λ x. let (w, quiet) = x in inr (
-        ⊎-elim (λ v. inr (favour-trans b (s .board) _ v w))
-            (λ (v : Served b s). inl (w .who ∙ v .nobody)) (r .fav),
-        λ k m d. ⊎-elim
-            (λ v. given-not-favour (sym (r .only-given k v) ∙ d)) (λ v. quiet k v d) (List·Memᴰ·append-cases (s .lines) m),
+      (λ x. inl (x .1 .0, newly-more (s .lines) (choose (s .board)) (x .1 .0) quiet (x .1 .1)))
+      (λ x. inr (
+        ⊎-elim (λ v. inr (favour-trans b (s .board) _ v (x .0)))
+            (λ (v : Served b s). inl (x .0 .who ∙ v .nobody)) (r .fav),
+        quiet-more (s .lines) (choose (s .board) .lines) quiet (x .1),
       ))
       (q .fav);
   ended = λ n. ⊎-elim
@@ -511,6 +605,9 @@ settle-settled b k = record {
   waited = λ y g i u. r .waited y g i (q .waited y g i u);
   others = λ i c w h. let e = r .others i c (λ m. never (k .waits .of i m .1) w) in
       q .others i c (ap (λ (x : Program). isHeld (x .standing)) e ∙ h) ∙ e;
+  count = λ y i w. let (g, u) = waiting-file (stands (choose (s .board) .board .programs) y) w in
+      let x = q .count y i w in let v = r .same-count y i (ap isWaiting (q .waited y g i u)) in omega (arith, all-admits);
+  sum = let x = q .sum in let y = ap length (r .same-ins) in omega (arith, all-admits);
 }
   where
     s : Step
@@ -520,4 +617,11 @@ settle-settled b k = record {
     r = pass-passed (names (b .waiting)) b k (k .waits .once) (k .waits .of)
 
     q : Chosen (s .board) (choose (s .board))
-    q = choose-chosen (s .board) (r .loose) (r .stuck (λ y g i u. inl (k .waits .on y i (ap isWaiting u))))
+    q = choose-chosen (s .board) (r .loose) (r .stuck (λ y g i u. inl (k .waits .on y i (ap isWaiting u)))) (r .counted n)
+
+    quiet : NoFavour (s .lines)
+    quiet k m d = given-not-favour (sym (r .only-given k m) ∙ d)
+
+    all-admits : admits (s .lines ++ choose (s .board) .lines) ≡ admits (choose (s .board) .lines)
+    all-admits = let x = admits-append (s .lines) (choose (s .board) .lines) in let y = admits-none (s .lines) (r .only-given)
+        in omega arith

@@ -16,9 +16,11 @@ use Rattle.rules.specs.declared.Standing.{Standing}
 use Rattle.rules.specs.declared.Program.{Program}
 use Rattle.rules.specs.declared.Board.{Board}
 use Rattle.rules.specs.Lists.{any, all, found, listed, distinct, same, names, padded}
-use Rattle.rules.specs.Boards.{isAbsent, isHeld, isWaiting, isAdmitted, isProgram, awaitedOf, everyone, at, awaited, admitted, claims, hasOpen}
+use Rattle.rules.specs.Boards.{isAbsent, isHeld, isWaiting, isAdmitted, isProgram, awaitedOf, everyone, at, awaited, passedBy, admitted}
+use Rattle.rules.specs.Boards.{claims, hasOpen}
 use Rattle.rules.specs.Orders.{conflict, carried, canGive}
-use Rattle.rules.specs.Soundness.{setsSound, standingSound, programSound, noConflict, lineSound, waiterSound, noneFavoured, someFavoured, sound}
+use Rattle.rules.specs.Soundness.{setsSound, standingSound, programSound, noConflict, lineSound, waiterSound, noneFavoured, someFavoured}
+use Rattle.rules.specs.Soundness.{countSound, sound}
 use Rattle.rules.specs.Calls.{Call, apply}
 use Rattle.theory.specs.Lists.{any-some, some-any, all-each, each-all, listed-mem, mem-listed, distinct-once}
 use Rattle.theory.specs.Lists.{once-distinct, same-eq, eq-same}
@@ -59,6 +61,10 @@ pub record Sound (b : Board) : Type 0 where
   pub nobody-favoured : b .favoured ≡ 0 → ((p : ℕ) → Is p → isHeld (at b p .standing) ≡ false) × (b .initial ≡ 0) × (b .leaves ≡ 0)
   -- "otherwise leaves counted plus admitted equal the number at favouring, which is at most 32"
   pub favoured-count : b .favoured ≢ 0 → (b .leaves + length (admitted b) ≡ b .initial) × (b .initial ≤ 32)
+  -- "no count above 8"
+  pub count-most : (p : ℕ) → Is p → passedBy b p ≤ 8
+  -- "and 0 for all who aren't waiting"
+  pub count-rest : (p : ℕ) → Is p → isWaiting (at b p .standing) ≡ false → passedBy b p ≡ 0
 
 -- ── Each part of the test ──
 
@@ -240,7 +246,19 @@ module _ (b : Board) where
       and-both (x && y && z) w (and-both (x && y) z (and-both x y (of-is (b .favoured) i) u)
       (eq-eqb (b .leaves + length (admitted b)) (b .initial) c)) (le-leb (b .initial) 32 l)
 
-  -- the seven parts of the test
+  count-of : (p : ℕ) → countSound b p ≡ true → (passedBy b p ≤ 8) × (isWaiting (at b p .standing) ≡ false → passedBy b p ≡ 0)
+  unfolding countSound
+  count-of p e = let x = leb (passedBy b p) 8 in let y = isWaiting (at b p .standing) in let z = eqb (passedBy b p) 0 in (
+    leb-true (passedBy b p) 8 (and-left x (y || z) e),
+    λ n. or-cases y z (and-right x (y || z) e) (λ t. never t n) (λ t. eqb-true (passedBy b p) 0 t),
+  )
+
+  of-count : (p : ℕ) → passedBy b p ≤ 8 → (isWaiting (at b p .standing) ≡ false → passedBy b p ≡ 0) → countSound b p ≡ true
+  unfolding countSound
+  of-count p m f = let x = leb (passedBy b p) 8 in let y = isWaiting (at b p .standing) in let z = eqb (passedBy b p) 0 in
+      and-both x (y || z) (le-leb (passedBy b p) 8 m) (by-test y (or-left y z) (λ t. or-right y z (eq-eqb (passedBy b p) 0 (f t))))
+
+  -- the eight parts of the test
   record Parts : Type 0 where
     part-1 : all (λ p. programSound (at b p)) everyone ≡ true
     part-2 : noConflict b ≡ true
@@ -249,28 +267,39 @@ module _ (b : Board) where
     part-5 : lineSound (b .entry) (λ p. isHeld (at b p .standing)) ≡ true
     part-6 : all (λ p. waiterSound b p (awaited b p)) (names (b .waiting)) ≡ true
     part-7 : cond (eqb (b .favoured) 0) (noneFavoured b) (someFavoured b) ≡ true
+    part-8 : all (countSound b) everyone ≡ true
 
   parts-of : sound b ≡ true → Parts
   unfolding sound
-  parts-of e = seven (all (λ p. programSound (at b p)) everyone) (noConflict b) (found (carried b))
-      (lineSound (b .waiting) (λ p. isWaiting (at b p .standing))) (lineSound (b .entry) (λ p. isHeld (at b p .standing)))
-      (all (λ p. waiterSound b p (awaited b p)) (names (b .waiting))) (cond (eqb (b .favoured) 0) (noneFavoured b) (someFavoured b)) e
-      (λ x₁ x₂ x₃ x₄ x₅ x₆ x₇. record { part-1 = x₁; part-2 = x₂; part-3 = x₃; part-4 = x₄; part-5 = x₅; part-6 = x₆; part-7 = x₇ })
-    where
-      seven : {C : Type 0} (q r s t u v w : Bool) → q && r && s && t && u && v && w ≡ true
-          → (q ≡ true → r ≡ true → s ≡ true → t ≡ true → u ≡ true → v ≡ true → w ≡ true → C) → C
-      seven true true true true true true true e f = f refl refl refl refl refl refl refl
-      seven true true true true true true false e f = never {t = false} e refl
-      seven true true true true true false w e f = never {t = false} e refl
-      seven true true true true false v w e f = never {t = false} e refl
-      seven true true true false u v w e f = never {t = false} e refl
-      seven true true false t u v w e f = never {t = false} e refl
-      seven true false s t u v w e f = never {t = false} e refl
-      seven false r s t u v w e f = never {t = false} e refl
+  parts-of e =
+      let x₁ = all (λ p. programSound (at b p)) everyone in
+      let x₂ = noConflict b in
+      let x₃ = found (carried b) in
+      let x₄ = lineSound (b .waiting) (λ p. isWaiting (at b p .standing)) in
+      let x₅ = lineSound (b .entry) (λ p. isHeld (at b p .standing)) in
+      let x₆ = all (λ p. waiterSound b p (awaited b p)) (names (b .waiting)) in
+      let x₇ = cond (eqb (b .favoured) 0) (noneFavoured b) (someFavoured b) in
+      let x₈ = all (countSound b) everyone in
+      let e₇ = and-left (x₁ && x₂ && x₃ && x₄ && x₅ && x₆ && x₇) x₈ e in
+      let e₆ = and-left (x₁ && x₂ && x₃ && x₄ && x₅ && x₆) x₇ e₇ in
+      let e₅ = and-left (x₁ && x₂ && x₃ && x₄ && x₅) x₆ e₆ in
+      let e₄ = and-left (x₁ && x₂ && x₃ && x₄) x₅ e₅ in
+      let e₃ = and-left (x₁ && x₂ && x₃) x₄ e₄ in
+      let e₂ = and-left (x₁ && x₂) x₃ e₃ in
+      record {
+        part-1 = and-left x₁ x₂ e₂;
+        part-2 = and-right x₁ x₂ e₂;
+        part-3 = and-right (x₁ && x₂) x₃ e₃;
+        part-4 = and-right (x₁ && x₂ && x₃) x₄ e₄;
+        part-5 = and-right (x₁ && x₂ && x₃ && x₄) x₅ e₅;
+        part-6 = and-right (x₁ && x₂ && x₃ && x₄ && x₅) x₆ e₆;
+        part-7 = and-right (x₁ && x₂ && x₃ && x₄ && x₅ && x₆) x₇ e₇;
+        part-8 = and-right (x₁ && x₂ && x₃ && x₄ && x₅ && x₆ && x₇) x₈ e;
+      }
 
   of-parts : Parts → sound b ≡ true
   unfolding sound
-  of-parts k = rw (k .part-1, k .part-2, k .part-3, k .part-4, k .part-5, k .part-6, k .part-7)
+  of-parts k = rw (k .part-1, k .part-2, k .part-3, k .part-4, k .part-5, k .part-6, k .part-7, k .part-8)
 
   clauses-of : sound b ≡ true → Sound b
   unfolding programSound
@@ -287,6 +316,8 @@ module _ (b : Board) where
     favoured-waits = λ n. some-of (rw (ne-eqb (b .favoured) 0 n) at (k .part-7)) .0;
     nobody-favoured = λ d. none-of (rw (eq-eqb (b .favoured) 0 d) at (k .part-7));
     favoured-count = λ n. some-of (rw (ne-eqb (b .favoured) 0 n) at (k .part-7)) .1;
+    count-most = λ p i. count-of p (all-each (countSound b) everyone (k .part-8) p (mem-everyone p i)) .0;
+    count-rest = λ p i. count-of p (all-each (countSound b) everyone (k .part-8) p (mem-everyone p i)) .1;
   }
     where
       k : Parts
@@ -325,6 +356,7 @@ module _ (b : Board) where
         (λ t. rw t (let (h, i, l) = k .nobody-favoured (eqb-true (b .favoured) 0 t) in of-none h i l))
         (λ t. rw t (let n = eqb-false (b .favoured) 0 t in let (i, u) = k .favoured-waits n in
         let (c, l) = k .favoured-count n in of-some i u c l));
+    part-8 = each-all (countSound b) everyone (λ p m. let i = everyone-is p m in of-count p (k .count-most p i) (k .count-rest p i));
   })
 
 -- The test `sound` of the rules is 01's clauses.
@@ -347,6 +379,8 @@ good-sound b g = record {
   favoured-waits = g .loose .fav-waits;
   nobody-favoured = λ d. let (x, y) = g .loose .nobody d in (g .free d, x, y);
   favoured-count = λ n. let (x, y) = g .loose .count n in (ap (λ l. b .leaves + length l) (admitted-is b) ∙ x, y);
+  count-most = g .counts .most;
+  count-rest = g .counts .rest;
 }
   where
     own : (p : ℕ) → Is p → Own (at b p)
@@ -369,6 +403,7 @@ sound-good b z s = record {
     count = λ n. let (x, y) = s .favoured-count n in (ap (λ l. b .leaves + length l) (sym (admitted-is b)) ∙ x, y);
     nobody = λ d. let (_, x, y) = s .nobody-favoured d in (x, y);
   };
+  counts = record { most = s .count-most; rest = s .count-rest };
   stuck = λ p f i u. sym (canGive-is b p f) ∙ s .waiter-stuck p f i u;
   free = λ d. s .nobody-favoured d .0;
 }

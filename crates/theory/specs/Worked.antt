@@ -9,7 +9,7 @@ use mathlib.Core.Option.{some, Option·getD}
 use mathlib.Core.List.{List, [], _∷_, _++_, List·Memᴰ·not-nil, List·Memᴰ·eq-of-singleton}
 use lib.Dec.{eqb}
 use lib.ListN.{length}
-use Rattle.files.proofs.Tests.{by-test, never}
+use Rattle.files.proofs.Tests.{by-test, by-option, never}
 use Rattle.files.specs.Sets.{isFile, meets}
 use Rattle.rules.specs.declared.Standing.{Standing}
 use Rattle.rules.specs.declared.Board.{Board}
@@ -21,11 +21,13 @@ use Rattle.rules.specs.declared.Reply.{Reply}
 use Rattle.rules.specs.Lists.{any, all, keep, first, padded, rising, listed, distinct, without, same, names}
 use Rattle.rules.specs.Boards.{isAbsent, isWaiting, isProgram, emptyBoard, everyone, at, admitted, claims, hasOpen}
 use Rattle.rules.specs.Orders.{heldBack, carriedFrom, carried, withGiven, inUse, safe, canGive}
-use Rattle.rules.specs.Soundness.{setsSound, standingSound, programSound, noConflict, lineSound, waiterSound, noneFavoured, someFavoured, sound}
+use Rattle.rules.specs.Soundness.{setsSound, standingSound, programSound, noConflict, lineSound, waiterSound, noneFavoured, someFavoured}
+use Rattle.rules.specs.Soundness.{countSound, sound}
 use Rattle.rules.specs.Replies.{refused, blank, reply, refuse, linesOf, orderOf, number}
 use Rattle.rules.specs.Checks.{refuseIf, unlessRunning, unlessStopped, enterCheck, openCheck, closeCheck, leaveCheck, cancelCheck}
 use Rattle.rules.specs.Calls.{enter, openFile, done, closeFile, dropFile, leave, Call, Enter, Open, Close, Drop, Leave, checked, accepted}
-use Rattle.rules.specs.Calls.{Cancel, cancel, apply, direct}
+use Rattle.rules.specs.Calls.{holdFor, Cancel, cancel, apply, direct}
+use Rattle.rules.specs.Settling.{overdue}
 use Rattle.rules.specs.Worked.{workedFrom, worked, repliesFrom, directFrom}
 use Rattle.theory.specs.Lists.{_∈_, by-mem, here, no-longer, length-rising}
 use Rattle.theory.specs.Order.{IsOrder}
@@ -41,7 +43,7 @@ empty-sound : sound emptyBoard ≡ true
 unfolding any all keep first padded rising listed distinct without same names
     everyone admitted
     heldBack carriedFrom carried withGiven inUse safe canGive
-    setsSound standingSound programSound noConflict lineSound waiterSound noneFavoured someFavoured sound
+    setsSound standingSound programSound noConflict lineSound waiterSound noneFavoured someFavoured countSound sound
 empty-sound = refl
 
 pub empty-good : Good emptyBoard
@@ -158,8 +160,8 @@ checked-number b (Cancel p) =
 
 -- What an accepted call answers is no refusal.
 pub accepted-answer : (b : Board) (c : Call) → refused (accepted b c .answer) ≡ false
-unfolding enter openFile closeFile dropFile leave cancel done reply
-accepted-answer b (Enter p v q) = by-test (eqb (b .favoured) 0) (λ t. rw t) (λ t. rw t)
+unfolding enter holdFor openFile closeFile dropFile leave cancel done reply
+accepted-answer b (Enter p v q) = by-test (eqb (b .favoured) 0) (λ t. by-option (overdue b) (λ u. rw (t, u)) (λ w u. rw (t, u))) (λ t. rw t)
 accepted-answer b (Open p f) = by-test (inUse b p f) (λ t. rw t) (λ t. by-test (safe b p f) (λ u. rw (t, u)) (λ u. rw (t, u)))
 accepted-answer b (Close p f) = refl
 accepted-answer b (Drop p f) = refl
@@ -196,8 +198,9 @@ unfolding reply
 made b a ls = record { its-lines = ls; is = refl }
 
 accepted-reply : (b : Board) (c : Call) → IsReply (accepted b c)
-unfolding enter openFile closeFile dropFile leave cancel done
-accepted-reply b (Enter p v q) = by-test (eqb (b .favoured) 0) (λ t. rw t (made _ _ _)) (λ t. rw t (made _ _ _))
+unfolding enter holdFor openFile closeFile dropFile leave cancel done
+accepted-reply b (Enter p v q) = by-test (eqb (b .favoured) 0) (λ t. by-option (overdue b) (λ u. rw (t, u) (made _ _ _))
+    (λ w u. rw (t, u) (made _ _ _))) (λ t. rw t (made _ _ _))
 accepted-reply b (Open p f) = by-test (inUse b p f) (λ t. rw t (made _ _ _)) (λ t. by-test (safe b p f)
     (λ u. rw (t, u) (made _ _ _)) (λ u. rw (t, u) (made _ _ _)))
 accepted-reply b (Close p f) = made _ _ _
@@ -280,17 +283,20 @@ two-members [] a b m k n = absurd (List·Memᴰ·not-nil m)
 two-members (x ∷ []) a b m k n = absurd (n (List·Memᴰ·eq-of-singleton m ∙ sym (List·Memᴰ·eq-of-singleton k)))
 two-members (x ∷ y ∷ l) a b m k n = omega arith
 
+-- Where a program waits, two are admitted: it, and the first of an order.
+pub waiter-bound : (b : Board) (p : ℕ) → Good b → Is p → waitsIn (b .programs) p ≡ true → 2 ≤ length (ins (b .programs))
+waiter-bound b p g c w = go (g .loose .base .order .0) (g .loose .base .order .1)
+  where
+    m : p ∈ ins (b .programs)
+    m = mem-ins (b .programs) p c (waiting-in (stands (b .programs) p) w)
+
+    go : (o : List ℕ) → IsOrder (holds (b .programs)) (ins (b .programs)) o → 2 ≤ length (ins (b .programs))
+    go [] i = absurd (List·Memᴰ·not-nil (i .all p m))
+    go (q ∷ o) i =
+        let r = first-runs b q o g (subst (λ l. IsOrder (holdsOn b) l (q ∷ o)) (sym (admitted-is b)) i) in
+        two-members (ins (b .programs)) p q m (i .only q here) (λ d. never w (ap (waitsIn (b .programs)) d ∙ r))
+
 -- While somebody is favoured, fewer programs have left than were admitted, by at least two.
 pub favoured-bound : (b : Board) → Good b → b .favoured ≢ 0 → b .leaves + 2 ≤ b .initial
-favoured-bound b g n = go (g .loose .base .order .0) (g .loose .base .order .1)
-  where
-    m : b .favoured ∈ ins (b .programs)
-    m = let (i, w) = g .loose .fav-waits n in mem-ins (b .programs) (b .favoured) i (waiting-in (stands (b .programs) (b .favoured)) w)
-
-    go : (o : List ℕ) → IsOrder (holds (b .programs)) (ins (b .programs)) o → b .leaves + 2 ≤ b .initial
-    go [] i = absurd (List·Memᴰ·not-nil (i .all (b .favoured) m))
-    go (p ∷ o) i =
-        let r = first-runs b p o g (subst (λ l. IsOrder (holdsOn b) l (p ∷ o)) (sym (admitted-is b)) i) in
-        let k = two-members (ins (b .programs)) (b .favoured) p m (i .only p here)
-        (λ d. never (g .loose .fav-waits n .1) (ap (waitsIn (b .programs)) d ∙ r)) in
-        let j = g .loose .count n in omega arith
+favoured-bound b g n = let (i, w) = g .loose .fav-waits n in let k = waiter-bound b (b .favoured) g i w in
+    let j = g .loose .count n in omega arith
