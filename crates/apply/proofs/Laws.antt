@@ -27,11 +27,11 @@ use Rattle.rules.specs.Lists.{found, padded, names}
 use Rattle.rules.specs.Boards.{noProgram, isProgram, at, setProgram, closing, dropping}
 use Rattle.rules.specs.Orders.{carried, withGiven, safe}
 use Rattle.rules.specs.Soundness.{sound}
-use Rattle.rules.specs.Settling.{line, settle}
+use Rattle.rules.specs.Settling.{Step, line, favour, settle}
 use Rattle.rules.specs.Replies.{blank, refusalOf, refused, reply, refuse}
 use Rattle.rules.specs.Checks.{unlessRunning, unlessStopped, enterCheck, openCheck, closeCheck, leaveCheck, cancelCheck}
-use Rattle.rules.specs.Calls.{done, countLeave, withdrawn, Call, callOf, callWith, checked, accepted, unless, apply}
-use Rattle.theory.specs.Loose.{Loose, Good}
+use Rattle.rules.specs.Calls.{hold, holdFor, done, countLeave, withdrawn, Call, callOf, callWith, checked, accepted, unless, apply}
+use Rattle.theory.specs.Loose.{Loose, Counts, Good}
 use Rattle.theory.specs.Sound.{sound-iff, sound-good, good-sound}
 use Rattle.theory.specs.Calls.{apply-accepted, apply-refused}
 use Rattle.theory.specs.Worked.{accepted-answer}
@@ -44,7 +44,7 @@ use Rattle.lines.proofs.Laws.{program-range}
 use Rattle.settling.specs.declared.Written.{Written}
 use Rattle.settling.specs.Writing.{after, Fits}
 use Rattle.apply.specs.declared.Changed.{Changed}
-use Rattle.apply.specs.Replies.{wrote, replied, DoneFits, numberIf, entryCheck, claimCheck, useCheck, foundBy, ComesTo}
+use Rattle.apply.specs.Replies.{wrote, replied, numberIf, entryCheck, claimCheck, useCheck, foundBy, ComesTo}
 
 -- ---- a call on a good board
 
@@ -240,16 +240,34 @@ sets-one z l ls h =
     sets-eq ls (l ∷ replicate 31 z) 1 (omega (arith, h, length-replicate 31 z))
     ∙ rw (e, drop-replicate z (length ls) 31, d) refl
 
-pub done-ready : (w : Written) (b : Board) (l : Line) → w ≡ wrote b (l ∷ []) → Loose b → DoneFits b → Loose (w .board) × Fits w (settle (w .board))
-done-ready w b l e k h = subst (λ (x : Written). Loose (x .board) × Fits x (settle (x .board))) (sym e) (k, omega (arith, h))
+-- one line is written, then those of a step
+pub after-one : (w : Written) (s : Step) (b : Board) (l : Line) (a : Answer) → w ≡ wrote b (l ∷ []) → suc (length (s .lines)) ≤ 32
+    → replied (after w s) a ≡ reply (s .board) a (l ∷ s .lines)
+unfolding reply
+after-one w s b l a e h =
+    let n : 1 + length (s .lines) ≡ suc (length (s .lines)) = omega arith in
+    ap (λ (x : Written). replied (after x s) a) e ∙ rw (sets-one blank l (s .lines) h, n) refl
+
+pub done-ready : (w : Written) (b : Board) (l : Line) → w ≡ wrote b (l ∷ []) → Ready b
+    → Loose (w .board) × Counts (w .board) × Fits w (settle (w .board))
+done-ready w b l e r = let h = r .room in
+    subst (λ (x : Written). Loose (x .board) × Counts (x .board) × Fits x (settle (x .board))) (sym e) (r .loose, r .counts, omega arith)
 
 pub done-is : (w s : Written) (b : Board) (p f : ℕ) → w ≡ wrote b (line Word.Done p f ∷ [])
-    → s ≡ after w (settle (w .board)) → DoneFits b → replied s Answer.Done ≡ done b p f
-unfolding done reply
-done-is w s b p f e k h =
-    let n : 1 + length (settle b .lines) ≡ suc (length (settle b .lines)) = omega arith in
-    ap (λ (x : Written). replied x Answer.Done) (k ∙ ap (λ (x : Written). after x (settle (x .board))) e)
-    ∙ rw (sets-one blank (line Word.Done p f) (settle b .lines) h, n) refl
+    → s ≡ after w (settle (w .board)) → Ready b → replied s Answer.Done ≡ done b p f
+unfolding done
+done-is w s b p f e k r =
+    ap (λ (x : Written). replied x Answer.Done) (k ∙ ap (λ (x : Written). after w (settle (x .board))) e)
+    ∙ after-one w (settle b) b (line Word.Done p f) Answer.Done e (r .room)
+
+-- HELD is written, then FAVOUR
+pub held-for-is : (w s : Written) (b c : Board) (p : ℕ) (v q : FileSet) (n : ℕ) → c ≡ hold b p v q → w ≡ wrote c (line Word.Held p 0 ∷ [])
+    → s ≡ after w (favour (w .board) n) → replied s Answer.Held ≡ holdFor b p v q n
+unfolding holdFor favour
+held-for-is w s b c p v q n d e k =
+    ap (λ (x : Written). replied x Answer.Held) (k ∙ ap (λ (x : Written). after w (favour (x .board) n)) e)
+    ∙ after-one w (favour c n) c (line Word.Held p 0) Answer.Held e (omega arith)
+    ∙ ap (λ (x : Board). reply (favour x n .board) Answer.Held (line Word.Held p 0 ∷ favour x n .lines)) d
 
 -- ---- what a good board has room for, from the theory
 
@@ -264,21 +282,17 @@ pub waiting-free : (b : Board) (p f : ℕ) → Good b → openCheck b p f ≡ Ch
     → (b .waiting ≡ padded 0 (names (b .waiting))) × (length (names (b .waiting)) < 32)
 waiting-free b p f g e = (g .loose .waits .form, waiting-room b (g .loose .base .size) (sound-of b g) p f e)
 
-settles : (b c : Board) → b ≡ c → Ready c → Loose b × DoneFits b
-settles b c k r = subst (λ (x : Board). Loose x × DoneFits x) (sym k) (r .loose, r .room)
+pub close-settles : (b c : Board) (p f : ℕ) → c ≡ setProgram b p (closing (at b p) f) → Good b → closeCheck b p f ≡ Check.Passed → Ready c
+close-settles b c p f k g e = subst Ready (sym k) (close-ready b (g .loose .base .size) (sound-of b g) p f e)
 
-pub close-settles : (b c : Board) (p f : ℕ) → c ≡ setProgram b p (closing (at b p) f) → Good b
-    → closeCheck b p f ≡ Check.Passed → Loose c × DoneFits c
-close-settles b c p f k g e = settles c (setProgram b p (closing (at b p) f)) k (close-ready b (g .loose .base .size) (sound-of b g) p f e)
+pub drop-settles : (b c : Board) (p f : ℕ) → c ≡ setProgram b p (dropping (at b p) f) → Good b → openCheck b p f ≡ Check.Passed → Ready c
+drop-settles b c p f k g e = subst Ready (sym k) (drop-ready b (g .loose .base .size) (sound-of b g) p f e)
 
-pub drop-settles : (b c : Board) (p f : ℕ) → c ≡ setProgram b p (dropping (at b p) f) → Good b → openCheck b p f ≡ Check.Passed → Loose c × DoneFits c
-drop-settles b c p f k g e = settles c (setProgram b p (dropping (at b p) f)) k (drop-ready b (g .loose .base .size) (sound-of b g) p f e)
+pub leave-settles : (b c : Board) (p : ℕ) → c ≡ countLeave (setProgram b p noProgram) → Good b → leaveCheck b p ≡ Check.Passed → Ready c
+leave-settles b c p k g e = subst Ready (sym k) (leave-ready b (g .loose .base .size) (sound-of b g) p e)
 
-pub leave-settles : (b c : Board) (p : ℕ) → c ≡ countLeave (setProgram b p noProgram) → Good b → leaveCheck b p ≡ Check.Passed → Loose c × DoneFits c
-leave-settles b c p k g e = settles c (countLeave (setProgram b p noProgram)) k (leave-ready b (g .loose .base .size) (sound-of b g) p e)
-
-pub cancel-settles : (b c : Board) (p : ℕ) → c ≡ withdrawn b p (at b p .standing) → Good b → cancelCheck b p ≡ Check.Passed → Loose c × DoneFits c
-cancel-settles b c p k g e = settles c (withdrawn b p (at b p .standing)) k (cancel-ready b (g .loose .base .size) (sound-of b g) p e)
+pub cancel-settles : (b c : Board) (p : ℕ) → c ≡ withdrawn b p (at b p .standing) → Good b → cancelCheck b p ≡ Check.Passed → Ready c
+cancel-settles b c p k g e = subst Ready (sym k) (cancel-ready b (g .loose .base .size) (sound-of b g) p e)
 
 pub leaves-few : (b : Board) → Good b → b .leaves ≤ 32
 leaves-few b g = leaves-room b (g .loose .base .size) (sound-of b g)

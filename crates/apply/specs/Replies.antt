@@ -1,6 +1,6 @@
 -- A board with the lines written so far, and the reply made of what a call comes to; parts of the checks.
 -- Assumes nothing.
-use Prim.Native.Nat.{ℕ, _≤_, suc}
+use Prim.Native.Nat.{ℕ}
 use mathlib.Core.Path.{_≡_}
 use mathlib.Core.Bool.{Bool, not, cond}
 use mathlib.Core.List.{List, []}
@@ -19,7 +19,6 @@ use Rattle.rules.specs.Lists.{padded}
 use Rattle.rules.specs.Boards.{claims, hasOpen, isAbsent}
 use Rattle.rules.specs.Checks.{refuseIf}
 use Rattle.rules.specs.Orders.{carried}
-use Rattle.rules.specs.Settling.{settle}
 use Rattle.rules.specs.Replies.{blank}
 use Rattle.search.specs.declared.Order.{Order}
 use Rattle.search.specs.Rows.{asOrder}
@@ -60,10 +59,6 @@ foundBy (Answer.Refuse r) b = asOrder none
 -- what the call with this reply comes to: its board, lines and answer, and the order found on the way
 abbrev pub ComesTo : Changed → Reply → Type 0
 ComesTo c r = (replyOf c ≡ r) × (c .found ≡ foundBy (r .answer) (r .board))
-
--- DONE and the lines of settling fit
-abbrev pub DoneFits : Board → Type 0
-DoneFits b = suc (length (settle b .lines)) ≤ 32
 
 -- the number if the test passes, and 0 otherwise
 abbrev pub numberIf : Bool → ℕ → ℕ

@@ -21,7 +21,7 @@ ghost use Rattle.rules.specs.Lists.{names, padded};
 ghost use Rattle.rules.specs.Boards.{at};
 ghost use Rattle.rules.specs.Soundness.{sound};
 ghost use Rattle.rules.specs.Checks.{enterCheck, openCheck, closeCheck, leaveCheck, cancelCheck};
-ghost use Rattle.rules.specs.Calls.{newcomer, enter, wait, openFile, closeFile, dropFile, countLeave, leave, apply, callOf, Enter, Open};
+ghost use Rattle.rules.specs.Calls.{newcomer, admit, hold, holdFor, enter, wait, openFile, closeFile, dropFile, countLeave, leave, apply, callOf, Enter, Open};
 ghost use Rattle.rules.specs.Calls.{countCancel, withdrawn, cancel, Close, Drop, Leave, Cancel};
 ghost use Rattle.theory.specs.Loose.{Good};
 ghost use Rattle.apply.specs.Replies.{ComesTo};
@@ -53,23 +53,62 @@ fn new_program(writable: FileSet, readable: FileSet, s: Standing) -> Program
     }
 }
 
-// Enter: with somebody favoured, p is held at the end of the entry line; otherwise running.
-fn do_enter(b: Board, p: u8, writable: FileSet, readable: FileSet) -> Changed
+// p runs, and the count of each waiting program goes up.
+fn put_running(b: Board, p: u8, writable: FileSet, readable: FileSet) -> Board
     requires { ⌜ ((1 ≤ p) × (p ≤ 32)) × Good b × (enterCheck b p writable readable ≡ Check.Passed) ⌝ }
-    ensures { λ r. ⌜ ComesTo r (enter b p writable readable) ⌝ }
+    ensures { λ r. ⌜ r ≡ admit b p writable readable ⌝ }
 {
-    let favoured = b.favoured;
-    if favoured == 0 {
-        let runs = new_program(writable, readable, Standing::Running);
-        let c = search::put(b, p, runs);
-        return replies::answered(c, Word::Admit, p, 0, Answer::Admit, Order::NONE);
-    }
+    let runs = new_program(writable, readable, Standing::Running);
+    let mut c = search::put(b, p, runs);
+    let passed = settling::counts::tally(c);
+    c.passed = passed;
+    c
+}
+
+// p is held, at the end of the entry line.
+fn put_held(b: Board, p: u8, writable: FileSet, readable: FileSet) -> Board
+    requires { ⌜ ((1 ≤ p) × (p ≤ 32)) × ((b .entry ≡ padded 0 (names (b .entry))) × (length (names (b .entry)) < 32)) ⌝ }
+    ensures { λ r. ⌜ r ≡ hold b p writable readable ⌝ }
+{
     let held = new_program(writable, readable, Standing::Held);
     let line = b.entry;
     let longer = lines::append(line, p);
     let mut c = search::put(b, p, held);
     c.entry = longer;
-    replies::answered(c, Word::Held, p, 0, Answer::Held, Order::NONE)
+    c
+}
+
+// p is held, and the waiter w, which eight have passed, is favoured: HELD, then FAVOUR.
+fn hold_for(b: Board, p: u8, writable: FileSet, readable: FileSet, w: u8) -> Changed
+    requires { ⌜ ((1 ≤ p) × (p ≤ 32)) × Good b × (enterCheck b p writable readable ≡ Check.Passed) × ((1 ≤ w) × (w ≤ 32)) ⌝ }
+    ensures { λ r. ⌜ ComesTo r (holdFor b p writable readable w) ⌝ }
+{
+    let c = put_held(b, p, writable, readable);
+    let held = replies::one_line(c, Word::Held, p, 0);
+    Changed {
+        written: settling::favour_waiter(held, w),
+        answer: Answer::Held,
+        found: Order::NONE,
+    }
+}
+
+// Enter: with somebody favoured, p is held; with nobody favoured and a waiter whose count is 8, p is held and that waiter favoured;
+// otherwise p runs.
+fn do_enter(b: Board, p: u8, writable: FileSet, readable: FileSet) -> Changed
+    requires { ⌜ ((1 ≤ p) × (p ≤ 32)) × Good b × (enterCheck b p writable readable ≡ Check.Passed) ⌝ }
+    ensures { λ r. ⌜ ComesTo r (enter b p writable readable) ⌝ }
+{
+    let favoured = b.favoured;
+    if favoured != 0 {
+        let c = put_held(b, p, writable, readable);
+        return replies::answered(c, Word::Held, p, 0, Answer::Held, Order::NONE);
+    }
+    let overdue = settling::counts::oldest_overdue(b);
+    if overdue != 0 {
+        return hold_for(b, p, writable, readable, overdue);
+    }
+    let c = put_running(b, p, writable, readable);
+    replies::answered(c, Word::Admit, p, 0, Answer::Admit, Order::NONE)
 }
 
 fn call_enter(b: Board, p: u8, writable: FileSet, readable: FileSet) -> Changed
@@ -262,7 +301,7 @@ fn cancel_counted(b: Board, p: u8) -> Board
     counted(b)
 }
 
-// The program goes, out of its line.
+// The program goes, out of its line, and its count is 0.
 fn withdraw(b: Board, p: u8, s: Standing) -> Board
     requires { ⌜ ((1 ≤ p) × (p ≤ 32)) × (b .leaves ≤ 32) ⌝ }
     ensures { λ r. ⌜ r ≡ withdrawn b p s ⌝ }
@@ -276,6 +315,8 @@ fn withdraw(b: Board, p: u8, s: Standing) -> Board
             let waiters = lines::remove(line, p);
             let mut c = search::put(b, p, gone);
             c.waiting = waiters;
+            let i = (p - 1) as usize;
+            c.passed[i] = 0;
             cancel_counted(c, p)
         }
         Standing::Held => {

@@ -16,9 +16,9 @@ ghost use Rattle.rules.specs.Orders.{carried};
 ghost use Rattle.rules.specs.Settling.{line};
 ghost use Rattle.rules.specs.Replies.{refused, reply, refuse, refuseUnsound};
 ghost use Rattle.rules.specs.Calls.{done};
-ghost use Rattle.theory.specs.Loose.{Loose};
+ghost use Rattle.theory.specs.Ready.{Ready};
 ghost use Rattle.search.specs.Rows.{asOrder};
-ghost use Rattle.apply.specs.Replies.{wrote, replyOf, foundBy, ComesTo, DoneFits};
+ghost use Rattle.apply.specs.Replies.{wrote, replyOf, foundBy, ComesTo};
 
 // What stands in the places after the last line.
 const BLANK: Line = Line {
@@ -40,7 +40,7 @@ fn no_line(b: Board) -> Written
 }
 
 // The board with one line written.
-fn one_line(b: Board, word: Word, p: u8, f: u8) -> Written
+pub fn one_line(b: Board, word: Word, p: u8, f: u8) -> Written
     ensures { λ r. ⌜ r ≡ wrote b (line word p f ∷ []) ⌝ }
 {
     let mut lines = [BLANK; 32];
@@ -147,7 +147,7 @@ pub fn refused_unsound(b: Board) -> Reply
 
 // DONE, then settle.
 pub fn done(b: Board, p: u8, f: u8) -> Changed
-    requires { ⌜ Loose b × DoneFits b ⌝ }
+    requires { ⌜ Ready b ⌝ }
     ensures { λ r. ⌜ ComesTo r (done b p f) ⌝ }
 {
     let w = one_line(b, Word::Done, p, f);

@@ -43,6 +43,7 @@ givenTo c p f = record {
   favoured = cond (eqb (c .favoured) p) 0 (c .favoured);
   initial = cond (eqb (c .favoured) p) 0 (c .initial);
   leaves = cond (eqb (c .favoured) p) 0 (c .leaves);
+  passed = set (c .passed) (p - 1) 0;
 }
 
 abbrev pub stateOf : Board → List Line → ℕ → Written

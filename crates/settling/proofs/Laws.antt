@@ -16,23 +16,22 @@ use Rattle.files.proofs.Tests.{by-option, by-test}
 use Rattle.rules.specs.declared.Program.{Program}
 use Rattle.rules.specs.declared.Board.{Board}
 use Rattle.rules.specs.declared.Word.{Word}
-use Rattle.rules.specs.Lists.{all, first, names, padded}
-use Rattle.rules.specs.Boards.{at, awaited, awaitedOf, isProgram, isWaiting, hasOpen, setEntry}
+use Rattle.rules.specs.Lists.{all, first, names}
+use Rattle.rules.specs.Boards.{at, awaited, awaitedOf, isProgram, isWaiting, hasOpen}
 use Rattle.rules.specs.Orders.{withGiven, inUse, canGive}
 use Rattle.rules.specs.Settling.{Step, line, still, andThen, unfavour, resume, tryGive, pass, candidate, favour, runHeld, choose, settle}
 use Rattle.theory.specs.Lists.{_∈_, Pairs, here, each-all, first-some}
 use Rattle.theory.specs.Programs.{Is, of-is}
-use Rattle.theory.specs.Loose.{waitsIn, Loose}
+use Rattle.theory.specs.Loose.{waitsIn, Loose, Counts}
 use Rattle.theory.specs.Settling.{pass-passed}
 use Rattle.theory.specs.Sound.{loose-apart, loose-order, loose-waiter}
 use Rattle.tables.specs.Tables.{inPlace, SetsOf}
 use Rattle.search.specs.declared.Uses.{Uses}
 use Rattle.search.specs.Gives.{usesOf, usedIn, giveIn}
 use Rattle.search.proofs.Used.{used-by, give-by}
-use Rattle.lines.proofs.Laws.{names-on, names-stop, names-end}
-use Rattle.lines.proofs.Laws.{names-left}
+use Rattle.lines.proofs.Laws.{names-on, names-end}
 use Rattle.settling.specs.declared.Written.{Written}
-use Rattle.settling.specs.Writing.{Ready, NextGiven, after, Fits, admitOne, unused, AskedTo, Asks}
+use Rattle.settling.specs.Writing.{Ready, NextGiven, after, Fits, unused, AskedTo, Asks}
 
 -- ---- lines after lines
 
@@ -202,55 +201,6 @@ module _ (b : Board) (l : List ℕ) (k : ℕ) (h : k < length l) (ne : getD l k 
     ap (λ (ps : List ℕ). pass ps b) (names-on l k h ne) ∙ rw e,
   )
 
--- ---- running those held
-
-pub held-lines : (ps : List ℕ) (b : Board) → length (runHeld ps b .lines) ≡ length ps
-unfolding runHeld
-held-lines [] b = refl
-held-lines (p ∷ ps) b = ap suc (held-lines ps (admitOne b p .board))
-
-abbrev pub HeldAt : Written → List ℕ → ℕ → Written → Type 0
-HeldAt w l k s = (all isProgram (names (drop k l)) ≡ true) × (s .count + length (names (drop k l)) ≤ 32)
-    × (after w (runHeld (names l) (w .board)) ≡ after s (runHeld (names (drop k l)) (s .board)))
-
-pub held-over : (w s : Written) (l : List ℕ) (k : ℕ) → HeldAt w l k s → names (drop k l) ≡ [] → s ≡ after w (runHeld (names l) (w .board))
-unfolding runHeld
-held-over w s l k i e = after-still s ∙ sym (i .2 ∙ ap (λ (ps : List ℕ). after s (runHeld ps (s .board))) e)
-
-pub held-next : (w s u : Written) (l : List ℕ) (k : ℕ) → k < length l → getD l k 0 ≢ 0 → HeldAt w l k s
-    → u ≡ after s (admitOne (s .board) (getD l k 0)) → HeldAt w l (k + 1) u
-unfolding runHeld
-held-next w s u l k h ne i e =
-    let n : length (names (drop k l)) ≡ suc (length (names (drop (suc k) l))) = ap length (names-on l k h ne) in
-    rw (add-one k) (subst (HeldAt w l (suc k)) (sym e) (
-      names-left isProgram l k h ne (i .0),
-      omega (arith, i .1, n),
-      i .2 ∙ ap (λ (x : List ℕ). after s (runHeld x (s .board))) (names-on l k h ne)
-          ∙ sym (after-then s (admitOne (s .board) (getD l k 0)) (runHeld (names (drop (suc k) l))
-          (admitOne (s .board) (getD l k 0) .board))),
-    ))
-
-pub held-room : (s : Written) (l : List ℕ) (k : ℕ) → k < length l → getD l k 0 ≢ 0 → s .count + length (names (drop k l)) ≤ 32 → s .count < 32
-held-room s l k h ne f = let n : length (names (drop k l)) ≡ suc (length (names (drop (suc k) l))) =
-    ap length (names-on l k h ne) in omega (arith, f, n)
-
--- as long as not all that are held have run, there is a name at this place
-pub held-ne : (l : List ℕ) (k n : ℕ) → n ≡ k + length (names (drop k l)) → k < n → k < length l → getD l k 0 ≢ 0
-held-ne l k n e h m d = let z : length (names (drop k l)) ≡ 0 = ap length (names-stop l k m d) in omega arith
-
-pub held-left : (l : List ℕ) (k n : ℕ) → n ≡ k + length (names (drop k l)) → k < length l → getD l k 0 ≢ 0
-    → n ≡ k + 1 + length (names (drop (k + 1) l))
-held-left l k n e m ne = let z : length (names (drop k l)) ≡ suc (length (names (drop (suc k) l))) = ap length (names-on l k m ne) in
-    rw (add-one k) (omega arith)
-
--- and then there is none
-pub held-none : (l : List ℕ) (k n : ℕ) → n ≡ k + length (names (drop k l)) → n ≤ k → names (drop k l) ≡ []
-held-none l k n e h = nil-of (names (drop k l)) (omega arith)
-  where
-    nil-of : (xs : List ℕ) → length xs ≡ 0 → xs ≡ []
-    nil-of [] z = refl
-    nil-of (x ∷ xs) z = absurd (omega arith)
-
 -- ---- the waiter to be favoured
 
 pub first-names-on : (t : ℕ → Bool) (l : List ℕ) (k : ℕ) → k < length l → getD l k 0 ≢ 0
@@ -265,19 +215,30 @@ first-none-left t l e = rw e
 pub all-held : (b : Board) → Loose b → all isProgram (names (b .entry)) ≡ true
 all-held b k = each-all isProgram (names (b .entry)) (λ p m. of-is p (k .helds .of p m .0))
 
-candidate-is : (b : Board) (p : ℕ) → Loose b → candidate b ≡ some p → Is p
-unfolding candidate
-candidate-is b p k e = k .waits .of p (first-some (unused b) (names (b .waiting)) p e .0) .0
+pub all-waiting : (b : Board) → Loose b → all isProgram (names (b .waiting)) ≡ true
+all-waiting b k = each-all isProgram (names (b .waiting)) (λ p m. of-is p (k .waits .of p m .0))
+
+-- n is the first waiter that passes the test, or 0
+module _ (b : Board) (t : ℕ → Bool) (n : ℕ) (k : Loose b) (e : n ≡ Option·getD (first t (names (b .waiting))) 0) where
+  first-is : (p : ℕ) → first t (names (b .waiting)) ≡ some p → Is p
+  first-is p y = k .waits .of p (first-some t (names (b .waiting)) p y .0) .0
+
+  pub nobody-first : n ≡ 0 → first t (names (b .waiting)) ≡ none
+  nobody-first z = by-option (first t (names (b .waiting))) (λ y. y)
+      (λ p y. let m = first-is p y .least in let q : n ≡ p = rw y at e in absurd (omega arith))
+
+  pub somebody-first : n ≢ 0 → (first t (names (b .waiting)) ≡ some n) × ((1 ≤ n) × (n ≤ 32))
+  somebody-first z = by-option (first t (names (b .waiting))) (λ y. let q : n ≡ 0 = rw y at e in absurd (z q))
+      (λ p y. let q : n ≡ p = rw y at e in let i = first-is p y in let l = i .least in let m = i .most in
+      (y ∙ ap some (sym q), (omega arith, omega arith)))
 
 pub candidate-none : (b : Board) (n : ℕ) → Loose b → n ≡ Option·getD (candidate b) 0 → n ≡ 0 → candidate b ≡ none
-candidate-none b n k e z =
-    by-option (candidate b) (λ y. y) (λ p y. let m = candidate-is b p k y .least in let q : n ≡ p = rw y at e in absurd (omega arith))
+unfolding candidate
+candidate-none b n k e z = nobody-first b (unused b) n k e z
 
 pub candidate-some : (b : Board) (n : ℕ) → Loose b → n ≡ Option·getD (candidate b) 0 → n ≢ 0 → (candidate b ≡ some n) × ((1 ≤ n) × (n ≤ 32))
-candidate-some b n k e z =
-    by-option (candidate b) (λ y. let q : n ≡ 0 = rw y at e in absurd (z q))
-    (λ p y. let q : n ≡ p = rw y at e in let i = candidate-is b p k y in let l = i .least in let m = i .most in
-    (y ∙ ap some (sym q), (omega arith, omega arith)))
+unfolding candidate
+candidate-some b n k e z = somebody-first b (unused b) n k e z
 
 -- ---- choosing
 
@@ -286,7 +247,7 @@ module _ (w : Written) where
   unfolding choose
   choose-still n = rw (ne-eqb (w .board .favoured) 0 n) (after-still w)
 
-  choose-held : w .board .favoured ≡ 0 → candidate (w .board) ≡ none → choose (w .board) ≡ runHeld (names (w .board .entry)) (setEntry (w .board) [])
+  choose-held : w .board .favoured ≡ 0 → candidate (w .board) ≡ none → choose (w .board) ≡ runHeld (names (w .board .entry)) (w .board)
   unfolding choose
   choose-held e c = rw (eq-eqb (w .board .favoured) 0 e, c)
 
@@ -295,16 +256,15 @@ module _ (w : Written) where
   choose-favour p e c = rw (eq-eqb (w .board .favoured) 0 e, c)
 
   pub run-held-is : w .board .favoured ≡ 0 → candidate (w .board) ≡ none
-      → after w (runHeld (names (w .board .entry)) (setEntry (w .board) [])) ≡ after w (choose (w .board))
+      → after w (runHeld (names (w .board .entry)) (w .board)) ≡ after w (choose (w .board))
   run-held-is e c = ap (after w) (sym (choose-held e c))
 
   pub favour-is : (p : ℕ) → w .board .favoured ≡ 0 → candidate (w .board) ≡ some p → after w (favour (w .board) p) ≡ after w (choose (w .board))
   favour-is p e c = ap (after w) (sym (choose-favour p e c))
 
-  pub held-fits : w .board .favoured ≡ 0 → candidate (w .board) ≡ none → Fits w (choose (w .board)) → w .count + length (names (w .board .entry)) ≤ 32
-  held-fits e c f =
-      let a : Fits w (runHeld (names (w .board .entry)) (setEntry (w .board) [])) = subst (Fits w) (choose-held e c) f in
-      let n = held-lines (names (w .board .entry)) (setEntry (w .board) []) in omega (arith, a, n)
+  pub held-fits : w .board .favoured ≡ 0 → candidate (w .board) ≡ none → Fits w (choose (w .board))
+      → Fits w (runHeld (names (w .board .entry)) (w .board))
+  held-fits e c f = subst (Fits w) (choose-held e c) f
 
   pub favour-fits : (p : ℕ) → w .board .favoured ≡ 0 → candidate (w .board) ≡ some p → Fits w (choose (w .board)) → w .count < 32
   unfolding favour
@@ -315,6 +275,11 @@ module _ (w : Written) where
   pub settle-loose : (s : Written) → s ≡ after w (pass (names (w .board .waiting)) (w .board)) → Loose (w .board) → Loose (s .board)
   settle-loose s e k = subst (λ (x : Written). Loose (x .board)) (sym e) (pass-passed (names (w .board .waiting))
       (w .board) k (k .waits .once) (k .waits .of) .loose)
+
+  pub settle-counts : (s : Written) → s ≡ after w (pass (names (w .board .waiting)) (w .board)) → Loose (w .board) → Counts (w .board)
+      → Counts (s .board)
+  settle-counts s e k n = subst (λ (x : Written). Counts (x .board)) (sym e) (pass-passed (names (w .board .waiting))
+      (w .board) k (k .waits .once) (k .waits .of) .counted n)
 
   settle-lines : length (settle (w .board) .lines) ≡ length (pass (names (w .board .waiting)) (w .board) .lines) + length
       (choose (pass (names (w .board .waiting)) (w .board) .board) .lines)
@@ -341,13 +306,6 @@ none-favoured b k e = by-test (eqb (b .favoured) 0) (λ t. eqb-true (b .favoured
     (λ t. let (i, u) = k .fav-waits (eqb-false (b .favoured) 0 t) in
     absurd (List·Memᴰ·not-nil (subst (λ (l : List ℕ). b .favoured ∈ l) e (k .waits .on (b .favoured) i u))))
 
--- the board with this as its entry line
-abbrev entering : Board → List ℕ → Board
-entering b l = record { programs = b .programs; waiting = b .waiting; entry = l; favoured = b .favoured; initial = b .initial; leaves = b .leaves }
-
-same-entry : (b : Board) → Loose b → names (b .entry) ≡ [] → setEntry b [] ≡ b
-same-entry b k e = ap (λ (l : List ℕ). entering b l) (sym (k .helds .form ∙ ap (padded 0) e))
-
 nobody-unused : (b : Board) → names (b .waiting) ≡ [] → candidate b ≡ none
 unfolding candidate
 nobody-unused b e = first-none-left (unused b) (names (b .waiting)) e
@@ -356,7 +314,7 @@ choose-nobody : (w : Written) → Loose (w .board) → names (w .board .waiting)
     → choose (w .board) ≡ still (w .board)
 unfolding runHeld
 choose-nobody w k e d = choose-held w (none-favoured (w .board) k e) (nobody-unused (w .board) e)
-    ∙ ap (λ (l : List ℕ). runHeld l (setEntry (w .board) [])) d ∙ ap still (same-entry (w .board) k d)
+    ∙ ap (λ (l : List ℕ). runHeld l (w .board)) d
 
 settle-still : (w : Written) → Loose (w .board) → names (w .board .waiting) ≡ [] → names (w .board .entry) ≡ []
     → settle (w .board) ≡ still (w .board)

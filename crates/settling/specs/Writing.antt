@@ -11,13 +11,13 @@ use Rattle.rules.specs.declared.Standing.{Standing}
 use Rattle.rules.specs.declared.Program.{Program}
 use Rattle.rules.specs.declared.Board.{Board}
 use Rattle.rules.specs.declared.Word.{Word}
-use Rattle.rules.specs.Lists.{names}
-use Rattle.rules.specs.Boards.{at, awaited, awaitedOf, setProgram, setStanding, opening}
+use Rattle.rules.specs.Lists.{names, without}
+use Rattle.rules.specs.Boards.{awaited, awaitedOf, setStanding, opening}
 use Rattle.rules.specs.Orders.{inUse, canGive}
-use Rattle.rules.specs.Settling.{Step, line, pass}
+use Rattle.rules.specs.Settling.{Step, line, pass, admitHeld}
 use Rattle.theory.specs.Lists.{_∈_, NoRepeat}
 use Rattle.theory.specs.Programs.{Is}
-use Rattle.theory.specs.Loose.{Loose, waitsIn}
+use Rattle.theory.specs.Loose.{Loose, waitsIn, countIn}
 use Rattle.tables.specs.Tables.{inPlace, SetsOf}
 use Rattle.search.specs.declared.Uses.{Uses}
 use Rattle.search.specs.Gives.{usesOf}
@@ -31,9 +31,9 @@ after w s = record { board = s .board; lines = sets (w .lines) (w .count) (s .li
 abbrev pub Fits : Written → Step → Type 0
 Fits w s = w .count + length (s .lines) ≤ 32
 
--- the held program p runs
+-- the held program p runs, out of the entry line
 abbrev pub admitOne : Board → ℕ → Step
-admitOne b p = record { board = setProgram b p (setStanding (at b p) Standing.Running); lines = line Word.Admit p 0 ∷ [] }
+admitOne b p = record { board = admitHeld b p (without p (names (b .entry))); lines = line Word.Admit p 0 ∷ [] }
 
 -- nobody else uses the file that p awaits
 abbrev pub unused : Board → ℕ → Bool
@@ -71,3 +71,7 @@ Asks b ps asked = (p : ℕ) → p ∈ ps → getD asked (p - 1) 0 ≡ awaited b 
 abbrev pub NextFor : List ℕ → List ℕ → Uses → List ℕ → ℕ → ℕ → Type 0
 NextFor sets asked u l from to = (b : Board) → SetsOf b sets → u ≡ usesOf b sets → Ready b (names (drop from l))
     → Asks b (names (drop from l)) asked → NextGiven b l from to × Asks b (names (drop to l)) asked
+
+-- no count is above 8
+abbrev pub CountsFew : List ℕ → Type 0
+CountsFew c = (p : ℕ) → Is p → countIn c p ≤ 8

@@ -8,15 +8,16 @@ use search::Uses;
 ghost use mathlib.Core.Path.{_≡_};
 ghost use mathlib.Core.Bool.{true, cond};
 ghost use lib.Dec.{eqb};
-ghost use mathlib.Core.List.{[]};
 ghost use mathlib.Core.Option.{Option·getD};
 ghost use Prim.Native.Nat.{_+_, _≤_, _<_};
-ghost use lib.ListN.{length, set, drop};
+ghost use lib.ListN.{length, getD, set, drop};
 ghost use Rattle.rules.specs.Lists.{all, names};
-ghost use Rattle.rules.specs.Boards.{isProgram, setEntry};
+ghost use Rattle.rules.specs.Boards.{isProgram};
 ghost use Rattle.rules.specs.Settling.{pass, candidate, favour, runHeld, choose, settle};
-ghost use Rattle.theory.specs.Loose.{Loose};
-ghost use Rattle.settling.specs.Writing.{after, Fits, serve, AskedOf, NextFor};
+ghost use Rattle.theory.specs.Loose.{Loose, Counts};
+ghost use Rattle.settling.specs.Writing.{after, Fits, admitOne, CountsFew, serve, AskedOf, NextFor};
+
+pub mod counts;
 
 // A board, and the lines written so far: the first `count` of `lines`.
 pub struct Written {
@@ -113,6 +114,7 @@ fn pass_line(w: Written) -> Written
         let waiting = c.waiting;
         let rest = lines::remove(waiting, p);
         c.waiting = rest;
+        c.passed[i] = 0;
         let favoured = c.favoured;
         c.favoured = unless_favoured(favoured, p, favoured);
         c.initial = unless_favoured(favoured, p, c.initial);
@@ -167,7 +169,7 @@ fn oldest_unused(b: Board) -> u8
 }
 
 // The waiter p becomes favoured, with the number admitted and a leave count of 0: a FAVOUR line.
-fn favour_waiter(w: Written, p: u8) -> Written
+pub fn favour_waiter(w: Written, p: u8) -> Written
     requires { ⌜ ((1 ≤ p) × (p ≤ 32)) × (w .count < 32) ⌝ }
     ensures { λ r. ⌜ r ≡ after w (favour (w .board) p) ⌝ }
 {
@@ -197,43 +199,69 @@ fn favour_waiter(w: Written, p: u8) -> Written
     }
 }
 
-// All held programs run, an ADMIT line for each, and the entry line is empty.
-fn admit_all(w: Written) -> Written
-    requires { ⌜ (all isProgram (names (w .board .entry)) ≡ true) × (w .count + length (names (w .board .entry)) ≤ 32) ⌝ }
-    ensures { λ r. ⌜ r ≡ after w (runHeld (names (w .board .entry)) (setEntry (w .board) [])) ⌝ }
+// The held program p runs, out of the entry line, and the waiters' counts go up: an ADMIT line.
+fn admit_one(w: Written, p: u8) -> Written
+    requires { ⌜ ((1 ≤ p) × (p ≤ 32)) × (w .count < 32) × CountsFew (w .board .passed) ⌝ }
+    ensures { λ r. ⌜ r ≡ after w (admitOne (w .board) p) ⌝ }
 {
-    let mut c = w.board;
-    let line = c.entry;
-    c.entry = [0u8; 32];
-    let held = lines::count_names(line);
-    let mut lines = w.lines;
-    let mut n = w.count;
-    let mut k: usize = 0;
-    while k < held {
-        let p = line[k];
-        let i = (p - 1) as usize;
-        let q = c.programs[i];
-        let runs = q.at_standing(Standing::Running);
-        c.programs[i] = runs;
-        lines[n as usize] = Line {
+    let b = w.board;
+    let i = (p - 1) as usize;
+    let q = b.programs[i];
+    let runs = q.at_standing(Standing::Running);
+    let line = b.entry;
+    let rest = lines::remove(line, p);
+    let mut c = search::put(b, p, runs);
+    c.entry = rest;
+    let passed = counts::tally(c);
+    c.passed = passed;
+    let n = w.count;
+    let lines = w.lines;
+    let more = add_line(
+        lines,
+        n,
+        Line {
             word: Word::Admit,
             program: p,
             file: 0,
             refusal: 0,
-        };
-        n += 1;
-        k += 1;
-    }
+        },
+    );
     Written {
         board: c,
-        lines: lines,
-        count: n,
+        lines: more,
+        count: n + 1,
     }
 }
 
-// If nobody is favoured, the oldest waiter whose file is not in use is; if there is none, all held programs run.
+// The oldest of the entry line, or 0.
+fn first_held(b: Board) -> u8
+    ensures { λ r. ⌜ r ≡ getD (b .entry) 0 0 ⌝ }
+{
+    let line = b.entry;
+    line[0]
+}
+
+// The held programs run, one after another from the oldest, until a waiter's count is 8: that one is then favoured.
+fn admit_held(w: Written) -> Written
+    requires { ⌜ Loose (w .board) × Counts (w .board) × (w .board .favoured ≡ 0) × Fits w (runHeld (names (w .board .entry)) (w .board)) ⌝ }
+    ensures { λ r. ⌜ r ≡ after w (runHeld (names (w .board .entry)) (w .board)) ⌝ }
+{
+    let mut s = w;
+    let mut p = first_held(s.board);
+    while p != 0 {
+        let overdue = counts::oldest_overdue(s.board);
+        if overdue != 0 {
+            return favour_waiter(s, overdue);
+        }
+        s = admit_one(s, p);
+        p = first_held(s.board);
+    }
+    s
+}
+
+// If nobody is favoured, the oldest waiter whose file is not in use is; if there is none, the held programs run.
 fn choose_next(w: Written) -> Written
-    requires { ⌜ Loose (w .board) × Fits w (choose (w .board)) ⌝ }
+    requires { ⌜ Loose (w .board) × Counts (w .board) × Fits w (choose (w .board)) ⌝ }
     ensures { λ r. ⌜ r ≡ after w (choose (w .board)) ⌝ }
 {
     let b = w.board;
@@ -243,14 +271,14 @@ fn choose_next(w: Written) -> Written
     }
     let p = oldest_unused(b);
     if p == 0 {
-        return admit_all(w);
+        return admit_held(w);
     }
     favour_waiter(w, p)
 }
 
 // Settle, where somebody waits or is held.
 fn settle_lines(w: Written) -> Written
-    requires { ⌜ Loose (w .board) × Fits w (settle (w .board)) ⌝ }
+    requires { ⌜ Loose (w .board) × Counts (w .board) × Fits w (settle (w .board)) ⌝ }
     ensures { λ r. ⌜ r ≡ after w (settle (w .board)) ⌝ }
 {
     let s = pass_line(w);
@@ -259,7 +287,7 @@ fn settle_lines(w: Written) -> Written
 
 // Settle: through the waiting line once from the oldest, then favour or run those held.
 pub fn settled(w: Written) -> Written
-    requires { ⌜ Loose (w .board) × Fits w (settle (w .board)) ⌝ }
+    requires { ⌜ Loose (w .board) × Counts (w .board) × Fits w (settle (w .board)) ⌝ }
     ensures { λ r. ⌜ r ≡ after w (settle (w .board)) ⌝ }
 {
     let b = w.board;

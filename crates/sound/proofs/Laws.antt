@@ -5,15 +5,17 @@ use mathlib.Core.Bool.{Bool, true, false, not, _&&_, _||_}
 use mathlib.Core.List.{List}
 use Prim.Native.Nat.{ℕ, suc, _≤_, _<_}
 use lib.ListN.{length, getD, drop}
-use Rattle.files.proofs.Tests.{never, and-left, and-right}
+use borrow.Author.Tests.{lt-leb, le-leb, ne-eqb}
+use Rattle.files.proofs.Tests.{never, and-left, and-right, or-right}
+use Rattle.rules.specs.declared.Standing.{Standing}
 use Rattle.rules.specs.declared.Board.{Board}
 use Rattle.rules.specs.Lists.{all, listed, distinct, same, names, padded}
 use Rattle.rules.specs.Soundness.{lineSound}
-use Rattle.rules.specs.Boards.{isProgram, everyone, at}
+use Rattle.rules.specs.Boards.{isProgram, isWaiting, everyone, at}
 use Rattle.theory.specs.Loose.{waiting-in}
 use Rattle.lines.proofs.Laws.{all-names-on, program-range}
 use Rattle.search.specs.Rows.{admits}
-use Rattle.sound.specs.Parts.{standsAt, rightName}
+use Rattle.sound.specs.Parts.{standsAt, rightName, countFits}
 
 pub four-first : (s t u v : Bool) → (s && t) ≡ false → false ≡ (s && t && u && v)
 four-first true true u v e = sym (never refl e)
@@ -43,3 +45,18 @@ line-waiters b l e =
     let y = all (λ p. not (standsAt b false p) || listed p (names l)) everyone in
     let d = distinct (names l) in
     and-left x y (and-left (x && y) d (and-left (x && y && d) (same l (padded 0 (names l))) e))
+
+-- ---- counts
+
+pub count-none : (s : Standing) (n : ℕ) → n ≡ 0 → true ≡ countFits s n
+count-none s n e = rw e (sym (or-right (isWaiting s) true refl))
+
+pub count-above : (s : Standing) (n : ℕ) → 8 < n → false ≡ countFits s n
+count-above s n h = rw (lt-leb n 8 h)
+
+pub count-waits : (s : Standing) (n : ℕ) → n ≢ 0 → n ≤ 8 → isWaiting s ≡ countFits s n
+count-waits s n ne h = rw (le-leb n 8 h, ne-eqb n 0 ne) (sym (or-none (isWaiting s)))
+  where
+    or-none : (t : Bool) → t || false ≡ t
+    or-none true = refl
+    or-none false = refl

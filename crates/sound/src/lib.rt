@@ -15,12 +15,12 @@ ghost use Rattle.rules.specs.Lists.{all, found, keep, names};
 ghost use Rattle.rules.specs.Boards.{everyone};
 ghost use Rattle.rules.specs.Orders.{carried};
 ghost use Rattle.rules.specs.Soundness.{setsSound, standingSound, programSound, lineSound, noneFavoured};
-ghost use Rattle.rules.specs.Soundness.{someFavoured, sound};
+ghost use Rattle.rules.specs.Soundness.{someFavoured, countSound, sound};
 ghost use Rattle.tables.specs.ProgramSets.{hasProgram};
 ghost use Rattle.tables.specs.Tables.{SetsOf};
 ghost use Rattle.search.specs.Rows.{asOrder, admittedSet};
 ghost use Rattle.search.specs.Gives.{usesOf};
-ghost use Rattle.sound.specs.Parts.{isName, stands, rightName, standSet, takes, isSoundAt, ConflictFree, waiterAt, Known, WaiterFor};
+ghost use Rattle.sound.specs.Parts.{isName, stands, rightName, standSet, takes, isSoundAt, ConflictFree, waiterAt, Known, WaiterFor, countFits};
 
 // Whether a board is sound, and its carried order.
 pub struct Judged {
@@ -301,7 +301,48 @@ fn some_favoured(b: Board, waiters: ProgramSet, admitted: ProgramSet) -> bool
     initial <= 32
 }
 
-// Sets; no conflict; a completion order exists; the two lines; the waiters; the favoured program.
+// The count of a program with this standing: not above 8, and 0 unless it waits.
+fn count_sound(s: Standing, n: u8) -> bool
+    ensures { λ r. ⌜ r ≡ countFits s n ⌝ }
+{
+    if n == 0 {
+        return true;
+    }
+    if n > 8 {
+        return false;
+    }
+    s.is_waiting()
+}
+
+// All counts.
+fn counts_sound(b: Board) -> bool
+    ensures { λ r. ⌜ r ≡ all (countSound b) everyone ⌝ }
+{
+    let mut p: u8 = 1;
+    while p <= 32 {
+        let i = (p - 1) as usize;
+        let q = b.programs[i];
+        let s = q.standing;
+        if !count_sound(s, b.passed[i]) {
+            return false;
+        }
+        p += 1;
+    }
+    true
+}
+
+// Whether what is said of the favoured program, or of there being none, holds.
+fn favour_sound(b: Board, waiters: ProgramSet, held: ProgramSet, admitted: ProgramSet) -> bool
+    requires { ⌜ (waiters ≡ standSet b false) × (held ≡ standSet b true) × (admitted ≡ admittedSet b) ⌝ }
+    ensures { λ r. ⌜ r ≡ cond (eqb (b .favoured) 0) (noneFavoured b) (someFavoured b) ⌝ }
+{
+    if b.favoured == 0 {
+        return none_favoured(b, held);
+    }
+    some_favoured(b, waiters, admitted)
+}
+
+// Sets; no conflict; a completion order exists; the two lines; the waiters; the favoured program; the counts.
 fn is_sound_by(
     b: Board,
     sets: &[u64; 128],
@@ -333,11 +374,11 @@ fn is_sound_by(
     if !waiters_sound(b, sets, uses, waiting) {
         return false;
     }
-    if b.favoured == 0 {
-        return none_favoured(b, held);
-    }
     let admitted = uses.admitted;
-    some_favoured(b, waiters, admitted)
+    if !favour_sound(b, waiters, held, admitted) {
+        return false;
+    }
+    counts_sound(b)
 }
 
 // Whether the board is sound, and its carried order.

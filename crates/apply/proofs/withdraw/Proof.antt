@@ -22,6 +22,9 @@ withdraw-spec =
     (λ c. search needs)
     (λ c κs. search needs)
     (λ c κs. search needs)
+    (λ c. search needs)
+    (λ c. search needs)
+    (λ c. search needs)
     cancel-counted-requires
     (λ c. search needs)
     (λ c κs. search needs)

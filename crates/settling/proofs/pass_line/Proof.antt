@@ -6,7 +6,7 @@ use lib.ListN.{length}
 use Rattle.search.specs.Gives.{usesIn}
 use Rattle.lines.proofs.Laws.{names-end}
 use Rattle.settling.proofs.Laws.{ready-all, pass-start, pass-over}
-use Rattle.settling.proofs.Giving.{Found, stateOf, asks-all, ready-programs, next-found, give-range, give-next}
+use Rattle.settling.proofs.Giving.{Found, givenTo, stateOf, asks-all, ready-programs, next-found, give-range, give-next}
 use Rattle.tables.proofs.Whole.{sets-in}
 use borrow.Author.Needs.{needs}
 use Rattle.settling.proofs.pass_line.Statement.{statement}
@@ -68,6 +68,11 @@ element-set-from-runs c =
     let l = c .before .before .before .loop in let r = give-range _ _ _ _ _ _ _ (l .inv .1) (l .inv .0) (omega arith) in
     let a = r .0 in let b = r .1 in let n = r .2 in omega arith
 
+element-write-c : tie.Need-element-write-c Inv-loop μ-loop
+element-write-c c =
+    let l = c .before .before .before .before .before .loop in let r = give-range _ _ _ _ _ _ _ (l .inv .1) (l .inv .0) (omega arith) in
+    let a = r .0 in let b = r .1 in let n = r .2 in omega arith
+
 cast-lines : tie.Need-cast-lines Inv-loop μ-loop
 cast-lines c =
     let l = c .before .before .before .before .before .before .before .before .loop in let r = give-range _ _ _ _ _ _ _ (l .inv .1) (l .inv .0) (omega arith) in
@@ -96,7 +101,7 @@ give-requires c κs =
 next-given-requires-2 : tie.Need-next-given-requires-2 Inv-loop μ-loop
 next-given-requires-2 c κs = let l = c .before .before .before .before .before .before .before .before .before .before .before .before .before .before .before .loop in (
   omega arith,
-  ready-programs _ _ (give-next _ _ _ _ _ _ _ (l .inv .1) (l .inv .0) (omega arith) (c .before .before .uses-in .result)
+  ready-programs (givenTo (l .c) _ _) _ (give-next _ _ _ _ _ _ _ (l .inv .1) (l .inv .0) (omega arith) (c .before .before .uses-in .result)
       (c .before .before .uses-in .ensures ∙ ap (usesIn (l .uses .admitted)) (c .before .before .before .before .before .give .ensures)) .passed .0),
 )
 
@@ -139,6 +144,7 @@ pass-line-spec =
     mul-runs
     element-set-from-runs
     (λ c κs. search needs)
+    element-write-c
     (λ c κs. search needs)
     (λ c κs. search needs)
     (λ c κs. search needs)

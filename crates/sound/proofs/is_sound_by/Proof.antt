@@ -1,7 +1,7 @@
 -- `is_sound_by` meets its contract. Assumes nothing.
 use mathlib.Core.Path.{_≡_, sym, ap, _∙_}
 use mathlib.Core.Bool.{Bool, true, false, _&&_}
-use borrow.Author.Tests.{not-true, not-false, eq-eqb, ne-eqb}
+use borrow.Author.Tests.{not-true, not-false}
 use borrow.Author.Needs.{needs}
 use Rattle.files.proofs.Tests.{and-both, and-right}
 use Rattle.rules.specs.declared.Board.{Board}
@@ -143,21 +143,19 @@ returns-6 c = rw (
   sym (c .before .waiters-sound .ensures) ∙ not-true (c .before .waiters-sound .result) (c .if6 .taken),
 )
 
+favour-sound-requires : tie.Need-favour-sound-requires
+favour-sound-requires c κs = let s = c .before .before .before .before .before .before .before .before .before .before .before .before .before .before in
+    (s .pre .3, s .pre .4, ap (λ (u : Uses). u .admitted) (s .pre .1))
+
 returns-7 : tie.Need-returns-7
 unfolding sound
-returns-7 c = let e = c .before .before .before in
-    rw (past6 e, eq-eqb (b6 e .favoured) 0 (c .before .if7 .taken)) (c .none-favoured .ensures)
-
-some-favoured-requires : tie.Need-some-favoured-requires
-some-favoured-requires c κs =
-    let e = c .before .before .before .before .before .before .before .before .before .before .before in
-    let s = e .before .before .before .before .before in
-    (s .pre .3, ap (λ (u : Uses). u .admitted) (s .pre .1))
+returns-7 c = let f = c .before in
+    rw (past6 (f .before .before), sym (f .favour-sound .ensures) ∙ not-true (f .favour-sound .result) (c .if7 .taken))
 
 returns-8 : tie.Need-returns-8
 unfolding sound
-returns-8 c = let e = c .before .before .before .before in
-    rw (past6 e, ne-eqb (b6 e .favoured) 0 (c .before .before .if7 .left)) (c .some-favoured .ensures)
+returns-8 c = let i = c .before in let f = i .before in
+    rw (past6 (f .before .before), sym (f .favour-sound .ensures) ∙ not-false (f .favour-sound .result) (i .if7 .left)) (c .counts-sound .ensures)
 
 pub is-sound-by-spec : {M : Type 1} → statement M
 is-sound-by-spec =
@@ -174,7 +172,7 @@ is-sound-by-spec =
     returns-5
     waiters-sound-requires
     returns-6
-    (λ c κs. search needs)
+    favour-sound-requires
     returns-7
-    some-favoured-requires
+    (λ c κs. search needs)
     returns-8)

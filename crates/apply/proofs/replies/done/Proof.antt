@@ -11,13 +11,13 @@ use Rattle.apply.proofs.replies.done.Tie as tie
 
 settled-requires : tie.Need-settled-requires
 settled-requires c κs = let s = c .before in let a = s .args in done-ready (c .one-line .result) (a .b)
-    (line Word.Done (a .p) (a .f)) (c .one-line .ensures) (s .pre .0) (s .pre .1)
+    (line Word.Done (a .p) (a .f)) (c .one-line .ensures) (s .pre)
 
 returns : tie.Need-returns
 unfolding done reply
 returns c = let s = c .before .before in let a = s .args in (
   done-is (c .before .one-line .result) (c .settled .result) (a .b) (a .p) (a .f)
-      (c .before .one-line .ensures) (c .settled .ensures) (s .pre .1),
+      (c .before .one-line .ensures) (c .settled .ensures) (s .pre),
   refl,
 )
 

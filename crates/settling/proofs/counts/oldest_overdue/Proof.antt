@@ -1,0 +1,85 @@
+-- `oldest_overdue` meets its contract. Assumes nothing.
+use mathlib.Core.Path.{_≡_, refl, sym, ap, _∙_}
+use mathlib.Core.Bool.{true}
+use mathlib.Core.Option.{Option, Option·getD}
+use Prim.Native.Nat.{ℕ, _-_, _≤_}
+use native.Mathlib.Numerals.{add-one}
+use native.Mathlib.Omega.{arith}
+use lib.ListN.{length, drop}
+use borrow.Author.Tests.{eq-eqb, ne-eqb}
+use Rattle.rules.specs.Lists.{all, first, names}
+use Rattle.rules.specs.Boards.{isProgram}
+use Rattle.rules.specs.Settling.{overdue}
+use Rattle.lines.proofs.Laws.{names-stop, names-end, name-range, names-left}
+use Rattle.settling.proofs.Laws.{first-names-on, first-none-left}
+use Rattle.settling.proofs.Counting.{due}
+use borrow.Author.Needs.{needs}
+use Rattle.settling.proofs.counts.oldest_overdue.Statement.{statement}
+use Rattle.settling.proofs.counts.oldest_overdue.Tie as tie
+
+abbrev Inv-loop : tie.InvT-loop
+Inv-loop b line k₀ k = (k ≤ 32) × (all isProgram (names (drop k line)) ≡ true) × (overdue b ≡ first (due b) (names (drop k line)))
+    × (length line ≡ 32)
+
+abbrev μ-loop : tie.MeasureT-loop
+μ-loop b line k₀ k = 32 - k
+
+loop-holds : tie.Need-loop-holds Inv-loop μ-loop
+unfolding overdue
+loop-holds c = (search needs, c .before .pre, refl, search needs)
+
+returns : tie.Need-returns Inv-loop μ-loop
+returns c = let l = c .before .before .loop in let b = c .before .before .before .before .args .t1 in let m = l .inv .3 in
+    sym (ap (λ (x : Option ℕ). Option·getD x 0) (l .inv .2 ∙ first-none-left (due b) (names (drop (l .k) (b .waiting)))
+    (names-stop (b .waiting) (l .k) (omega arith) (c .if1 .taken))))
+
+sub-i : tie.Need-sub-i Inv-loop μ-loop
+sub-i c = let l = c .before .before .loop in let b = c .before .before .before .before .args .t1 in let m = l .inv .3 in
+    let n = name-range (b .waiting) (l .k) (omega arith) (c .if1 .left) (l .inv .1) in let h = n .0 in let j = n .1 in h
+
+cast-i : tie.Need-cast-i Inv-loop μ-loop
+cast-i c = let l = c .before .before .loop in let b = c .before .before .before .before .args .t1 in let m = l .inv .3 in
+    let n = name-range (b .waiting) (l .k) (omega arith) (c .if1 .left) (l .inv .1) in let h = n .0 in let j = n .1 in omega arith
+
+element-copy-out-if2 : tie.Need-element-copy-out-if2 Inv-loop μ-loop
+element-copy-out-if2 c = let l = c .before .before .loop in let b = c .before .before .before .before .args .t1 in let m = l .inv .3 in
+    let n = name-range (b .waiting) (l .k) (omega arith) (c .if1 .left) (l .inv .1) in let h = n .0 in let j = n .1 in omega arith
+
+returns-2 : tie.Need-returns-2 Inv-loop μ-loop
+returns-2 c =
+    let i = c .before .before in let l = i .before .before .loop in let b = i .before .before .before .before .args .t1 in let m = l .inv .3 in
+    sym (rw (eq-eqb _ 8 (c .if2 .taken)) at (ap (λ (x : Option ℕ). Option·getD x 0) (l .inv .2
+    ∙ first-names-on (due b) (b .waiting) (l .k) (omega arith) (i .if1 .left))))
+
+loop-again : tie.Need-loop-again Inv-loop μ-loop
+loop-again c =
+    let i = c .before .before in let l = i .before .before .loop in let b = i .before .before .before .before .args .t1 in let m = l .inv .3 in (
+      search needs,
+      rw (add-one (l .k)) (names-left isProgram (b .waiting) (l .k) (omega arith) (i .if1 .left) (l .inv .1)),
+      rw (add-one (l .k)) (rw (ne-eqb _ 8 (c .if2 .left)) at (l .inv .2
+          ∙ first-names-on (due b) (b .waiting) (l .k) (omega arith) (i .if1 .left))),
+      m,
+    )
+
+returns-3 : tie.Need-returns-3 Inv-loop μ-loop
+returns-3 c = let l = c .before .loop in let b = c .before .before .before .args .t1 in let m = l .inv .3 in
+    sym (ap (λ (x : Option ℕ). Option·getD x 0) (l .inv .2 ∙ first-none-left (due b) (names (drop (l .k) (b .waiting)))
+    (names-end (b .waiting) (l .k) (omega arith))))
+
+pub oldest-overdue-spec : {M : Type 1} → statement M
+oldest-overdue-spec =
+    tie.close
+    (tie.spec
+    Inv-loop
+    μ-loop
+    loop-holds
+    (λ c. search needs)
+    returns
+    sub-i
+    cast-i
+    element-copy-out-if2
+    returns-2
+    (λ c. search needs)
+    (λ c. search needs)
+    loop-again
+    returns-3)
