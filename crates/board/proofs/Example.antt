@@ -4,12 +4,13 @@ use mathlib.Core.Path.{_≡_, refl}
 use mathlib.Core.List.{List, [], _∷_}
 use Rattle.columns.specs.Columns.{columnsOf, flat, digitOf, field3, fieldOf, numberOf}
 use Rattle.rules.specs.Lists.{any, all, keep, first, padded, rising, listed, distinct, without, same, names}
-use Rattle.rules.specs.Boards.{everyone, admitted, opening, closing, dropping}
+use Rattle.rules.specs.Boards.{everyone, admitted, tallied, opening, closing, dropping}
 use Rattle.rules.specs.Orders.{heldBack, carriedFrom, carried, withGiven, inUse, safe, canGive}
-use Rattle.rules.specs.Soundness.{setsSound, standingSound, programSound, noConflict, lineSound, waiterSound, noneFavoured, someFavoured, sound}
+use Rattle.rules.specs.Soundness.{setsSound, standingSound, programSound, noConflict, lineSound, waiterSound, noneFavoured, someFavoured, countSound, sound}
+use Rattle.rules.specs.Settling.{overdue}
 use Rattle.rules.specs.Replies.{reply, refuse, refuseUnsound}
 use Rattle.rules.specs.Checks.{enterCheck}
-use Rattle.rules.specs.Calls.{enter, apply, direct}
+use Rattle.rules.specs.Calls.{admit, enter, apply, direct}
 use Rattle.request.specs.Requests.{begins, numberAt, programAt, labelPart, filesIn, risesFrom, addingAll}
 use Rattle.request.specs.Requests.{enterFiles, enterCounts, enterOf, fileOf, aloneOf, requestOf}
 use Rattle.journal.specs.Journal.{lineBytes, written}
@@ -33,9 +34,9 @@ unfolding input expected boardAfter bytesAfter served feed fed finished orderLin
     enterFiles enterCounts enterOf fileOf aloneOf requestOf
     lineBytes written replyTo linesFor posted lineCall
     any all keep first padded rising listed distinct without same names
-    everyone admitted opening closing dropping
+    everyone admitted tallied opening closing dropping
     heldBack carriedFrom carried withGiven inUse safe canGive
-    setsSound standingSound programSound noConflict lineSound waiterSound noneFavoured someFavoured sound
+    setsSound standingSound programSound noConflict lineSound waiterSound noneFavoured someFavoured countSound sound
     reply refuse refuseUnsound enterCheck
-    enter apply direct
+    overdue admit enter apply direct
 example = refl

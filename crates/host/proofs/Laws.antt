@@ -23,7 +23,7 @@ use Rattle.search.specs.declared.Search.{Search}
 use Rattle.search.specs.declared.Order.{Order}
 use Rattle.search.specs.Rows.{asOrder}
 use Rattle.apply.proofs.Laws.{order-count, order-at}
-use Rattle.image.specs.Image.{imageOf, loadedOf, refusedImage}
+use Rattle.image.specs.Image.{imageLength, imageOf, loadedOf, refusedImage}
 use Rattle.image.specs.declared.Loaded.{Loaded}
 use Rattle.image.proofs.RoundTrip.{accepted}
 use Rattle.serve.specs.LineCall.{lineCall}
@@ -130,7 +130,7 @@ host-by image line journal place n p r j k ek ok er ep ej en =
       journal-after = rw h;
     })
 
-pub accepted-long : (image : List ℕ) (k : Loaded) → k ≡ loadedOf image → k .ok ≡ true → length image ≡ 1155
+pub accepted-long : (image : List ℕ) (k : Loaded) → k ≡ loadedOf image → k .ok ≡ true → length image ≡ imageLength
 accepted-long image k ek ok = accepted image (ap (λ (x : Loaded). x .ok) (sym ek) ∙ ok) .long
 
 -- ---- the order of an image's board

@@ -114,7 +114,7 @@ pub extern "C" fn lock_board_line(
 }
 
 // Fills a C host's image with the empty board, so that the host need not know the layout; the answer is 0.
-// An image that hasn't 1,155 bytes stays as it was; the answer is then the largest number.
+// An image that hasn't 1,187 bytes stays as it was; the answer is then the largest number.
 #[no_mangle]
 pub extern "C" fn lock_board_empty(image: &mut [u8]) -> u64
     ensures { λ r. ⌜ r ≡ emptyAnswer (now (image .entry)) ⌝ }

@@ -4,21 +4,21 @@ use mathlib.Core.Path.{_≡_, refl, ap, sym, _∙_}
 use mathlib.Core.List.{List, [], _∷_, _++_, append-assoc}
 use mathlib.Core.Bool.{true, false}
 use lib.ListN.{length, getD, take, drop, length-take, length-drop, length-append, take-append-drop, drop-of-length-le}
-use lib.Seq.{drop-cons, drop-drop, take-at, drop-at, getD-drop, take-add, length-take-le}
+use lib.Seq.{drop-cons, drop-drop, take-at, take-all, drop-at, getD-drop, take-add, length-take-le}
 use native.Mathlib.Omega.{arith}
 use borrow.Author.Tests.{lt-leb, eqb-true}
 use Rattle.files.proofs.Tests.{by-test}
 use Rattle.columns.specs.Columns.{flat}
-use Rattle.columns.proofs.Rows.{flat-length}
-use Rattle.image.specs.Image.{bytesN, valueOf, kindOf, rowBytes, imageOf, standingOf, kindFits, rowIs, rowOf, rowsFit, rowsOf}
+use Rattle.image.specs.Image.{waitingAt, entryAt, numbersAt, countsAt, imageLength}
+use Rattle.image.specs.Image.{bytesN, valueOf, kindOf, rowBytes, numbersOf, imageOf, standingOf, kindFits, rowIs, rowOf, rowsFit, rowsOf}
 use Rattle.image.specs.Image.{loadedOf, boardOf}
 use Rattle.rules.specs.Boards.{awaitedOf}
 use lib.Dec.{eqb}
 use Rattle.rules.specs.declared.Standing.{Standing}
 use Rattle.rules.specs.declared.Program.{Program}
 use Rattle.rules.specs.declared.Board.{Board}
-use Rattle.image.specs.Law.{SetsOfFiles, AllOfFiles, BoardOfCode, Bytes}
-use Rattle.image.proofs.Laws.{row-length, cond-both, load-good}
+use Rattle.image.specs.Law.{SetsOfFiles, AllOfFiles, Sized, BoardOfCode, Bytes}
+use Rattle.image.proofs.Laws.{row-length, rows-size, cond-both, board-same, load-good}
 
 word-bytes : (n x : ℕ) → x < 256 ^ n → valueOf (bytesN n x) ≡ x
 unfolding valueOf bytesN
@@ -100,27 +100,40 @@ rows-fit-back (p ∷ ps) t =
       rows-fit-back ps t,
     )
 
+-- an image has 1,187 bytes
+pub image-length : (b : Board) → Sized b → length (imageOf b) ≡ imageLength
+unfolding imageOf
+image-length b z =
+    let C : List ℕ = numbersOf b ++ b .passed in
+    omega (
+      arith,
+      rows-size b z,
+      z .waiting,
+      z .entry,
+      z .passed,
+      length-append (flat rowBytes (b .programs)) (b .waiting ++ (b .entry ++ C)),
+      length-append (b .waiting) (b .entry ++ C),
+      length-append (b .entry) C,
+    )
+
 -- reading what was written
-pub image-back : (b : Board) → length (b .programs) ≡ 32 → length (b .waiting) ≡ 32 → length (b .entry) ≡ 32 → AllOfFiles (b .programs)
-    → loadedOf (imageOf b) ≡ record { ok = true; board = b }
+pub image-back : (b : Board) → Sized b → AllOfFiles (b .programs) → loadedOf (imageOf b) ≡ record { ok = true; board = b }
 unfolding imageOf boardOf
-image-back b lp lw le g =
-    let t : List ℕ = b .favoured ∷ b .initial ∷ b .leaves ∷ [] in
+image-back b z g =
+    let C : List ℕ = numbersOf b ++ b .passed in
     let P : List ℕ = flat rowBytes (b .programs) in
-    let R : List ℕ = b .waiting ++ (b .entry ++ t) in
-    let n₀ : length P ≡ 1088 = flat-length rowBytes 34 row-length (b .programs) ∙ ap (λ (n : ℕ). 34 * n) lp in
-    let d₀ : drop 1088 (P ++ R) ≡ R = drop-at P R 1088 n₀ in
-    let d₁ : drop 1120 (P ++ R) ≡ b .entry ++ t = sym (drop-drop 32 1088 (P ++ R)) ∙ rw d₀ (drop-at (b .waiting) (b .entry ++ t) 32 lw) in
-    let d₂ : drop 1152 (P ++ R) ≡ t = sym (drop-drop 32 1120 (P ++ R)) ∙ rw d₁ (drop-at (b .entry) t 32 le) in
-    let fit : rowsFit 32 (P ++ R) ≡ true = ap (λ (n : ℕ). rowsFit n (P ++ R)) (sym lp) ∙ rows-fit-back (b .programs) R in
-    let rows : rowsOf 32 (P ++ R) ≡ b .programs = ap (λ (n : ℕ). rowsOf n (P ++ R)) (sym lp) ∙ rows-back (b .programs) R g in
-    let len : length (P ++ R) ≡ 1155 = omega (arith, length-append P R, length-append (b .waiting) (b .entry ++ t), length-append (b .entry) t) in
-    let w : take 32 (drop 1088 (P ++ R)) ≡ b .waiting = rw d₀ (take-at (b .waiting) (b .entry ++ t) 32 lw) in
-    let e : take 32 (drop 1120 (P ++ R)) ≡ b .entry = rw d₁ (take-at (b .entry) t 32 le) in
-    let f : getD (P ++ R) 1152 0 ≡ b .favoured = sym (getD-drop 1152 (P ++ R) 0 0) ∙ ap (λ (l : List ℕ). getD l 0 0) d₂ in
-    let n : getD (P ++ R) 1153 0 ≡ b .initial = sym (getD-drop 1152 (P ++ R) 1 0) ∙ ap (λ (l : List ℕ). getD l 1 0) d₂ in
-    let v : getD (P ++ R) 1154 0 ≡ b .leaves = sym (getD-drop 1152 (P ++ R) 2 0) ∙ ap (λ (l : List ℕ). getD l 2 0) d₂ in
-    load-good (P ++ R) len fit ∙ rw (rows, w, e, f, n, v)
+    let R : List ℕ = b .waiting ++ (b .entry ++ C) in
+    let d₀ : drop waitingAt (P ++ R) ≡ R = drop-at P R waitingAt (rows-size b z) in
+    let d₁ : drop entryAt (P ++ R) ≡ b .entry ++ C = sym (drop-drop 32 waitingAt (P ++ R)) ∙ rw d₀ (drop-at (b .waiting) (b .entry ++ C) 32 (z .waiting)) in
+    let d₂ : drop numbersAt (P ++ R) ≡ C = sym (drop-drop 32 entryAt (P ++ R)) ∙ rw d₁ (drop-at (b .entry) C 32 (z .entry)) in
+    let d₃ : drop countsAt (P ++ R) ≡ b .passed = sym (drop-drop 3 numbersAt (P ++ R)) ∙ ap (drop 3) d₂ in
+    let fit : rowsFit 32 (P ++ R) ≡ true = ap (λ (n : ℕ). rowsFit n (P ++ R)) (sym (z .programs)) ∙ rows-fit-back (b .programs) R in
+    let rows : rowsOf 32 (P ++ R) ≡ b .programs = ap (λ (n : ℕ). rowsOf n (P ++ R)) (sym (z .programs)) ∙ rows-back (b .programs) R g in
+    let w : take 32 (drop waitingAt (P ++ R)) ≡ b .waiting = rw d₀ (take-at (b .waiting) (b .entry ++ C) 32 (z .waiting)) in
+    let e : take 32 (drop entryAt (P ++ R)) ≡ b .entry = rw d₁ (take-at (b .entry) C 32 (z .entry)) in
+    let number : (i : ℕ) → getD (P ++ R) (numbersAt + i) 0 ≡ getD C i 0 = λ i. sym (getD-drop numbersAt (P ++ R) i 0) ∙ ap (λ (l : List ℕ). getD l i 0) d₂ in
+    let c : take 32 (drop countsAt (P ++ R)) ≡ b .passed = rw d₃ (take-all 32 (b .passed) (omega (arith, z .passed))) in
+    sym (load-good (P ++ R) b (image-length b z) fit (sym (board-same (boardOf (P ++ R)) b rows w e (number 0) (number 1) (number 2) c)))
 
 never : {A : Type 0} → false ≡ true → A
 never h = absurd (let z : _≡_ {A = ℕ} 0 1 = cc in omega arith)
@@ -160,34 +173,35 @@ rows-again (suc n) l h b f =
     )
 
 -- an accepted image is the one that writing gives
-pub image-again : (l : List ℕ) → length l ≡ 1155 → Bytes l → rowsFit 32 l ≡ true → imageOf (boardOf l) ≡ l
+pub image-again : (l : List ℕ) → length l ≡ imageLength → Bytes l → rowsFit 32 l ≡ true → imageOf (boardOf l) ≡ l
 unfolding imageOf boardOf
 image-again l h b f =
-    let z : getD l 1152 0 ∷ getD l 1153 0 ∷ getD l 1154 0 ∷ [] ≡ drop 1152 l = sym (drop-cons l 1152 0 (omega arith)
-    ∙ ap (λ (r : List ℕ). getD l 1152 0 ∷ r)
-    (drop-cons l 1153 0 (omega arith) ∙ ap (λ (r : List ℕ). getD l 1153 0 ∷ r)
-    (drop-cons l 1154 0 (omega arith) ∙ ap (λ (r : List ℕ). getD l 1154 0 ∷ r) (drop-of-length-le l {i = 1155} (omega arith))))) in
     let d : (n : ℕ) → take 32 (drop n l) ++ drop (n + 32) l ≡ drop n l = λ n. rw (← drop-drop 32 n l) (take-append-drop 32 (drop n l)) in
-    rw (rows-again 32 l (omega arith) b f, z, d 1120, d 1088) (take-append-drop 1088 l)
+    let c : take 32 (drop countsAt l) ≡ drop countsAt l = take-all 32 (drop countsAt l) (omega (arith, length-drop countsAt l)) in
+    let z : getD l numbersAt 0 ∷ getD l (numbersAt + 1) 0 ∷ getD l (numbersAt + 2) 0 ∷ drop countsAt l ≡ drop numbersAt l = sym (drop-cons l numbersAt 0 (omega arith)
+    ∙ ap (λ (r : List ℕ). getD l numbersAt 0 ∷ r)
+    (drop-cons l (numbersAt + 1) 0 (omega arith) ∙ ap (λ (r : List ℕ). getD l (numbersAt + 1) 0 ∷ r)
+    (drop-cons l (numbersAt + 2) 0 (omega arith)))) in
+    rw (rows-again 32 l (omega arith) b f, c, z, d entryAt, d waitingAt) (take-append-drop waitingAt l)
 
 -- ---- by what reading finds
 
 -- reading what was written gives the board back
 pub loaded-back : (b : Board) → BoardOfCode b → loadedOf (imageOf b) ≡ record { ok = true; board = b }
-loaded-back b f = image-back b (f .0) (f .1) (f .2) (f .3)
+loaded-back b f = image-back b (f .0) (f .1)
 
--- an accepted image has 1,155 bytes, is of the layout, and gives its board
+-- an accepted image has 1,187 bytes, is of the layout, and gives its board
 pub record Accepted (l : List ℕ) : Type 0 where
-  pub long : length l ≡ 1155
+  pub long : length l ≡ imageLength
   pub fits : rowsFit 32 l ≡ true
   pub board : loadedOf l .board ≡ boardOf l
 
 pub accepted : (l : List ℕ) → loadedOf l .ok ≡ true → Accepted l
 unfolding loadedOf
 accepted l h =
-    by-test (eqb (length l) 1155)
+    by-test (eqb (length l) imageLength)
     (λ e. by-test (rowsFit 32 l)
-    (λ d. record { long = eqb-true (length l) 1155 e; fits = d; board = rw (e, d) })
+    (λ d. record { long = eqb-true (length l) imageLength e; fits = d; board = rw (e, d) })
     (λ d. never (rw (e, d) at h)))
     (λ e. never (rw e at h))
 
@@ -196,12 +210,3 @@ pub loaded-again : (l : List ℕ) → Bytes l → loadedOf l .ok ≡ true → im
 loaded-again l b h =
     let a = accepted l h in
     ap imageOf (a .board) ∙ image-again l (a .long) b (a .fits)
-
--- an image has 1,155 bytes
-pub image-length : (b : Board) → length (b .programs) ≡ 32 → length (b .waiting) ≡ 32 → length (b .entry) ≡ 32 → length (imageOf b) ≡ 1155
-unfolding imageOf
-image-length b lp lw le =
-    let t : List ℕ = b .favoured ∷ b .initial ∷ b .leaves ∷ [] in
-    let P : List ℕ = flat rowBytes (b .programs) in
-    let n : length P ≡ 1088 = flat-length rowBytes 34 row-length (b .programs) ∙ ap (λ (n : ℕ). 34 * n) lp in
-    omega (arith, length-append P (b .waiting ++ (b .entry ++ t)), length-append (b .waiting) (b .entry ++ t), length-append (b .entry) t)

@@ -1,4 +1,4 @@
--- The image of a board: 1,155 bytes.
+-- The image of a board: 1,187 bytes.
 -- Assumes nothing.
 use Prim.Native.Nat.{ℕ, zero, suc, _+_, _*_, _/_, _%_}
 use mathlib.Core.List.{List, [], _∷_, _++_}
@@ -12,6 +12,23 @@ use Rattle.rules.specs.declared.Program.{Program}
 use Rattle.rules.specs.declared.Board.{Board}
 use Rattle.rules.specs.Boards.{emptyBoard, awaitedOf}
 use Rattle.image.specs.declared.Loaded.{Loaded}
+
+-- ---- the parts after the programs: where each begins, and the length of all
+
+abbrev pub waitingAt : ℕ
+waitingAt = 1088
+
+abbrev pub entryAt : ℕ
+entryAt = 1120
+
+abbrev pub numbersAt : ℕ
+numbersAt = 1152
+
+abbrev pub countsAt : ℕ
+countsAt = 1155
+
+abbrev pub imageLength : ℕ
+imageLength = 1187
 
 -- ---- writing
 
@@ -43,9 +60,13 @@ rowBytes p =
 abbrev pub rowsBytes : List Program → List ℕ
 rowsBytes ps = flat rowBytes ps
 
--- the programs, "then waiting line (32), entry line (32), favoured, number at favouring, leaves"
+-- "favoured, number at favouring, leaves"
+abbrev pub numbersOf : Board → List ℕ
+numbersOf b = b .favoured ∷ b .initial ∷ b .leaves ∷ []
+
+-- the programs, "then waiting line (32), entry line (32)", the three numbers, and "32 count bytes at its end"
 unfoldable pub imageOf : Board → List ℕ
-imageOf b = rowsBytes (b .programs) ++ (b .waiting ++ (b .entry ++ (b .favoured ∷ b .initial ∷ b .leaves ∷ [])))
+imageOf b = rowsBytes (b .programs) ++ (b .waiting ++ (b .entry ++ (numbersOf b ++ b .passed)))
 
 -- ---- reading
 
@@ -93,32 +114,33 @@ unfoldable pub rowsOf : ℕ → List ℕ → List Program
 rowsOf zero l = []
 rowsOf (suc n) l = rowOf (take 34 l) ∷ rowsOf n (drop 34 l)
 
--- the board of 1,155 bytes
+-- the board of 1,187 bytes
 unfoldable pub boardOf : List ℕ → Board
 boardOf l =
     record {
       programs = rowsOf 32 l;
-      waiting = take 32 (drop 1088 l);
-      entry = take 32 (drop 1120 l);
-      favoured = getD l 1152 0;
-      initial = getD l 1153 0;
-      leaves = getD l 1154 0;
+      waiting = take 32 (drop waitingAt l);
+      entry = take 32 (drop entryAt l);
+      favoured = getD l numbersAt 0;
+      initial = getD l (numbersAt + 1) 0;
+      leaves = getD l (numbersAt + 2) 0;
+      passed = take 32 (drop countsAt l);
     }
 
--- "image not 1,155 bytes or not of its layout": the layout alone; whether the board is sound is asked by the caller
+-- an image that hasn't 1,187 bytes or isn't of its layout; whether the board is sound is asked by the caller
 abbrev pub refusedImage : Loaded
 refusedImage = record { ok = false; board = emptyBoard }
 
 -- what reading an image finds: the board, or a refusal with the empty board
 unfoldable pub loadedOf : List ℕ → Loaded
 loadedOf l =
-    cond (eqb (length l) 1155) (cond (rowsFit 32 l) (record { ok = true; board = boardOf l }) refusedImage) refusedImage
+    cond (eqb (length l) imageLength) (cond (rowsFit 32 l) (record { ok = true; board = boardOf l }) refusedImage) refusedImage
 
 -- ---- writing into a buffer
 
--- the buffer has 1,155 bytes
+-- the buffer has 1,187 bytes
 abbrev pub imageFits : List ℕ → Bool
-imageFits buffer = eqb (length buffer) 1155
+imageFits buffer = eqb (length buffer) imageLength
 
 -- the buffer after the image of a board, sound or not, is written into it; one of another length stays as it was
 abbrev pub imageIn : List ℕ → Board → List ℕ

@@ -19,9 +19,16 @@ abbrev pub AllOfFiles : List Program → Type 0
 AllOfFiles [] = Unit {0}
 AllOfFiles (p ∷ ps) = SetsOfFiles p × AllOfFiles ps
 
--- 32 programs, lines of 32 places, sets of files: so is every Board of the code, by its type
+-- 32 programs, lines of 32 places, 32 counts
+pub record Sized (b : Board) : Type 0 where
+  pub programs : length (b .programs) ≡ 32
+  pub waiting : length (b .waiting) ≡ 32
+  pub entry : length (b .entry) ≡ 32
+  pub passed : length (b .passed) ≡ 32
+
+-- of these lengths, with sets of files: so is every Board of the code, by its type
 abbrev pub BoardOfCode : Board → Type 0
-BoardOfCode b = (length (b .programs) ≡ 32) × (length (b .waiting) ≡ 32) × (length (b .entry) ≡ 32) × AllOfFiles (b .programs)
+BoardOfCode b = Sized b × AllOfFiles (b .programs)
 
 -- each number of the list is a byte: so is every slice of bytes
 abbrev pub Bytes : List ℕ → Type 0

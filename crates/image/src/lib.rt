@@ -1,4 +1,4 @@
-// The image of a board: 1,155 bytes, written and read.
+// The image of a board: 1,187 bytes, written and read.
 use files::FileSet;
 use rules::Board;
 use rules::Program;
@@ -7,10 +7,20 @@ ghost use mathlib.Core.Path.{_≡_};
 ghost use mathlib.Core.List.{_++_};
 ghost use mathlib.Core.Bool.{true};
 ghost use Prim.Native.Nat.{_+_, _*_, _≤_, _<_};
-ghost use lib.ListN.{length, take, drop};
-ghost use Rattle.rules.specs.Boards.{awaitedOf};
+ghost use lib.ListN.{length, drop};
 ghost use Rattle.image.specs.Image.{bytesOf, valueOf, kindOf, rowBytes, rowsBytes, imageOf, standingOf, rowIs, rowOf, rowsFit, rowsOf};
-ghost use Rattle.image.specs.Image.{loadedOf, kindFits, putAt, imageFits, imageIn};
+ghost use Rattle.image.specs.Image.{imageLength, loadedOf, kindFits, putAt, imageFits, imageIn};
+
+// Where the parts after the programs begin, and how many bytes an image has.
+const WAITING_AT: usize = 1088;
+
+const ENTRY_AT: usize = 1120;
+
+const NUMBERS_AT: usize = 1152;
+
+const COUNTS_AT: usize = 1155;
+
+pub const IMAGE_LEN: usize = 1187;
 
 // What reading an image finds: whether it is of the layout, and the board, empty if not.
 pub struct Loaded {
@@ -123,27 +133,29 @@ fn put_rows(out: &mut [u8], programs: [Program; 32])
     }
 }
 
-// Writes the image of a board into 1,155 bytes.
+// Writes the image of a board into 1,187 bytes.
 fn fill_image(out: &mut [u8], b: Board)
-    requires { ⌜ length (now out) ≡ 1155 ⌝ }
+    requires { ⌜ length (now out) ≡ imageLength ⌝ }
     ensures { λ r. ⌜ now (out .exit) ≡ imageOf b ⌝ }
 {
     let programs = b.programs;
     let waiting = b.waiting;
     let entry = b.entry;
-    let last = [b.favoured, b.initial, b.leaves];
+    let numbers = [b.favoured, b.initial, b.leaves];
+    let passed = b.passed;
     put_rows(out, programs);
-    put_at(out, 1088, &waiting);
-    put_at(out, 1120, &entry);
-    put_at(out, 1152, &last);
+    put_at(out, WAITING_AT, &waiting);
+    put_at(out, ENTRY_AT, &entry);
+    put_at(out, NUMBERS_AT, &numbers);
+    put_at(out, COUNTS_AT, &passed);
 }
 
-// Writes the image of a board, sound or not, and says whether it could: a buffer that hasn't 1,155 bytes stays as it was.
+// Writes the image of a board, sound or not, and says whether it could: a buffer that hasn't 1,187 bytes stays as it was.
 pub fn put_image(out: &mut [u8], b: Board) -> bool
     ensures { λ r. ⌜ r ≡ imageFits (now (out .entry)) ⌝ }
     ensures { λ r. ⌜ now (out .exit) ≡ imageIn (now (out .entry)) b ⌝ }
 {
-    if out.len() != 1155 {
+    if out.len() != IMAGE_LEN {
         return false;
     }
     fill_image(out, b);
@@ -257,8 +269,8 @@ fn read_rows(s: &[u8]) -> [Program; 32]
     ps
 }
 
-// 32 bytes as an array.
-fn read_line(s: &[u8]) -> [u8; 32]
+// A run of 32 bytes as an array: a line, or the counts.
+fn read_run(s: &[u8]) -> [u8; 32]
     requires { ⌜ length (now s) ≡ 32 ⌝ }
     ensures { λ r. ⌜ r ≡ now (s .entry) ⌝ }
 {
@@ -271,21 +283,23 @@ fn read_line(s: &[u8]) -> [u8; 32]
 pub fn load(image: &[u8]) -> Loaded
     ensures { λ r. ⌜ r ≡ loadedOf (now (image .entry)) ⌝ }
 {
-    if image.len() != 1155 {
+    if image.len() != IMAGE_LEN {
         let board = Board::EMPTY;
         return Loaded { ok: false, board };
     }
     if rows_fit(image) {
         let programs = read_rows(image);
-        let waiting = read_line(&image[1088..1120]);
-        let entry = read_line(&image[1120..1152]);
+        let waiting = read_run(&image[WAITING_AT..ENTRY_AT]);
+        let entry = read_run(&image[ENTRY_AT..NUMBERS_AT]);
+        let passed = read_run(&image[COUNTS_AT..IMAGE_LEN]);
         let board = Board {
             programs,
             waiting,
             entry,
-            favoured: image[1152],
-            initial: image[1153],
-            leaves: image[1154],
+            favoured: image[NUMBERS_AT],
+            initial: image[NUMBERS_AT + 1],
+            leaves: image[NUMBERS_AT + 2],
+            passed,
         };
         return Loaded { ok: true, board };
     }

@@ -7,13 +7,14 @@ use lib.ListN.{take, replicate}
 use Rattle.columns.specs.Columns.{columnsOf, flat, digitOf, field3, fieldOf, numberOf}
 use Rattle.rules.specs.declared.Board.{Board}
 use Rattle.rules.specs.Lists.{any, all, keep, first, padded, rising, listed, distinct, without, same, names}
-use Rattle.rules.specs.Boards.{emptyBoard, everyone, admitted, opening, closing, dropping}
+use Rattle.rules.specs.Boards.{emptyBoard, everyone, admitted, tallied, opening, closing, dropping}
 use Rattle.rules.specs.Orders.{heldBack, carriedFrom, carried, withGiven, inUse, safe, canGive}
-use Rattle.rules.specs.Soundness.{setsSound, standingSound, programSound, noConflict, lineSound, waiterSound, noneFavoured, someFavoured, sound}
-use Rattle.rules.specs.Settling.{unfavour, resume, tryGive, pass, candidate, favour, runHeld, choose, settle}
+use Rattle.rules.specs.Soundness.{setsSound, standingSound, programSound, noConflict, lineSound, waiterSound, noneFavoured, someFavoured, countSound, sound}
+use Rattle.rules.specs.Settling.{unfavour, resume, tryGive, pass, candidate, favour, overdue, admitHeld, runHeld, choose, settle}
 use Rattle.rules.specs.Replies.{reply, refuse, refuseUnsound}
 use Rattle.rules.specs.Checks.{enterCheck, openCheck, closeCheck, leaveCheck, cancelCheck}
-use Rattle.rules.specs.Calls.{enter, wait, openFile, done, closeFile, dropFile, countLeave, leave, countCancel, cancel, apply, direct}
+use Rattle.rules.specs.Calls.{admit, hold, holdFor, enter, wait, openFile, done, closeFile, dropFile, countLeave, leave, countCancel, cancel}
+use Rattle.rules.specs.Calls.{apply, direct}
 use Rattle.request.specs.Requests.{begins, numberAt, programAt, labelPart, filesIn, risesFrom, addingAll}
 use Rattle.request.specs.Requests.{enterFiles, enterCounts, enterOf, fileOf, aloneOf, requestOf}
 use Rattle.journal.specs.Journal.{lineBytes, written}
@@ -28,12 +29,12 @@ unfolding columnsOf flat digitOf field3 fieldOf numberOf
     enterFiles enterCounts enterOf fileOf aloneOf requestOf
     lineBytes written replyTo linesFor posted lineCall
     any all keep first padded rising listed distinct without same names
-    everyone admitted opening closing dropping
+    everyone admitted tallied opening closing dropping
     heldBack carriedFrom carried withGiven inUse safe canGive
-    setsSound standingSound programSound noConflict lineSound waiterSound noneFavoured someFavoured sound
-    unfavour resume tryGive pass candidate favour runHeld choose settle
+    setsSound standingSound programSound noConflict lineSound waiterSound noneFavoured someFavoured countSound sound
+    unfavour resume tryGive pass candidate favour overdue admitHeld runHeld choose settle
     reply refuse refuseUnsound enterCheck openCheck closeCheck leaveCheck cancelCheck
-    enter wait openFile done closeFile dropFile countLeave leave countCancel cancel apply direct
+    admit hold holdFor enter wait openFile done closeFile dropFile countLeave leave countCancel cancel apply direct
 journalAfter b journal place [] = take place journal
 journalAfter b journal place (l ∷ ls) = let o = lineCall b l journal place in journalAfter (o .reply .board) (o .journal) (o .place) ls
 

@@ -4,7 +4,7 @@ use mathlib.Core.Bool.{true}
 use borrow.Author.Tests.{eq-eqb, not-true, not-false}
 use Rattle.rules.specs.Soundness.{sound}
 use Rattle.image.specs.declared.Loaded.{Loaded}
-use Rattle.image.specs.Image.{loadedOf}
+use Rattle.image.specs.Image.{imageLength, loadedOf}
 use Rattle.apply.specs.Replies.{replyOf}
 use Rattle.host.proofs.Laws
 use lib.ListN.{length}
@@ -44,7 +44,7 @@ returns-2 c =
     let long = Laws.accepted-long (a .image .now) k (read i .0) ok in (
       sym (h .answer ∙ Laws.answer-done _ _ z),
       (
-        (rw (eq-eqb (length (a .image .now)) 1155 long) at (c .before .before .put-image .ensures .1))
+        (rw (eq-eqb (length (a .image .now)) imageLength long) at (c .before .before .put-image .ensures .1))
             ∙ sym (h .image-after ∙ Laws.image-done _ _ _ z),
         sym (h .journal-after),
       ),

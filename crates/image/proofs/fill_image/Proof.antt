@@ -1,32 +1,55 @@
 -- `fill_image` meets its contract. Assumes nothing.
 use borrow.Author.Needs.{needs}
+use Rattle.image.specs.Law.{Sized}
 use Rattle.image.proofs.Laws.{image-put}
-use mathlib.Core.Path.{_≡_, sym, _∙_}
+use mathlib.Core.Path.{sym, _∙_}
 use native.Mathlib.Omega.{arith}
-use lib.ListN.{length, length-map}
+use lib.ListN.{length-map}
 use Rattle.image.proofs.fill_image.Statement.{statement}
 use Rattle.image.proofs.fill_image.Tie as tie
 
 -- the arrays' lengths, known at the entry
-sizes : (s : tie.Start) → (length (s .args .b .programs) ≡ 32) × (length (s .args .b .waiting) ≡ 32) × (length (s .args .b .entry) ≡ 32)
-sizes s = (sym (length-map (s .args .b .programs) _) ∙ s .good .1 .0 .1 .1 .0 .1 .0 .1, search needs, search needs)
+sizes : (s : tie.Start) → Sized (s .args .b)
+sizes s =
+    record {
+      programs = sym (length-map (s .args .b .programs) _) ∙ s .good .1 .0 .1 .1 .0 .1 .0 .1;
+      waiting = search needs;
+      entry = search needs;
+      passed = search needs;
+    }
+
+-- the entry, from each put
+abbrev start : tie.After-waiting2 → tie.Start
+start c = c .before .before .before .before .before .before .before .before .before .before .before
+
+abbrev start-2 : tie.After-entry2 → tie.Start
+start-2 c = start (c .before .before .before .before .before)
+
+abbrev start-3 : tie.After-numbers → tie.Start
+start-3 c = start-2 (c .before .before .before .before .before)
+
+abbrev start-4 : tie.After-passed2 → tie.Start
+start-4 c = start-3 (c .before .before .before .before .before)
 
 put-at-requires : tie.Need-put-at-requires
-put-at-requires c κs =
-    let lw : length (c .before .before .before .before .before .before .before .before .before .before .args .b .waiting) ≡ 32 = search needs in
-    omega arith
+put-at-requires c κs = omega (arith, sizes (start c) .waiting)
 
 put-at-requires-2 : tie.Need-put-at-requires-2
-put-at-requires-2 c κs =
-    let lw : length (c .before .before .before .before .before .before .before .before .before .before .before .before .before .before .before .args .b .entry) ≡ 32 = search needs in
-    omega arith
+put-at-requires-2 c κs = omega (arith, sizes (start-2 c) .entry)
+
+put-at-requires-4 : tie.Need-put-at-requires-4
+put-at-requires-4 c κs = omega (arith, sizes (start-4 c) .passed)
 
 returns : tie.Need-returns
 returns c =
-    let s = c .before .before .before .before .before .before .before .before .before .before .before .before .before .before .before .before .before .before .before .before .before .before .before in
-    let b = s .args .b in
-    image-put b (s .args .out .now) _ _ _ _ (sizes s .0) (sizes s .1) (sizes s .2) (s .pre)
-    (c .before .before .before .before .before .before .before .before .before .before .before .before .before .before .before .before .before .put-rows .ensures) (c .before .before .before .before .before .before .before .before .before .before .before .before .put-at .ensures) (c .before .before .before .before .before .before .before .put-at2 .ensures) (c .before .before .put-at3 .ensures)
+    let p₄ = c .before .before in
+    let p₃ = p₄ .before .before .before .before .before in
+    let p₂ = p₃ .before .before .before .before .before in
+    let p₁ = p₂ .before .before .before .before .before in
+    let p₀ = p₁ .before .before .before .before .before in
+    let s = start-4 (p₄ .before) in
+    image-put (s .args .b) (s .args .out .now) _ _ _ _ _ (sizes s) (s .pre)
+    (p₀ .put-rows .ensures) (p₁ .put-at .ensures) (p₂ .put-at2 .ensures) (p₃ .put-at3 .ensures) (p₄ .put-at4 .ensures)
 
 pub fill-image-spec : {M : Type 1} → statement M
 fill-image-spec =
@@ -39,5 +62,7 @@ fill-image-spec =
     put-at-requires-2
     (λ c. search needs)
     (λ c κs. search needs)
+    (λ c. search needs)
+    put-at-requires-4
     (λ c. search needs)
     returns)

@@ -1,8 +1,8 @@
 -- `load` meets its contract. Assumes nothing.
-use mathlib.Core.Path.{sym, _∙_}
+use mathlib.Core.Path.{refl, sym, _∙_}
 use native.Mathlib.Omega.{arith}
 use Rattle.image.specs.Image.{boardOf}
-use Rattle.image.proofs.Laws.{load-good, load-long, load-bad}
+use Rattle.image.proofs.Laws.{board-same, load-good, load-long, load-bad}
 use borrow.Author.Needs.{needs}
 use Rattle.image.proofs.load.Statement.{statement}
 use Rattle.image.proofs.load.Tie as tie
@@ -14,15 +14,14 @@ returns c =
 returns-2 : tie.Need-returns-2
 unfolding boardOf
 returns-2 c =
-    let l = c .before .before .before .before .before .before .before .before .before .before .before .before .args .image .now in
-    rw (
-      c .before .before .before .before .before .before .before .read-rows .ensures,
-      c .before .before .before .before .before .read-line .ensures,
-      c .before .before .before .read-line2 .ensures,
-    )
-    (sym (load-good l (omega arith)
-    (sym (c .before .before .before .before .before .before .before .before .before .rows-fit .ensures)
-    ∙ c .before .before .before .before .before .before .before .before .if2 .taken)))
+    let counts = c .before .before .before in
+    let entry = counts .before .before in
+    let waiting = entry .before .before in
+    let rows = waiting .before .before in
+    let good = rows .before in
+    let l = good .before .before .before .before .args .image .now in
+    load-good l _ (omega arith) (sym (good .before .rows-fit .ensures) ∙ good .if2 .taken)
+    (board-same _ (boardOf l) (rows .read-rows .ensures) (waiting .read-run .ensures) (entry .read-run2 .ensures) refl refl refl (counts .read-run3 .ensures))
 
 returns-3 : tie.Need-returns-3
 returns-3 c =
@@ -43,6 +42,12 @@ load-spec =
     (λ c. search needs)
     (λ c. search needs)
     (λ c κs. search needs)
+    (λ c. search needs)
+    (λ c. search needs)
+    (λ c. search needs)
+    (λ c κs. search needs)
+    (λ c. search needs)
+    (λ c. search needs)
     (λ c. search needs)
     (λ c. search needs)
     (λ c. search needs)

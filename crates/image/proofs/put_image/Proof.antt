@@ -1,14 +1,16 @@
+-- `put_image` meets its contract. Assumes nothing.
 use lib.ListN.{length}
 use borrow.Author.Tests.{eq-eqb, ne-eqb}
 use borrow.Author.Needs.{needs}
+use Rattle.image.specs.Image.{imageLength}
 use Rattle.image.proofs.put_image.Statement.{statement}
 use Rattle.image.proofs.put_image.Tie as tie
 
 returns : tie.Need-returns
-returns c = let e = ne-eqb (length (c .before .before .args .out .now)) 1155 (c .if1 .taken) in (rw e, rw e)
+returns c = let e = ne-eqb (length (c .before .before .args .out .now)) imageLength (c .if1 .taken) in (rw e, rw e)
 
 returns-2 : tie.Need-returns-2
-returns-2 c = let e = eq-eqb (length (c .before .before .before .before .before .before .args .out .now)) 1155
+returns-2 c = let e = eq-eqb (length (c .before .before .before .before .before .before .args .out .now)) imageLength
     (c .before .before .before .before .if1 .left) in (rw e, rw e (c .before .before .fill-image .ensures))
 
 pub put-image-spec : {M : Type 1} → statement M
