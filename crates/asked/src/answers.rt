@@ -66,7 +66,7 @@ fn write(s: &[u8]) {
 
 // The image of a board.
 pub fn write_image(b: Board) {
-    let mut bytes = [0u8; 1155];
+    let mut bytes = [0u8; image::IMAGE_LEN];
     image::put_image(&mut bytes, b);
     write(&bytes);
 }

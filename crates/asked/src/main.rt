@@ -6,7 +6,7 @@
 // p: a line for the line call that changes the program's board in place. The second number is how much of a journal of 1,024 bytes, each of them
 // 170, is handed over, the third is the place in it.
 //
-// A call is answered with 1,319 bytes: the refusal's number or 0, the answer's word, the count of lines, that of programs in the order,
+// A call is answered with 1,351 bytes: the refusal's number or 0, the answer's word, the count of lines, that of programs in the order,
 // 32 lines of 4 bytes (word, program, file, refusal), the 32 places of the order, the reply's board as its image. A word is its first letter.
 // i is answered with 1 if the image is of its layout, 0 if not, and the board's image; l with the label's length and bytes; p as a call is, then
 // the new place in decimal and byte 10, the journal, and the image of the board that was lent.

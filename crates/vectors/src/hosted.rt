@@ -62,7 +62,7 @@ fn number_then(f: Found, n: u64, then: u8, expected: &[u8]) -> Found {
 }
 
 // One call, whose answer and sums are held to the expected line.
-fn step(s: Hosted, image: &mut [u8; 1155], line: &[u8], expected: &[u8]) -> Hosted {
+fn step(s: Hosted, image: &mut [u8; 1187], line: &[u8], expected: &[u8]) -> Hosted {
     let mut journal = [170u8; 512];
     let answer = host::lock_board_line(image, line, &mut journal, 0);
     let start = Found { ok: true, at: s.at };
@@ -90,7 +90,7 @@ fn ended(s: Hosted, expected: &[u8]) -> Hosted {
 
 // All lines of the input, from the empty board's image on.
 pub fn replay(input: &[u8], expected: &[u8]) -> Hosted {
-    let mut image = [0u8; 1155];
+    let mut image = [0u8; 1187];
     let mut s = Hosted {
         at: 0,
         lines: 0,

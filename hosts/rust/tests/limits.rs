@@ -17,7 +17,7 @@ unsafe extern "C" {
     ) -> u64;
 }
 
-const IMAGE: usize = 1155;
+const IMAGE: usize = 1187;
 const ROOM: usize = 512;
 const REFUSAL_1: u64 = u64::MAX;
 const REFUSAL_2: u64 = u64::MAX - 1;
@@ -547,10 +547,10 @@ fn a_wrong_line_fails() {
         "journal of 511 bytes: |LEAVE   1| 9 bytes: nothing; refusal 2",
         "byte 32 = 4: |LEAVE   1| 9 bytes: nothing; refusal 1",
         "byte 32 = 1 (runs): |LEAVE   1| 9 bytes: DONE    1  0  0; place 16; byte 32 = 0",
-        "image of 1156 bytes: |LEAVE   1| 9 bytes: nothing; refusal 2",
-        "lock_board_empty of 1154 bytes: the empty board; place 0",
-        "lock_board_empty of 1155 bytes: nothing; place 0",
-        "lock_board_empty of 1155 bytes: the empty board; refusal 1",
+        "image of 1188 bytes: |LEAVE   1| 9 bytes: nothing; refusal 2",
+        "lock_board_empty of 1186 bytes: the empty board; place 0",
+        "lock_board_empty of 1187 bytes: nothing; place 0",
+        "lock_board_empty of 1187 bytes: the empty board; refusal 1",
         "After |LEAVE   1|:",
         "2 questions",
         " # no comment",

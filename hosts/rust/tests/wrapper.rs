@@ -2,6 +2,7 @@
 
 use lock_board::{entry, Board, Error, Line, Refusal, Reply, Request, Standing, Word};
 use lock_board::{CUT_LINE, HIGHEST_PLACE, IMAGE_LEN, JOURNAL_LINE, JOURNAL_ROOM, LONGEST_LINE};
+use lock_board::{MOST_PASSED, PROGRAMS};
 
 fn board_after(lines: &[&str]) -> Board {
     let mut board = Board::new();
@@ -93,12 +94,16 @@ fn wait_is_typed() {
     assert!(reply.waits());
 }
 
-/// 31 readers wait for the file of program 1; its leave gives it to all of them.
+/// 31 readers, all admitted before one waits, wait for the file of program 1; its leave gives it
+/// to all of them.
 fn fullest_reply() -> Reply {
     let mut board = board_after(&["ENTER   1WRITER    1  0  1", "OPEN    1  1"]);
     for program in 2..=32 {
         let enter = format!("ENTER {program:3}READER    0  1  1");
-        board.serve(enter.as_bytes()).unwrap();
+        let admitted = board.serve(enter.as_bytes());
+        assert_eq!(admitted.unwrap().answer().word, Word::Admit);
+    }
+    for program in 2..=32 {
         let open = board.serve(format!("OPEN  {program:3}  1").as_bytes());
         assert_eq!(open.unwrap().answer().word, Word::Wait);
     }
@@ -228,6 +233,57 @@ fn a_waiting_program_is_cancelled() {
     assert_eq!((favoured.leaves, favoured.leaves_to_come()), (1, 2));
 }
 
+/// Program 1 reads file 1, and 2 waits to write it while others come and go, admitted after it.
+fn passed_by(others: u8) -> Board {
+    let mut board = board_after(&[
+        "ENTER   1LISTS     0  1  1",
+        "ENTER   2PRICES    1  0  1",
+        "OPEN    1  1",
+        "OPEN    2  1",
+    ]);
+    assert_eq!(board.passed(2), Some(0));
+    for passed in 1..=others {
+        let enter = board.serve(b"ENTER   3LISTS     0  1  1").unwrap();
+        assert_eq!(enter.answer(), line(Word::Admit, 3, 0));
+        assert_eq!(board.passed(2), Some(passed));
+        let leave = board.serve(b"LEAVE   3").unwrap();
+        assert!(leave.settled().is_empty());
+    }
+    board
+}
+
+/// A waiter is passed by eight programs; the next one to enter is held, and the waiter is favoured.
+#[test]
+fn a_waiter_is_passed_by_eight() {
+    assert_eq!(MOST_PASSED, 8);
+    let mut board = passed_by(MOST_PASSED);
+    assert_eq!(board.favoured(), None);
+    let enter = board.serve(b"ENTER   3LISTS     0  1  1").unwrap();
+    assert_eq!(enter.answer(), line(Word::Held, 3, 0));
+    assert_eq!(enter.settled(), [line(Word::Favour, 2, 1)]);
+    let favoured = board.favoured().unwrap();
+    assert_eq!((favoured.program, favoured.at_favouring), (2, 2));
+    assert_eq!(favoured.leaves_to_come(), 1);
+    assert_eq!((board.passed(2), board.entry_line()), (Some(8), &[3][..]));
+    let leave = board.serve(b"LEAVE   1").unwrap();
+    let settled = [line(Word::Given, 2, 1), line(Word::Admit, 3, 0)];
+    assert_eq!(leave.settled(), settled);
+    let counts: Vec<u8> = (1..=32).filter_map(|p| board.passed(p)).collect();
+    assert_eq!(counts, [0; PROGRAMS]);
+}
+
+/// A wait begins with 0, and a cancel ends it: the number's next wait is counted anew.
+#[test]
+fn a_count_ends_with_its_wait() {
+    let mut board = passed_by(3);
+    assert_eq!(cancelled(&mut board, 2), []);
+    assert_eq!(board.passed(2), Some(0));
+    board.serve(b"ENTER   2PRICES    1  0  1").unwrap();
+    board.serve(b"OPEN    2  1").unwrap();
+    assert_eq!((board.waiting_line(), board.passed(2)), (&[2][..], Some(0)));
+    assert_eq!((board.passed(0), board.passed(33)), (None, None));
+}
+
 #[test]
 fn a_board_goes_on_from_its_image() {
     let mut first = board_after(&["ENTER   1STOCK     1  0  3", "OPEN    1  3"]);
@@ -241,7 +297,7 @@ fn a_board_goes_on_from_its_image() {
 #[test]
 fn images_of_another_length() {
     let image = [0; IMAGE_LEN + 1];
-    for len in [0, 1, IMAGE_LEN - 1, IMAGE_LEN + 1] {
+    for len in [0, 1, 1155, IMAGE_LEN - 1, IMAGE_LEN + 1] {
         let refused = Board::from_image(&image[..len]);
         assert_eq!(refused, Err(Error::ImageLength(len)));
     }
@@ -251,8 +307,9 @@ fn images_of_another_length() {
 fn images_that_are_not_sound() {
     let image = *board_after(&["ENTER   1STOCK     1  0  3", "OPEN    1  3"]).image();
     // W outside V; no such standing; a running program that awaits a file; a name in each line;
-    // somebody favoured who is not waiting; a count though nobody is favoured.
-    for place in [16, 32, 33, 1088, 1120, 1152, 1153, 1154] {
+    // somebody favoured who is not waiting; a number though nobody is favoured; a count of one who
+    // runs and of one who is absent.
+    for place in [16, 32, 33, 1088, 1120, 1152, 1153, 1154, 1155, 1186] {
         let mut bad = image;
         bad[place] ^= 8;
         let refused = Board::from_image(&bad);
@@ -261,6 +318,21 @@ fn images_that_are_not_sound() {
             Err(Error::Refused(Refusal::NotSound)),
             "byte {place}"
         );
+    }
+}
+
+/// "A sound board has no count above 8": a waiter may have any other, whatever happened before.
+#[test]
+fn images_with_counts() {
+    let mut image = *passed_by(0).image();
+    for count in 0..=u8::MAX {
+        image[1156] = count;
+        let read = Board::from_image(&image).map(|board| board.passed(2));
+        let expected = match count {
+            0..=8 => Ok(Some(count)),
+            _ => Err(Error::Refused(Refusal::NotSound)),
+        };
+        assert_eq!(read, expected, "count {count}");
     }
 }
 
@@ -356,7 +428,7 @@ fn errors_in_words() {
         "refusal 1: The image holds no sound board"
     );
     let length = Error::ImageLength(3);
-    assert_eq!(length.to_string(), "an image has 1155 bytes, not 3");
+    assert_eq!(length.to_string(), "an image has 1187 bytes, not 3");
 }
 
 #[test]

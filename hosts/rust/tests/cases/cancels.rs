@@ -1,15 +1,7 @@
 //! What document 02 says of cancel, sentence by sentence: sessions worked by
 //! hand, through the library and the model.
-//!
-//! A line of a session is `request -> journal lines`, with `; ` between those.
-//! ` -> P N L` after them: from then on program P is favoured (0 for nobody), the
-//! number at favouring is N, and L leaves are counted. The last line has the
-//! order after the session.
 
-use crate::compare::call::{library, model, Call, Outcome};
-use crate::compare::session::Session;
-use crate::model::image::{ENTRY_LINE, FAVOURED, PROGRAM, WAITING_LINE};
-use crate::model::journal::LINE;
+use super::told::told;
 
 /// 01's session before its last line. Program 1 writes file 1; program 2, which
 /// claims it too, waits for file 2 and is favoured; program 3 is held.
@@ -35,60 +27,6 @@ OPEN    2  2 -> UNSAFE  2  2  0
 OPEN    3  3 -> UNSAFE  3  3  0
 LEAVE   4 -> DONE    4  0  0; FAVOUR  2  2  0 -> 2 3 0
 ";
-
-/// The library and the model go through a session as it is told.
-fn told(start: &str, rest: &str) {
-    let (steps, order) = rest.rsplit_once("ORDER ").expect("the order");
-    for side in [model, library] {
-        let (mut image, mut favouring) = (Session::empty().start, vec![0, 0, 0]);
-        let mut carried = Vec::new();
-        for step in start.lines().chain(steps.lines()) {
-            let parts: Vec<&str> = step.split(" -> ").collect();
-            let outcome = side(&image, &Call::plain(parts[0].as_bytes()));
-            assert_eq!(outcome.spilt, None, "{step}");
-            assert_eq!(journal(&outcome), parts[1], "{step}");
-            if let Some(changed) = parts.get(2) {
-                favouring = numbers(changed);
-            }
-            assert_eq!(outcome.image[FAVOURED..], favouring, "{step}");
-            if let Some(program) = parts[0].strip_prefix("CANCEL") {
-                cancelled(program, parts[1], &image, &outcome.image);
-            }
-            carried = outcome.order[0].buffer[..outcome.order[0].answer as usize].to_vec();
-            image = outcome.image;
-        }
-        assert_eq!(carried, numbers(order));
-    }
-}
-
-fn numbers(text: &str) -> Vec<u8> {
-    let number = |word: &str| word.parse().expect("a number");
-    text.split_whitespace().map(number).collect()
-}
-
-/// The lines that a call has written, from place 0 on.
-fn journal(outcome: &Outcome) -> String {
-    let written = outcome.journal[..outcome.answer as usize].chunks(LINE);
-    let lines: Vec<String> = written
-        .map(|line| line[..LINE - 1].escape_ascii().to_string())
-        .collect();
-    lines.join("; ")
-}
-
-/// "The program goes with its files and claims": all its bytes are 0, and no
-/// line names it. A refused cancel changes nothing.
-fn cancelled(program: &str, answer: &str, before: &[u8], after: &[u8]) {
-    if answer.starts_with("REFUSE") {
-        return assert!(after == before, "a refused cancel of {program}");
-    }
-    let p: usize = program.trim_start().parse().expect("a program");
-    let bytes = &after[PROGRAM * (p - 1)..PROGRAM * p];
-    assert!(bytes.iter().all(|&byte| byte == 0), "{program} has bytes");
-    for line in [WAITING_LINE, ENTRY_LINE] {
-        let names = &after[line..line + 32];
-        assert!(!names.contains(&(p as u8)), "{program} is in a line");
-    }
-}
 
 /// "It refuses a cancel of a running program with 18, after 11." A cancelled
 /// number is free at once.
@@ -148,9 +86,9 @@ OPEN    1  1 -> GIVEN   1  1  0
 ENTER   3LISTS     1  0  2 -> ADMIT   3  0  0
 OPEN    3  2 -> GIVEN   3  2  0
 OPEN    1  2 -> WAIT    1  2  0
-ENTER   2BILLS     1  0  1 -> ADMIT   2  0  0
+ENTER   2BILLS     1  0  1 -> ADMIT   2  0  0 -> 1=1
 OPEN    2  1 -> WAIT    2  1  0
-CANCEL  1 -> DONE    1  0  0; GIVEN   2  1  0
+CANCEL  1 -> DONE    1  0  0; GIVEN   2  1  0 -> 1=0
 ORDER 2 3",
     );
 }

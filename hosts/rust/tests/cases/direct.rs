@@ -3,10 +3,10 @@
 //! `asked`. LOCK_BOARD_ASKED names the program; else it is the one built here,
 //! and the tests that run it are left out if there is none.
 
-use super::{calls, seed};
+use super::{calls, of_the_model, seed};
 use crate::compare::asked::{Asking, Record};
 use crate::compare::call::Call;
-use crate::compare::counters::{Counters, CANCELS};
+use crate::compare::counters::{Counters, BEHIND_A_LOWER, CANCELS, COUNTS};
 use crate::compare::programs;
 use crate::generate::images::{pool, DAMAGES};
 use crate::generate::lines;
@@ -17,7 +17,7 @@ use crate::generate::sessions::{wild, Cast, PROFILES};
 use crate::model::board::{only, Files, PROGRAMS};
 use crate::model::direct::{self, Reply};
 use crate::model::events::Request;
-use crate::model::journal::Word;
+use crate::model::journal::{Entry, Word};
 use crate::model::{image, line};
 use std::path::{Path, PathBuf};
 
@@ -91,6 +91,7 @@ fn direct_calls_agree() {
     met.print("direct calls");
     assert_refusals(&met, (8..=16).chain([18]));
     met.assert_met(&CANCELS);
+    met.assert_met(&COUNTS);
     met.assert_met(&["cancel refused with 8"]);
     for word in Word::ALL.iter().filter(|&&word| word != Word::Refuse) {
         let name = std::str::from_utf8(word.text()).unwrap().trim_end();
@@ -233,6 +234,7 @@ fn direct_calls_agree_on_images() {
     assert_refusals(&met, [1, 8].into_iter());
     met.assert_met(&["cancel refused with 1", "cancel refused with 8"]);
     met.assert_met(&CANCELS[..6]);
+    met.assert_met(&[BEHIND_A_LOWER]);
     for name in ["refused image", "unsound board", "sound board"] {
         assert!(met.get(name) > 0, "no {name}");
     }
@@ -381,10 +383,26 @@ fn labels_agree() {
     assert_eq!(met.get("wrong label"), 0);
 }
 
+/// An enter where program 2 waits and eight have passed it; the words and programs
+/// of its lines.
+fn enter_behind_a_count_of_8(asking: &mut Asking) -> Vec<(Word, usize)> {
+    let mut image = board_after(&[
+        enter(1, &[1], &[]),
+        Request::Open { p: 1, f: 1 },
+        enter(2, &[1], &[]),
+        Request::Open { p: 2, f: 1 },
+    ]);
+    image[image::COUNTS + 1] = 8;
+    asking.add(Record::Image(image));
+    let reply = asking.call(enter(3, &[], &[]));
+    let line = |line: &Entry| (line.word, line.program);
+    reply.lines.iter().map(line).collect()
+}
+
 /// What crates/asked is run on when it is proved, and what it must write, are
 /// the model's: 01's session, cancels of a waiting, an absent and a running
 /// program, a number out of range, a line on the lent board, a board that is not
-/// sound, labels. LOCK_BOARD_WRITE=1 writes both files anew.
+/// sound, an enter that favours, labels. LOCK_BOARD_WRITE=1 writes both files anew.
 #[test]
 fn records_of_the_crate_are_the_models() {
     let mut asking = Asking::new();
@@ -409,16 +427,13 @@ fn records_of_the_crate_are_the_models() {
     image[image::FAVOURED] = 2;
     asking.add(Record::Image(image));
     assert_eq!(asking.call(Request::Leave { p: 2 }).refusal, 1);
+    let lines = enter_behind_a_count_of_8(&mut asking);
+    assert_eq!(lines, [(Word::Held, 3), (Word::Favour, 2)]);
     asking.add(Record::Label(LABELS[0].0.to_vec()));
     asking.add(Record::Label(LABELS[1].0.to_vec()));
     let (input, output) = asking.bytes();
     let folder = Path::new(env!("CARGO_MANIFEST_DIR")).join("../../crates/asked");
     for (name, bytes) in [("stdin", input), ("stdout", output)] {
-        let file = folder.join(name);
-        if std::env::var_os("LOCK_BOARD_WRITE").is_some() {
-            std::fs::write(&file, &bytes).expect("the file is written");
-        }
-        let found = std::fs::read(&file).unwrap_or_default();
-        assert!(found == bytes, "{} is not the model's", file.display());
+        of_the_model(&folder.join(name), &bytes);
     }
 }

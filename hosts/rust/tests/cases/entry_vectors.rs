@@ -1,10 +1,13 @@
-//! Single calls of the C entry with their answers: damaged images, and journals
-//! with places. Their form is told in vectors-entry/README.md.
+//! Calls of the C entry with their answers: damaged images, journals with
+//! places, and sessions that start from an image. Their form is told in
+//! vectors-entry/README.md.
 
+use super::vectors::sums;
 use crate::compare::call::{library, model, Call};
 use crate::compare::session::Session;
-use crate::model::image::{read, REFUSED_1, REFUSED_2};
+use crate::model::image::{self, read, REFUSED_1, REFUSED_2};
 use crate::model::journal::Entry;
+use crate::model::program;
 use std::collections::BTreeSet;
 use std::path::Path;
 
@@ -48,10 +51,16 @@ fn both_answer(answer: u64, image: &[u8], call: &Call, written: Entry) {
 
 #[test]
 fn damaged_images_are_answered() {
-    let image = file("image-favour.img");
+    for name in ["image-favour", "image-stream"] {
+        damaged(name);
+    }
+}
+
+fn damaged(name: &str) {
+    let image = file(&format!("{name}.img"));
     assert!(read(&image).is_ok(), "the image itself is sound");
     let mut met = BTreeSet::new();
-    for [offset, value, answer] in numbers("image-favour.damage") {
+    for [offset, value, answer] in numbers(&format!("{name}.damage")) {
         let (mut damaged, value) = (image.clone(), u8::try_from(value).expect("a byte"));
         assert_ne!(damaged[offset as usize], value, "no damage at {offset}");
         damaged[offset as usize] = value;
@@ -80,4 +89,29 @@ fn places_are_answered() {
         met.insert(answer == REFUSED_2);
     }
     assert_eq!(met, BTreeSet::from([false, true]));
+}
+
+/// The library and the model go through sessions on boards that no calls lead
+/// to, with counts out of the order of the waiting line.
+#[test]
+fn sessions_from_an_image_are_answered() {
+    for name in ["odd-1", "odd-2"] {
+        let [start, input] = ["img", "in"].map(|ending| file(&format!("{name}.{ending}")));
+        let [host, journal] = ["host", "journal"].map(|ending| file(&format!("{name}.{ending}")));
+        let mut board = read(&start).expect("a sound image");
+        assert!(!board
+            .waiting
+            .is_sorted_by(|&a, &b| board.count(a) >= board.count(b)));
+        for side in [model, library] {
+            let sums = sums(start.clone(), &input, side);
+            assert!(sums.as_bytes() == host, "{name}");
+        }
+        let mut written = Vec::new();
+        for line in program::requests(&input) {
+            let (after, lines) = image::step(&board, line);
+            written.extend(lines.iter().flat_map(Entry::bytes));
+            board = after;
+        }
+        assert!(written == journal, "{name}");
+    }
 }

@@ -9,16 +9,10 @@
 //! than itself counts as such a leave, and "a wait now also ends with its own
 //! cancel".
 
+use super::lists::{lists, List};
 use super::{calls, seed};
-use crate::compare::call::{library, model, Call, Outcome};
 use crate::compare::counters::Counters;
-use crate::compare::session::Session;
-use crate::generate::lines::text;
 use crate::generate::random::Random;
-use crate::generate::sessions::{Cast, Profile, PROFILES};
-use crate::model::board::Board;
-use crate::model::image::{self, REFUSED_2};
-use crate::model::journal::LINE;
 use std::collections::BTreeSet;
 
 struct Favoured {
@@ -27,6 +21,8 @@ struct Favoured {
     number: usize,
     /// Accepted leaves, and cancels of other admitted programs, after that call.
     leaves: usize,
+    /// Whether that call was an enter, as 02 has it.
+    by_enter: bool,
 }
 
 /// What the list and the journal tell up to a call.
@@ -53,19 +49,25 @@ impl Told {
             match word {
                 "GIVEN" => self.given(p, met),
                 "ADMIT" => drop(self.admitted.insert(p)),
-                _ => self.favours(p, word),
+                _ => {
+                    assert_eq!(word, "FAVOUR");
+                    self.favours(p, lines[0].0 == "HELD", met);
+                }
             }
         }
     }
 
-    fn favours(&mut self, program: usize, word: &str) {
-        assert_eq!(word, "FAVOUR");
+    fn favours(&mut self, program: usize, by_enter: bool, met: &mut Counters) {
         assert!(self.favoured.is_none(), "two favoured programs");
         let (number, leaves) = (self.admitted.len(), 0);
+        if by_enter {
+            met.add("favoured by an enter");
+        }
         self.favoured = Some(Favoured {
             program,
             number,
             leaves,
+            by_enter,
         });
     }
 
@@ -101,11 +103,13 @@ impl Told {
     fn given(&mut self, p: usize, met: &mut Counters) {
         assert!(self.waiting.remove(&p), "{p} does not wait");
         if let Some(favoured) = self.favoured.take_if(|favoured| favoured.program == p) {
-            met.add(if favoured.leaves + 1 == favoured.number {
-                "file at the latest"
-            } else {
-                "file before"
-            });
+            met.add(
+                match (favoured.leaves + 1 == favoured.number, favoured.by_enter) {
+                    (true, true) => "file at the latest, favoured by an enter",
+                    (true, false) => "file at the latest",
+                    (false, _) => "file before",
+                },
+            );
         }
     }
 
@@ -118,6 +122,7 @@ impl Told {
             program,
             number,
             leaves,
+            ..
         } = *favoured;
         assert!(self.waiting.contains(&program), "{program} waits");
         assert_eq!(leaves + self.admitted.len(), number, "the sum");
@@ -128,57 +133,30 @@ impl Told {
     }
 }
 
-/// The words and programs of the lines that a call has written from place 0 on.
-fn lines(outcome: &Outcome) -> Vec<(&str, usize)> {
-    assert!(outcome.answer < REFUSED_2, "a refused board");
-    let text = |bytes| std::str::from_utf8(bytes).expect("plain text").trim();
-    let program = |bytes| text(bytes).parse().expect("a program");
-    let written = outcome.journal[..outcome.answer as usize].chunks(LINE);
-    written
-        .map(|line| (text(&line[..6]), program(&line[6..9])))
-        .collect()
-}
-
-/// A random list of request lines, made with an eye on the model's board.
-fn list(profile: &Profile, random: &mut Random) -> Vec<Vec<u8>> {
-    let (cast, mut board) = (Cast::new(profile, random), Board::EMPTY);
-    let mut next = |at| {
-        let line = text(&cast.request(&board, at, random), random);
-        board = image::step(&board, &line).0;
-        line
-    };
-    (0..profile.length).map(&mut next).collect()
-}
-
-/// Makes the calls of a list on one side, and holds each journal to the promise.
-fn keep_promise(list: &[Vec<u8>], side: fn(&[u8], &Call) -> Outcome, met: &mut Counters) {
-    let (mut told, mut image) = (Told::default(), Session::empty().start);
-    for request in list {
-        let outcome = side(&image, &Call::plain(request));
-        told.take(request, &lines(&outcome), met);
+/// Makes the calls of a list, and holds each journal to the promise.
+fn keep_promise(list: &List, met: &mut Counters) {
+    let mut told = Told::default();
+    list.each(|request, lines, outcome| {
+        told.take(request, lines, met);
         told.check();
         let order = &outcome.order[0];
         let named = &order.buffer[..order.answer as usize];
         let named: BTreeSet<usize> = named.iter().map(|&p| p.into()).collect();
         assert_eq!(named, told.admitted, "the programs of the order");
-        met.calls += 1;
-        image = outcome.image;
-    }
+    });
+    met.calls += list.len();
 }
 
 #[test]
 fn favoured_programs_wait_no_longer_than_promised() {
     let mut random = Random::new(seed() ^ 0x1234);
-    let (mut met, mut round) = (Counters::default(), 0);
-    while met.calls < calls() / 2 {
-        let list = list(&PROFILES[round % PROFILES.len()], &mut random);
-        for side in [model, library] {
-            keep_promise(&list, side, &mut met);
-        }
-        round += 1;
-    }
+    let mut met = Counters::default();
+    lists(calls() / 2, &mut random, |list| {
+        keep_promise(&list, &mut met)
+    });
     met.print("favoured programs");
     met.assert_met(&[
+        "favoured by an enter",
         "leave while favoured",
         "cancel of another waiter",
         "cancel of a held one",
@@ -186,5 +164,6 @@ fn favoured_programs_wait_no_longer_than_promised() {
         "own cancel",
         "file before",
         "file at the latest",
+        "file at the latest, favoured by an enter",
     ]);
 }

@@ -2,7 +2,7 @@
 //! alone where that can be.
 
 use super::{calls, seed};
-use crate::compare::counters::{Counters, CANCELS};
+use crate::compare::counters::{Counters, BEHIND_A_LOWER, CANCELS, COUNTS};
 use crate::compare::session::Session;
 use crate::generate::images::{pool, DAMAGES};
 use crate::generate::lines;
@@ -45,6 +45,8 @@ const ALONE: &[Fault] = &[
     Fault::LeavesWithoutFavoured,
     Fault::SumWrong,
     Fault::NumberAbove32,
+    Fault::CountAbove8,
+    Fault::CountOfNoWaiter,
 ];
 
 #[test]
@@ -71,6 +73,8 @@ fn damaged_images_agree() {
     assert!(met.get("Conflict with NoOrder") > 0);
     assert!(met.get("sound") > 0);
     met.assert_met(&CANCELS);
+    met.assert_met(&COUNTS);
+    met.assert_met(&[BEHIND_A_LOWER]);
 }
 
 /// Counts what is wrong with an image.

@@ -3,12 +3,15 @@
 mod bytes;
 mod cancels;
 mod chosen;
+mod counts;
 mod direct;
 mod entry_vectors;
 mod favoured;
 mod image_files;
 mod images;
 mod journals;
+mod lists;
+mod passed;
 mod plan;
 mod program;
 mod refusals;
@@ -16,10 +19,13 @@ mod sessions;
 mod show;
 mod small_scope;
 mod survives;
+mod told;
 mod vectors;
 mod writer;
 mod writer_vectors;
 mod written_lines;
+
+use std::path::Path;
 
 fn number(name: &str, default: u64) -> u64 {
     match std::env::var(name) {
@@ -39,4 +45,14 @@ fn seed() -> u64 {
 /// Calls of the sessions; the other tests take a share of it.
 fn calls() -> u64 {
     number("LOCK_BOARD_LINES", 200_000)
+}
+
+/// A file has the bytes that the model has for it. LOCK_BOARD_WRITE=1 writes
+/// such files anew.
+fn of_the_model(file: &Path, bytes: &[u8]) {
+    if std::env::var_os("LOCK_BOARD_WRITE").is_some() {
+        std::fs::write(file, bytes).expect("the file is written");
+    }
+    let found = std::fs::read(file).unwrap_or_default();
+    assert!(found == bytes, "{} is not the model's", file.display());
 }

@@ -3,7 +3,7 @@
 use super::plan::emptied;
 use super::{calls, seed};
 use crate::compare::call::Call;
-use crate::compare::counters::{Counters, CANCELS};
+use crate::compare::counters::{Counters, BEHIND_A_LOWER, CANCELS, COUNTS};
 use crate::compare::session::Session;
 use crate::generate::lines;
 use crate::generate::random::Random;
@@ -64,6 +64,8 @@ fn assert_all_met(met: &Counters) {
     met.assert_met(&words);
     met.assert_met(MET);
     met.assert_met(&CANCELS);
+    met.assert_met(&COUNTS);
+    assert_eq!(met.get(BEHIND_A_LOWER), 0);
     for number in (2..=7).chain(9..=16).chain([18]) {
         assert!(
             met.get(&format!("refusal {number}")) > 0,
@@ -72,6 +74,7 @@ fn assert_all_met(met: &Counters) {
     }
     assert_eq!(met.get("refusal 1"), 0);
     assert_eq!(met.get_most("admitted"), 32);
+    assert_eq!(met.get_most("count"), 8);
     assert_eq!(met.get_most("lines of one call"), 32);
 }
 

@@ -4,7 +4,7 @@
 use super::chosen;
 use crate::expected::phrases::users;
 use crate::expected::show::{dot, edges, show};
-use crate::model::board::{only, Board, Files, Program, Standing};
+use crate::model::board::{only, Board, Files, Program, Standing, MOST_PASSES};
 use crate::model::image;
 use crate::running::whole::{file, run};
 use crate::running::{built, HOSTS};
@@ -84,6 +84,12 @@ fn met(board: &Board) -> Vec<&'static str> {
             [_] => "a reader has the file",
             _ => "several readers have the file",
         });
+        met.push(match board.count(p) {
+            0 => "passed by nobody",
+            1 => "passed by one",
+            MOST_PASSES => "passed by as many as may",
+            _ => "passed by several",
+        });
     }
     if board.waiting.len() > 1 && !board.waiting.is_sorted() {
         met.push("a waiting line out of number");
@@ -108,11 +114,15 @@ fn met(board: &Board) -> Vec<&'static str> {
     met
 }
 
-const TO_MEET: [&str; 11] = [
+const TO_MEET: [&str; 15] = [
     "no order would be left",
     "a writer has the file",
     "a reader has the file",
     "several readers have the file",
+    "passed by nobody",
+    "passed by one",
+    "passed by several",
+    "passed by as many as may",
     "a waiting line out of number",
     "an entry line out of number",
     "leaves counted",
@@ -238,6 +248,10 @@ fn same_views(viewed: &lock_board::Board, board: &Board) {
         assert_eq!(program.number, p);
         assert!(same_program(&program, board.get(p.into())));
         assert_eq!(program.is_admitted(), board.get(p.into()).admitted());
+        assert_eq!(
+            viewed.passed(p).map(usize::from),
+            Some(board.count(p.into()))
+        );
     }
     assert_eq!((viewed.program(0), viewed.program(33)), (None, None));
     let entered = board.which(|program| program.standing != Standing::Absent);

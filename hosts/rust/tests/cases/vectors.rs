@@ -1,10 +1,16 @@
 //! The model replays the vectors: the program's output with its order, and the
 //! host entry's answers, images and journals. The library replays them too.
+//!
+//! When a rule or the image has changed, this writes what the sets expect anew,
+//! by the model alone; `git diff` shows which have changed:
+//!
+//!     LOCK_BOARD_WRITE=1 cargo test --release vectors_agree_with_the_model
 
+use super::of_the_model;
 use crate::compare::call::{library, model, Call, Outcome};
 use crate::compare::session::Session;
 use crate::model::program;
-use std::path::{Path, PathBuf};
+use std::path::PathBuf;
 
 fn data() -> PathBuf {
     PathBuf::from(env!("CARGO_MANIFEST_DIR")).join("../../crates/vectors/data")
@@ -38,28 +44,26 @@ fn every_vector_is_listed() {
 fn vectors_agree_with_the_model() {
     for input in names() {
         let text = std::fs::read(&input).unwrap();
-        let expected = std::fs::read(input.with_extension("out")).unwrap();
-        assert!(program::output(&text) == expected, "{}", input.display());
-        same_sums(&input, model);
+        of_the_model(&input.with_extension("out"), &program::output(&text));
+        let sums = sums(Session::empty().start, &text, model);
+        of_the_model(&input.with_extension("host"), sums.as_bytes());
     }
 }
 
 #[test]
 fn vectors_agree_with_the_library() {
     for input in names() {
-        same_sums(&input, library);
+        let text = std::fs::read(&input).unwrap();
+        let expected = std::fs::read_to_string(input.with_extension("host")).unwrap();
+        let sums = sums(Session::empty().start, &text, library);
+        assert!(sums == expected, "{}", input.display());
     }
 }
 
-fn same_sums(input: &Path, host: fn(&[u8], &Call) -> Outcome) {
-    let text = std::fs::read(input).unwrap();
-    let expected = std::fs::read_to_string(input.with_extension("host")).unwrap();
-    assert!(sums(&text, host) == expected, "{}", input.display());
-}
-
-/// The lines of NAME.host: answer, sum of the image, sum of the journal.
-fn sums(input: &[u8], host: fn(&[u8], &Call) -> Outcome) -> String {
-    let (mut image, mut text) = (Session::empty().start, String::new());
+/// The lines of NAME.host, from an image on: answer, sum of the image, sum of
+/// the journal.
+pub fn sums(mut image: Vec<u8>, input: &[u8], host: fn(&[u8], &Call) -> Outcome) -> String {
+    let mut text = String::new();
     for line in program::requests(input) {
         let call = Call {
             line: line.to_vec(),

@@ -1,9 +1,10 @@
 //! What the sessions have met: words, refusals, settlings, states.
 
 use super::call::{Call, Outcome};
-use crate::model::board::{Board, Standing};
+use crate::model::board::{Board, Standing, MOST_PASSES};
 use crate::model::image::{REFUSED_1, REFUSED_2};
 use crate::model::journal::{Word, LINE};
+use crate::model::settle::awaited;
 use std::collections::BTreeMap;
 
 /// What cancels meet and do, of those that `answer` and `boards` count.
@@ -19,6 +20,22 @@ pub const CANCELS: [&str; 10] = [
     "cancel that favours another",
     "cancel that admits",
 ];
+
+/// What the waiters' counts lead to, of what `boards` counts.
+pub const COUNTS: [&str; 8] = [
+    "enter favours",
+    "enter favours, file free",
+    "settling favours by a count",
+    "settling admits, then favours",
+    "favoured beside another 8",
+    "8, and nobody to admit",
+    "count ended by GIVEN",
+    "count ended by a cancel",
+];
+
+/// What `boards` counts besides, met only after boards that no calls lead to:
+/// else no count is higher than that of an older waiter.
+pub const BEHIND_A_LOWER: &str = "favoured behind a lower count";
 
 #[derive(Default)]
 pub struct Counters {
@@ -76,7 +93,11 @@ impl Counters {
         self.most("lines of one call", lines.len());
     }
 
+    /// Counts what settling has written after DONE.
     fn settling(&mut self, lines: &[&[u8]]) {
+        if !lines[0].starts_with(Word::Done.text()) {
+            return;
+        }
         let of = |word: Word| {
             lines[1..]
                 .iter()
@@ -109,6 +130,7 @@ impl Counters {
         if let Some(p) = cancelled {
             self.cancel(p, before, after);
         }
+        self.passed(before, after);
         let left = cancelled.is_none() && before.admitted().len() > after.admitted().len();
         for (met, name) in [
             (left && after.leaves > before.leaves, "leave counted"),
@@ -148,6 +170,58 @@ impl Counters {
             (before.entry.iter().any(runs), "cancel that admits"),
             (favours && !own, "cancel that favours"),
             (favours && own, "cancel that favours another"),
+        ] {
+            if met {
+                self.add(name);
+            }
+        }
+    }
+
+    /// Counts what the waiters' counts have come to.
+    fn passed(&mut self, before: &Board, after: &Board) {
+        let runs = |p: &usize| after.get(*p).standing == Standing::Running;
+        let gone = |p: &usize| after.get(*p).standing == Standing::Absent;
+        let passed: Vec<usize> = (after.waiting.iter().copied())
+            .filter(|&p| after.count(p) == MOST_PASSES)
+            .collect();
+        let most = after.waiting.iter().map(|&p| after.count(p)).max();
+        self.most("count", most.unwrap_or(0));
+        let had: Vec<usize> = (before.waiting.iter().copied())
+            .filter(|&p| before.count(p) > 0)
+            .collect();
+        let fewer = after.admitted().len() < before.admitted().len();
+        let nobody = before.favoured == 0 && after.favoured == 0;
+        for (met, name) in [
+            (had.iter().any(runs), "count ended by GIVEN"),
+            (had.iter().any(gone), "count ended by a cancel"),
+            (
+                nobody && fewer && !passed.is_empty(),
+                "8, and nobody to admit",
+            ),
+        ] {
+            if met {
+                self.add(name);
+            }
+        }
+        if after.favoured != 0 && after.favoured != before.favoured {
+            self.favoured(&passed, before, after);
+        }
+    }
+
+    /// Counts by what a program has become favoured, with these waiters at 8.
+    fn favoured(&mut self, passed: &[usize], before: &Board, after: &Board) {
+        let p = after.favoured;
+        let free = !after.conflicting_use(p, awaited(after, p));
+        let enter = after.entry.len() > before.entry.len();
+        let admits = after.entry.len() < before.entry.len() && !free;
+        let lower = after.count(after.waiting[0]) < MOST_PASSES;
+        for (met, name) in [
+            (enter, "enter favours"),
+            (enter && free, "enter favours, file free"),
+            (!enter && !free && !admits, "settling favours by a count"),
+            (admits, "settling admits, then favours"),
+            (!free && passed.len() > 1, "favoured beside another 8"),
+            (!free && lower, BEHIND_A_LOWER),
         ] {
             if met {
                 self.add(name);

@@ -45,7 +45,9 @@ fn start(bytes: &[u8]) -> String {
 /// What an image's byte belongs to.
 pub fn name(at: usize) -> String {
     match at {
-        image::LEAVES.. => format!("leaves + {}", at - image::LEAVES),
+        image::LENGTH.. => format!("end + {}", at - image::LENGTH),
+        image::COUNTS.. => format!("count of program {}", at - image::COUNTS + 1),
+        image::LEAVES => "leaves".into(),
         image::NUMBER => "number at favouring".into(),
         image::FAVOURED => "favoured".into(),
         image::ENTRY_LINE.. => format!("entry line {}", at - image::ENTRY_LINE + 1),

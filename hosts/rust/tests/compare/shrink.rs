@@ -80,6 +80,7 @@ fn drop_programs(session: &mut Session) {
         for less in [1, 0] {
             keep(session, |changed| {
                 changed.start[whole.clone()].fill(0);
+                changed.start[image::COUNTS + usize::from(p) - 1] = 0;
                 for line in [image::WAITING_LINE, image::ENTRY_LINE] {
                     let names = &mut changed.start[line..line + 32];
                     if let Some(at) = names.iter().position(|&name| name == p) {

@@ -1,7 +1,7 @@
 //! The text of --show and of --dot.
 
 use super::phrases::{files, open, programs, users, uses, wait, Labels};
-use crate::model::board::{Board, Files, Standing, PROGRAMS};
+use crate::model::board::{Board, Files, Standing, MOST_PASSES, PROGRAMS};
 use crate::model::order;
 use crate::model::settle::awaited;
 
@@ -60,7 +60,8 @@ fn waiter(board: &Board, p: usize) -> String {
         assert!(!holders.is_empty(), "nobody holds back program {p}");
         text += &format!("; held back by {}", holders.join(", "));
     }
-    text
+    let count = board.count(p);
+    text + &format!("; passed by {count} of at most {MOST_PASSES} programs")
 }
 
 /// "It gets its file at the latest with the leave that brings those leaves to that number less one";

@@ -7,7 +7,7 @@
 use super::lines::text;
 use super::random::Random;
 use super::sessions::{Cast, PROFILES};
-use crate::model::board::{members, only, Board, Standing};
+use crate::model::board::{members, only, Board, Standing, MOST_PASSES, PROGRAMS};
 use crate::model::image::{self, *};
 use crate::model::settle::{awaited, would_give};
 
@@ -59,6 +59,9 @@ pub const DAMAGES: &[Damage] = &[
     number,
     leaves,
     number_and_leaves,
+    count_above_8,
+    count_of_no_waiter,
+    other_counts,
     still_sound,
 ];
 
@@ -82,7 +85,7 @@ fn set_byte(image: &mut Vec<u8>, _: &Board, random: &mut Random) {
 }
 
 fn wrong_length(image: &mut Vec<u8>, _: &Board, random: &mut Random) {
-    const LENGTHS: [usize; 12] = [0, 1, 33, 34, 1087, 1088, 1152, 1154, 1156, 1157, 1189, 2310];
+    const LENGTHS: [usize; 12] = [0, 1, 33, 34, 1088, 1154, 1155, 1156, 1186, 1188, 1221, 2374];
     let len = if random.per_mille(500) {
         LENGTHS[random.below(LENGTHS.len())]
     } else {
@@ -234,7 +237,7 @@ fn give_anyway(image: &mut Vec<u8>, board: &Board, random: &mut Random) {
     if let Some(p) = random.pick(&board.waiting) {
         let mut board = board.with_given(p, awaited(board, p));
         board.get_mut(p).standing = Standing::Running;
-        board.waiting.retain(|&other| other != p);
+        board.end_wait(p);
         *image = image::write(&board);
     }
 }
@@ -282,7 +285,7 @@ fn other_favoured(image: &mut Vec<u8>, board: &Board, random: &mut Random) {
 }
 
 fn nobody_favoured(image: &mut Vec<u8>, _: &Board, _: &mut Random) {
-    image[FAVOURED..].fill(0);
+    image[FAVOURED..COUNTS].fill(0);
 }
 
 fn number(image: &mut Vec<u8>, _: &Board, random: &mut Random) {
@@ -299,6 +302,26 @@ fn number_and_leaves(image: &mut Vec<u8>, board: &Board, random: &mut Random) {
     let more = random.below(highest + 1 - board.number.min(highest)) as u8;
     image[NUMBER] = image[NUMBER].wrapping_add(more);
     image[LEAVES] = image[LEAVES].wrapping_add(more);
+}
+
+fn count_above_8(image: &mut Vec<u8>, board: &Board, random: &mut Random) {
+    if let Some(p) = random.pick(&board.waiting) {
+        image[COUNTS + p - 1] = byte(random, MOST_PASSES + 1);
+    }
+}
+
+/// A count of a program that runs, is held or is absent; in many cases one that
+/// a waiter could have.
+fn count_of_no_waiter(image: &mut Vec<u8>, _: &Board, random: &mut Random) {
+    image[COUNTS + random.below(PROGRAMS)] = random.within(1, MOST_PASSES) as u8;
+}
+
+/// No damage: other counts of the waiters, many of them 8, in any sequence.
+fn other_counts(image: &mut Vec<u8>, board: &Board, random: &mut Random) {
+    for &p in &board.waiting {
+        let low = random.below(2) * MOST_PASSES;
+        image[COUNTS + p - 1] = random.within(low, MOST_PASSES) as u8;
+    }
 }
 
 /// No damage: the lines in another sequence.

@@ -1,15 +1,20 @@
-//! Sessions with a plan: many programs given at once, and many admitted at
-//! once. Programs, files and sizes are random.
+//! Sessions with a plan: many programs given at once, many admitted at once,
+//! and waiters that many pass. Programs, files and sizes are random.
 
 use super::random::Random;
 use crate::model::board::{only, Files};
 use crate::model::events::Request;
 
-pub const SCRIPTS: [fn(&mut Random) -> Vec<Request>; 4] = [
+pub type Script = fn(&mut Random) -> Vec<Request>;
+
+pub const SCRIPTS: [Script; 7] = [
     readers_behind_writer,
     readers_behind_waiter,
     held_behind_favoured,
     held_behind_cancelled,
+    writers_behind_a_stream,
+    held_beside_a_waiter,
+    many_beside_a_waiter,
 ];
 
 /// How many programs take part; in many cases all.
@@ -86,8 +91,7 @@ struct Held {
     held: Vec<usize>,
 }
 
-fn held(random: &mut Random) -> Held {
-    let (programs, files) = (random.shuffled(32), random.shuffled(64));
+fn held(programs: &[usize], files: &[usize], random: &mut Random) -> Held {
     let (user, favoured) = (programs[0], programs[1]);
     let (a, b, c) = (files[0], files[1], files[2]);
     let mut requests = vec![
@@ -98,7 +102,7 @@ fn held(random: &mut Random) -> Held {
         Request::Open { p: favoured, f: b },
         Request::Close { p: user, f: c },
     ];
-    let held = programs[2..up_to_all(random)].to_vec();
+    let held = programs[2..up_to_all(random).min(programs.len())].to_vec();
     for &p in &held {
         requests.push(writer(p, only(files[random.within(0, 8)])));
     }
@@ -113,7 +117,7 @@ fn held(random: &mut Random) -> Held {
 /// The leave of the one that writes gives the favoured one its file, and the
 /// held are admitted together.
 fn held_behind_favoured(random: &mut Random) -> Vec<Request> {
-    let mut script = held(random);
+    let mut script = held(&random.shuffled(32), &random.shuffled(64), random);
     script.requests.push(Request::Leave { p: script.user });
     script.requests.extend(leave_all(&script.held));
     script.requests
@@ -122,11 +126,68 @@ fn held_behind_favoured(random: &mut Random) -> Vec<Request> {
 /// Some of the held are cancelled; the cancel of the favoured one admits the
 /// rest together.
 fn held_behind_cancelled(random: &mut Random) -> Vec<Request> {
-    let mut script = held(random);
+    let mut script = held(&random.shuffled(32), &random.shuffled(64), random);
     let cancelled = cancel_some(&script.held, random);
     script.requests.extend(cancelled);
     let p = script.favoured;
     script.requests.push(Request::Cancel { p });
     script.requests.extend(leave_all(&script.held));
     script.requests
+}
+
+/// Writers wait while overlapping readers come and go, until the oldest writer
+/// is favoured in place of the next reader; then all leave.
+fn writers_behind_a_stream(random: &mut Random) -> Vec<Request> {
+    let (programs, f) = (random.shuffled(32), random.within(1, 64));
+    let several = random.below(2) * random.within(1, 3);
+    let (writers, readers) = programs.split_at(1 + several);
+    let mut requests = open_all(&readers[..1], f);
+    requests.extend(writers.iter().map(|&p| writer(p, only(f))));
+    requests.extend(writers.iter().map(|&p| Request::Open { p, f }));
+    let overlaps = readers.windows(2).take(random.within(7, 12));
+    for pair in overlaps {
+        requests.extend(open_all(&pair[1..], f));
+        requests.push(Request::Leave { p: pair[0] });
+    }
+    requests.extend(leave_all(readers));
+    requests.extend(leave_all(writers));
+    requests
+}
+
+/// The held ones are admitted until they have passed another waiter, which waits
+/// for a file that is read; with its reader's leave the rest are admitted.
+fn held_beside_a_waiter(random: &mut Random) -> Vec<Request> {
+    let (programs, files) = (random.shuffled(32), random.shuffled(64));
+    let (reader, p, f) = (programs[0], programs[1], files[63]);
+    let mut requests = open_all(&[reader], f);
+    requests.extend([writer(p, only(f)), Request::Open { p, f }]);
+    let script = held(&programs[2..], &files, random);
+    requests.extend(script.requests);
+    requests.push(Request::Leave { p: script.user });
+    requests.push(Request::Leave { p: reader });
+    requests.extend(leave_all(&script.held));
+    requests
+}
+
+/// Many enter beside a program that waits for want of an order, until it is
+/// favoured in place of the next one. With the leave of the other program that
+/// claims its file it gets that file.
+fn many_beside_a_waiter(random: &mut Random) -> Vec<Request> {
+    let (programs, files) = (random.shuffled(32), random.shuffled(64));
+    let (user, p, others) = (programs[0], programs[1], &programs[2..up_to_all(random)]);
+    let (a, b) = (files[0], files[1]);
+    let mut requests = vec![
+        writer(user, only(a) | only(b)),
+        writer(p, only(a) | only(b)),
+        Request::Open { p: user, f: a },
+        Request::Open { p, f: b },
+    ];
+    requests.extend(
+        others
+            .iter()
+            .map(|&p| writer(p, only(files[random.within(0, 8)]))),
+    );
+    requests.push(Request::Leave { p: user });
+    requests.extend(leave_all(others));
+    requests
 }

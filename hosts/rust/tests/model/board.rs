@@ -1,8 +1,11 @@
 //! "Programs and files": standings, claims, open files, conflict, holding
-//! back, and the board that keeps them with its two lines.
+//! back, and the board that keeps them with its two lines and the waiters'
+//! counts of document 02.
 
 pub const PROGRAMS: usize = 32;
 pub const FILES: usize = 64;
+/// "No waiter has been passed by more than 8 admissions."
+pub const MOST_PASSES: usize = 8;
 
 /// A set of files; file 1 is the lowest bit.
 pub type Files = u64;
@@ -83,6 +86,7 @@ pub struct Board {
     pub favoured: usize,
     pub number: usize,
     pub leaves: usize,
+    counts: [usize; PROGRAMS],
 }
 
 impl Board {
@@ -93,6 +97,7 @@ impl Board {
         favoured: 0,
         number: 0,
         leaves: 0,
+        counts: [0; PROGRAMS],
     };
 
     pub fn get(&self, p: usize) -> &Program {
@@ -101,6 +106,16 @@ impl Board {
 
     pub fn get_mut(&mut self, p: usize) -> &mut Program {
         &mut self.programs[p - 1]
+    }
+
+    /// "Each waiting program now gets a count of its own, of programs admitted
+    /// since it began to wait; it is 0 for all others."
+    pub fn count(&self, p: usize) -> usize {
+        self.counts[p - 1]
+    }
+
+    pub fn count_mut(&mut self, p: usize) -> &mut usize {
+        &mut self.counts[p - 1]
     }
 
     /// The programs that pass a test, lowest first.
@@ -115,6 +130,12 @@ impl Board {
     /// "The last two are 0 when nobody is favoured."
     pub fn favour_nobody(&mut self) {
         (self.favoured, self.number, self.leaves) = (0, 0, 0);
+    }
+
+    /// A wait has ended: p stands in the line no more, and has no count.
+    pub fn end_wait(&mut self, p: usize) {
+        self.waiting.retain(|&other| other != p);
+        *self.count_mut(p) = 0;
     }
 
     /// Whether, with f given to p, another program and p would conflict.

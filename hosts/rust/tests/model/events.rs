@@ -3,7 +3,7 @@
 
 use super::board::{only, Board, Files, Program, Standing};
 use super::journal::{Entry, Word};
-use super::settle::{settle, would_give};
+use super::settle::{admit, favour_passed, settle, would_give};
 
 #[derive(Clone, Copy, PartialEq, Eq, Debug)]
 pub enum Request {
@@ -77,31 +77,31 @@ pub fn call(before: &Board, request: &Request) -> Result<(Board, Vec<Entry>), us
     }
     let mut board = before.clone();
     let lines = match *request {
-        Request::Enter { p, v, q } => vec![enter(&mut board, p, v, q)],
+        Request::Enter { p, v, q } => enter(&mut board, p, v, q),
         Request::Open { p, f } => vec![open(&mut board, p, f)],
         _ => release(&mut board, request),
     };
     Ok((board, lines))
 }
 
-fn enter(board: &mut Board, p: usize, v: Files, q: Files) -> Entry {
-    let held = board.favoured != 0;
-    let standing = if held {
-        Standing::Held
-    } else {
-        Standing::Running
-    };
+/// "With somebody favoured, p is held at the end of the entry line (HELD);
+/// otherwise running (ADMIT)." 02 has a waiter favoured here: "FAVOUR, after
+/// HELD .. This applies to enter and to settling".
+fn enter(board: &mut Board, p: usize, v: Files, q: Files) -> Vec<Entry> {
     *board.get_mut(p) = Program {
-        standing,
+        standing: Standing::Held,
         v,
         q,
         w: 0,
         r: 0,
     };
-    if held {
-        board.entry.push(p);
+    let favoured = favour_passed(board);
+    if board.favoured == 0 {
+        return vec![admit(board, p)];
     }
-    Entry::new(if held { Word::Held } else { Word::Admit }, p, 0)
+    board.entry.push(p);
+    let held = Entry::new(Word::Held, p, 0);
+    [held].into_iter().chain(favoured).collect()
 }
 
 fn open(board: &mut Board, p: usize, f: usize) -> Entry {
@@ -154,7 +154,7 @@ fn count_leave(board: &mut Board) {
 fn cancel(board: &mut Board, p: usize) {
     let admitted = board.get(p).admitted();
     *board.get_mut(p) = Program::ABSENT;
-    board.waiting.retain(|&other| other != p);
+    board.end_wait(p);
     board.entry.retain(|&other| other != p);
     if board.favoured == p {
         board.favour_nobody();

@@ -1,4 +1,4 @@
-//! "Image and hosts": the board as 1,155 bytes, and the C host's line call.
+//! "Image and hosts": the board as 1,187 bytes, and the C host's line call.
 
 use super::board::{Board, Program, Standing, FILES, PROGRAMS};
 use super::events;
@@ -7,7 +7,8 @@ use super::line;
 use super::order;
 use super::sound::{self, Fault};
 
-pub const LENGTH: usize = 1155;
+/// "The image gains 32 count bytes at its end, 1,187 in all".
+pub const LENGTH: usize = 1187;
 /// Bytes of one program, and where its fields begin in them.
 pub const PROGRAM: usize = 34;
 pub const V: usize = 0;
@@ -22,6 +23,7 @@ pub const ENTRY_LINE: usize = WAITING_LINE + 32;
 pub const FAVOURED: usize = ENTRY_LINE + 32;
 pub const NUMBER: usize = FAVOURED + 1;
 pub const LEAVES: usize = NUMBER + 1;
+pub const COUNTS: usize = LEAVES + 1;
 
 /// Answers for refusals: 2^64 less the number.
 pub const REFUSED_1: u64 = u64::MAX;
@@ -53,6 +55,7 @@ pub fn write(board: &Board) -> Vec<u8> {
         image.resize(end, 0);
     }
     image.extend([board.favoured as u8, board.number as u8, board.leaves as u8]);
+    image.extend((1..=PROGRAMS).map(|p| board.count(p) as u8));
     image
 }
 
@@ -75,6 +78,7 @@ pub fn layout(image: &[u8]) -> Result<(Board, Vec<Fault>), Vec<Fault>> {
     let (mut board, mut broken, mut gaps) = (Board::EMPTY, Vec::new(), Vec::new());
     for p in 1..=PROGRAMS {
         *board.get_mut(p) = program(&image[PROGRAM * (p - 1)..PROGRAM * p], &mut broken);
+        *board.count_mut(p) = usize::from(image[COUNTS + p - 1]);
     }
     board.waiting = names(
         &image[WAITING_LINE..ENTRY_LINE],

@@ -1,7 +1,7 @@
 //! A model of the lock board, written from the text of documents 01 and 02
 //! alone and kept apart from the library: it shares no code with it. Each module
-//! holds one part of 01, with what 02's second request, cancel, adds to it;
-//! `writer` has 02's first request, `rounds` its fourth.
+//! holds one part of 01, with what 02's second request, cancel, and its fifth,
+//! counts, add to it; `writer` has 02's first request, `rounds` its fourth.
 
 pub mod board;
 pub mod direct;

@@ -1,7 +1,8 @@
 //! "Settle": the waiting line gone through once, then favouring or the entry
-//! of the held programs.
+//! of the held programs; and document 02's admitting, of which enter makes use
+//! too.
 
-use super::board::{Board, Standing};
+use super::board::{Board, Standing, MOST_PASSES};
 use super::journal::{Entry, Word};
 use super::order;
 
@@ -34,7 +35,7 @@ fn give_waiters(board: &mut Board) -> Vec<Entry> {
         if would_give(board, p, f) {
             *board = board.with_given(p, f);
             board.get_mut(p).standing = Standing::Running;
-            board.waiting.retain(|&other| other != p);
+            board.end_wait(p);
             if board.favoured == p {
                 board.favour_nobody();
             }
@@ -45,18 +46,48 @@ fn give_waiters(board: &mut Board) -> Vec<Entry> {
 }
 
 /// With nobody favoured: the oldest waiter whose file is in no conflicting use
-/// becomes favoured; if there is none, all held programs run.
+/// becomes favoured; if there is none, the held programs run, in line order.
+/// "Admitting goes one program at a time."
 fn favour_or_admit(board: &mut Board) -> Vec<Entry> {
     let free = |p: &usize| !board.conflicting_use(*p, awaited(board, *p));
     if let Some(p) = board.waiting.iter().copied().find(free) {
-        (board.favoured, board.number, board.leaves) = (p, board.admitted().len(), 0);
-        return vec![Entry::new(Word::Favour, p, awaited(board, p))];
+        return vec![favour(board, p)];
     }
-    let held = std::mem::take(&mut board.entry);
-    for &p in &held {
-        board.get_mut(p).standing = Standing::Running;
+    let mut lines = Vec::new();
+    while let Some(&p) = board.entry.first() {
+        if let Some(favoured) = favour_passed(board) {
+            lines.push(favoured);
+            break;
+        }
+        board.entry.remove(0);
+        lines.push(admit(board, p));
     }
-    held.into_iter()
-        .map(|p| Entry::new(Word::Admit, p, 0))
-        .collect()
+    lines
+}
+
+/// Favoured "with the admitted number taken after this call and a leave count
+/// of 0".
+fn favour(board: &mut Board, p: usize) -> Entry {
+    (board.favoured, board.number, board.leaves) = (p, board.admitted().len(), 0);
+    Entry::new(Word::Favour, p, awaited(board, p))
+}
+
+/// "Before each, if nobody is favoured and some waiter's count is 8, nobody is
+/// admitted: the oldest such waiter is favoured .. and the rest stay held."
+pub fn favour_passed(board: &mut Board) -> Option<Entry> {
+    if board.favoured != 0 {
+        return None;
+    }
+    let passed = |p: &usize| board.count(*p) == MOST_PASSES;
+    let p = board.waiting.iter().copied().find(passed)?;
+    Some(favour(board, p))
+}
+
+/// A program runs, and each waiter has been passed by one more.
+pub fn admit(board: &mut Board, p: usize) -> Entry {
+    board.get_mut(p).standing = Standing::Running;
+    for waiter in board.waiting.clone() {
+        *board.count_mut(waiter) += 1;
+    }
+    Entry::new(Word::Admit, p, 0)
 }

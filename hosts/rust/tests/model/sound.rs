@@ -1,7 +1,7 @@
 //! "A sound board": every clause that a board breaks, each under its own name.
-//! The layout's faults stand in the same list.
+//! The layout's faults stand in the same list, and those of 02's counts.
 
-use super::board::{only, Board, Program, Standing};
+use super::board::{only, Board, Program, Standing, MOST_PASSES};
 use super::order;
 use super::settle::would_give;
 
@@ -44,6 +44,9 @@ pub enum Fault {
     LeavesWithoutFavoured,
     SumWrong,
     NumberAbove32,
+    // Counts.
+    CountAbove8,
+    CountOfNoWaiter,
 }
 
 /// The broken clauses of a board whose layout is right, save the gaps in its
@@ -68,10 +71,11 @@ pub fn faults(board: &Board) -> Vec<Fault> {
         sets(board.get(p), &mut found);
     }
     conflict_and_order(board, &mut found);
-    for p in waiting {
+    for &p in &waiting {
         waiter(board, p, &mut found);
     }
     favouring(board, &mut found);
+    counts(board, &waiting, &mut found);
     found.sort();
     found.dedup();
     found
@@ -155,4 +159,16 @@ fn favouring(board: &Board, found: &mut Vec<Fault>) {
     let sum = board.leaves + board.admitted().len();
     check(sum == board.number, Fault::SumWrong);
     check(board.number <= 32, Fault::NumberAbove32);
+}
+
+/// "A sound board has no count above 8, and 0 for all who aren't waiting."
+fn counts(board: &Board, waiting: &[usize], found: &mut Vec<Fault>) {
+    for p in board.which(|_| true) {
+        if board.count(p) > MOST_PASSES {
+            found.push(Fault::CountAbove8);
+        }
+        if board.count(p) != 0 && !waiting.contains(&p) {
+            found.push(Fault::CountOfNoWaiter);
+        }
+    }
 }
