@@ -9,9 +9,9 @@
 extern "C" {
 #endif
 
-#define LOCK_BOARD_VERSION "1.4.0" /* the image's form belongs to it; see CHANGELOG.md */
+#define LOCK_BOARD_VERSION "1.5.0" /* the image's form belongs to it; see CHANGELOG.md */
 
-#define LOCK_BOARD_IMAGE_LEN     1155 /* bytes of a board's image */
+#define LOCK_BOARD_IMAGE_LEN     1187 /* bytes of a board's image */
 #define LOCK_BOARD_JOURNAL_ROOM  512  /* bytes of journal that a call asks for from its place on */
 #define LOCK_BOARD_JOURNAL_LINE  16   /* bytes of a journal line, byte 10 among them */
 #define LOCK_BOARD_LONGEST_LINE  407  /* bytes of the longest request line in form */
@@ -20,6 +20,7 @@ extern "C" {
 #define LOCK_BOARD_PROGRAMS      32
 #define LOCK_BOARD_FILES         64
 #define LOCK_BOARD_LABEL_LEN     8 /* bytes of the label in an ENTER line */
+#define LOCK_BOARD_MOST_PASSED   8 /* programs that are admitted, at most, while one waits */
 
 /*
  * The answer for a refusal: 2^64 less its number. So the number of a refusal is
@@ -66,7 +67,9 @@ enum lock_board_refusal {
  * Program p, 1 to 32, has LOCK_BOARD_PROGRAM_LEN bytes from (p - 1) * LOCK_BOARD_PROGRAM_LEN
  * on; the six places after that one are counted from its first byte, the others from the
  * image's. A set of files has 8 bytes, lowest first, file 1 the lowest bit. A line has 32
- * bytes: the numbers of its programs, oldest first, then 0.
+ * bytes: the numbers of its programs, oldest first, then 0. Of the counts byte p - 1 is that
+ * of program p: how many programs were admitted since it began to wait, at most
+ * LOCK_BOARD_MOST_PASSED; 0 unless waiting.
  */
 #define LOCK_BOARD_PROGRAM_LEN  34
 #define LOCK_BOARD_WRITE_CLAIM  0    /* the set of files that it may write */
@@ -80,6 +83,7 @@ enum lock_board_refusal {
 #define LOCK_BOARD_FAVOURED     1152 /* one byte, the favoured program or 0 */
 #define LOCK_BOARD_AT_FAVOURING 1153 /* one byte, the number admitted when it was favoured */
 #define LOCK_BOARD_LEAVES       1154 /* one byte, the leaves since, cancels of waiters among them */
+#define LOCK_BOARD_PASSED       1155 /* 32 bytes, the programs' counts */
 
 enum lock_board_standing {
     LOCK_BOARD_ABSENT = 0,
@@ -124,7 +128,9 @@ uint64_t lock_board_empty(uint8_t *image, size_t image_len);
 /*
  * Serves one request line, handed over without its byte 10, on the board that
  * the image holds. Writes the journal lines, 1 to 32 of them, into the journal
- * from the place on, and answers the new place, after the last of them.
+ * from the place on, and answers the new place, after the last of them. The
+ * first is the answer; lines for other programs may follow: GIVEN, ADMIT and
+ * FAVOUR after DONE, FAVOUR after HELD.
  *
  * The image then holds the board after the call. After a refusal it has the
  * same bytes as before; refusals 3 to 16 and 18 write one REFUSE line. Journal

@@ -10,7 +10,8 @@ static uint64_t set_at(const uint8_t *bytes) {
     return set;
 }
 
-static struct program_view program_at(const uint8_t *bytes) {
+static struct program_view program_of(const uint8_t *image, int p) {
+    const uint8_t *bytes = image + (p - 1) * LOCK_BOARD_PROGRAM_LEN;
     struct program_view program;
     program.write_claim = set_at(bytes + LOCK_BOARD_WRITE_CLAIM);
     program.read_claim = set_at(bytes + LOCK_BOARD_READ_CLAIM);
@@ -18,13 +19,14 @@ static struct program_view program_at(const uint8_t *bytes) {
     program.read_open = set_at(bytes + LOCK_BOARD_READ_OPEN);
     program.standing = bytes[LOCK_BOARD_STANDING];
     program.awaited = bytes[LOCK_BOARD_AWAITED_FILE];
+    program.passed = image[LOCK_BOARD_PASSED + p - 1];
     return program;
 }
 
 void board_view_read(struct board_view *view, const uint8_t *image) {
     memset(view, 0, sizeof *view);
     for (int p = 1; p <= LOCK_BOARD_PROGRAMS; p++)
-        view->programs[p] = program_at(image + (p - 1) * LOCK_BOARD_PROGRAM_LEN);
+        view->programs[p] = program_of(image, p);
     memcpy(view->waiting_line, image + LOCK_BOARD_WAITING_LINE, LOCK_BOARD_PROGRAMS);
     memcpy(view->entry_line, image + LOCK_BOARD_ENTRY_LINE, LOCK_BOARD_PROGRAMS);
     view->favoured = image[LOCK_BOARD_FAVOURED];

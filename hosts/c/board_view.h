@@ -12,6 +12,7 @@ struct program_view {
     uint64_t write_open, read_open;
     int standing; /* of enum lock_board_standing */
     int awaited;  /* the file that it waits for, 0 unless waiting */
+    int passed;   /* how many programs were admitted since it began to wait, 0 unless waiting */
 };
 
 struct board_view {

@@ -162,15 +162,16 @@ static int replay(const char *in_path, const char *host_path) {
     return 0;
 }
 
-/* A call that must be refused with 1 or 2 and write nothing. */
-static void refused(size_t image_len, int standing, size_t journal_len, uint64_t place,
+/* A call on the empty board with one byte changed, which must be refused with 1 or 2 and write
+ * nothing. */
+static void refused(size_t image_len, int at, int byte, size_t journal_len, uint64_t place,
                     uint64_t answer) {
     static uint8_t image[LOCK_BOARD_IMAGE_LEN + 1], before[LOCK_BOARD_IMAGE_LEN + 1];
     static uint8_t journal[2 * LOCK_BOARD_JOURNAL_ROOM];
     const uint8_t line[] = "ENTER   1LABEL     0  0";
     memset(journal, FILL, sizeof journal);
     memset(image, 0, sizeof image);
-    image[32] = (uint8_t)standing;
+    image[at] = (uint8_t)byte;
     memcpy(before, image, sizeof image);
     if (lock_board_line(image, image_len, line, sizeof line - 1, journal, journal_len, place) !=
         answer)
@@ -187,16 +188,19 @@ static void refused(size_t image_len, int standing, size_t journal_len, uint64_t
 static int edges(void) {
     uint8_t image[LOCK_BOARD_IMAGE_LEN + 1];
     const uint64_t highest = LOCK_BOARD_HIGHEST_PLACE;
-    refused(LOCK_BOARD_IMAGE_LEN, 4, 512, 0, LOCK_BOARD_UNSOUND);
-    refused(LOCK_BOARD_IMAGE_LEN, 3, 512, 0, LOCK_BOARD_UNSOUND);
-    refused(LOCK_BOARD_IMAGE_LEN - 1, 0, 512, 0, LOCK_BOARD_UNSOUND);
-    refused(LOCK_BOARD_IMAGE_LEN + 1, 0, 512, 0, LOCK_BOARD_UNSOUND);
-    refused(0, 0, 0, UINT64_MAX, LOCK_BOARD_UNSOUND);
-    refused(LOCK_BOARD_IMAGE_LEN, 0, 0, 0, LOCK_BOARD_JOURNAL_FULL);
-    refused(LOCK_BOARD_IMAGE_LEN, 0, 511, 0, LOCK_BOARD_JOURNAL_FULL);
-    refused(LOCK_BOARD_IMAGE_LEN, 0, 1024, 513, LOCK_BOARD_JOURNAL_FULL);
-    refused(LOCK_BOARD_IMAGE_LEN, 0, 1024, highest + 1, LOCK_BOARD_JOURNAL_FULL);
-    refused(LOCK_BOARD_IMAGE_LEN, 0, 1024, UINT64_MAX, LOCK_BOARD_JOURNAL_FULL);
+    refused(LOCK_BOARD_IMAGE_LEN, 32, 4, 512, 0, LOCK_BOARD_UNSOUND);
+    refused(LOCK_BOARD_IMAGE_LEN, 32, 3, 512, 0, LOCK_BOARD_UNSOUND);
+    refused(LOCK_BOARD_IMAGE_LEN, 1155, 1, 512, 0, LOCK_BOARD_UNSOUND); /* counts of absent ones */
+    refused(LOCK_BOARD_IMAGE_LEN, 1186, 1, 512, 0, LOCK_BOARD_UNSOUND);
+    refused(1155, 0, 0, 512, 0, LOCK_BOARD_UNSOUND); /* an image without counts */
+    refused(LOCK_BOARD_IMAGE_LEN - 1, 0, 0, 512, 0, LOCK_BOARD_UNSOUND);
+    refused(LOCK_BOARD_IMAGE_LEN + 1, 0, 0, 512, 0, LOCK_BOARD_UNSOUND);
+    refused(0, 0, 0, 0, UINT64_MAX, LOCK_BOARD_UNSOUND);
+    refused(LOCK_BOARD_IMAGE_LEN, 0, 0, 0, 0, LOCK_BOARD_JOURNAL_FULL);
+    refused(LOCK_BOARD_IMAGE_LEN, 0, 0, 511, 0, LOCK_BOARD_JOURNAL_FULL);
+    refused(LOCK_BOARD_IMAGE_LEN, 0, 0, 1024, 513, LOCK_BOARD_JOURNAL_FULL);
+    refused(LOCK_BOARD_IMAGE_LEN, 0, 0, 1024, highest + 1, LOCK_BOARD_JOURNAL_FULL);
+    refused(LOCK_BOARD_IMAGE_LEN, 0, 0, 1024, UINT64_MAX, LOCK_BOARD_JOURNAL_FULL);
     memset(image, FILL, sizeof image);
     if (lock_board_empty(image, sizeof image) != LOCK_BOARD_UNSOUND)
         fail("an empty board for length", sizeof image);

@@ -1,5 +1,5 @@
-/* Tests that the names of lock_board.h for verbs, answers and refusals stand for what the board
- * answers. */
+/* Tests that the names of lock_board.h for verbs, answers, refusals and counts stand for what the
+ * board answers, and for what its image holds. */
 #include "lock_board.h"
 
 #include <stdio.h>
@@ -35,17 +35,46 @@ static void test_refused(const char *what, uint64_t answer, uint64_t name, int r
         fail(what);
 }
 
+static uint64_t serve(uint8_t *image, const char *request, uint8_t *journal) {
+    return lock_board_line(image, LOCK_BOARD_IMAGE_LEN, (const uint8_t *)request, strlen(request),
+                           journal, LOCK_BOARD_JOURNAL_ROOM, 0);
+}
+
 /* The REFUSE line of a cancel of a running program has the number of its name. */
 static void test_running(uint8_t *image, uint8_t *journal) {
-    static const char *const requests[] = {"ENTER   7LABEL     0  0", "CANCEL  7"};
     char number[4];
-    for (int i = 0; i < 2; i++)
-        lock_board_line(image, LOCK_BOARD_IMAGE_LEN, (const uint8_t *)requests[i],
-                        strlen(requests[i]), journal, LOCK_BOARD_JOURNAL_ROOM, 0);
+    serve(image, "ENTER   7LABEL     0  0", journal);
+    serve(image, "CANCEL  7", journal);
     snprintf(number, sizeof number, "%3d", LOCK_BOARD_REFUSAL_IS_RUNNING);
     if (memcmp(journal, "REFUSE  7  0", LOCK_BOARD_JOURNAL_REFUSAL) != 0 ||
         memcmp(journal + LOCK_BOARD_JOURNAL_REFUSAL, number, 3) != 0)
         fail("running");
+}
+
+/*
+ * A waiter's count stands at its place, its highest value is that of the name, and the other
+ * programs' counts are 0. Programs come and go while 31 waits for what 32 writes.
+ */
+static void test_passed(uint8_t *image, uint8_t *journal) {
+    static const char held[] = "HELD    1  0  0\nFAVOUR 31  1  0\n";
+    const size_t len = sizeof held - 1;
+    uint8_t counts[LOCK_BOARD_PROGRAMS] = {0};
+    lock_board_empty(image, LOCK_BOARD_IMAGE_LEN);
+    serve(image, "ENTER  32LABEL     1  0  1", journal);
+    serve(image, "ENTER  31LABEL     1  0  1", journal);
+    serve(image, "OPEN   32  1", journal);
+    serve(image, "OPEN   31  1", journal);
+    for (int passed = 1; passed <= LOCK_BOARD_MOST_PASSED; passed++) {
+        serve(image, "ENTER   1LABEL     0  0", journal);
+        serve(image, "LEAVE   1", journal);
+        counts[30] = (uint8_t)passed;
+        if (memcmp(image + LOCK_BOARD_PASSED, counts, sizeof counts) != 0)
+            fail("counts");
+    }
+    if (serve(image, "ENTER   1LABEL     0  0", journal) != len ||
+        memcmp(journal, held, len) != 0 || image[LOCK_BOARD_FAVOURED] != 31 ||
+        image[LOCK_BOARD_AT_FAVOURING] != 2)
+        fail("most passed");
 }
 
 int main(void) {
@@ -72,5 +101,6 @@ int main(void) {
                  lock_board_line(image, sizeof image, line, 0, journal, sizeof journal, 1),
                  LOCK_BOARD_JOURNAL_FULL, LOCK_BOARD_REFUSAL_JOURNAL_FULL, 2);
     test_running(image, journal);
+    test_passed(image, journal);
     return 0;
 }

@@ -16,6 +16,12 @@
 
 #define NO_FILE "this is no plain file; name that of an image, or a new one"
 
+/* Images of versions 1.0 to 1.4 had no counts. */
+#define OLD_IMAGE_LEN 1155
+static const char old_image[] =
+    ": it has the length of images of version 1.4 and before; empty its board with that version,"
+    " then begin with a new file (docs/OPERATING.md, \"From 1.4 to 1.5\")";
+
 /* The file that this process has taken. */
 static struct {
     char *path; /* as the user named it; NULL while there is none */
@@ -79,8 +85,8 @@ static int read_image(int folder, const char *name, const char *path, uint8_t *i
     if (len < 0)
         return -1;
     if (!is_sound(bytes, (size_t)len)) {
-        fprintf(stderr, "%s: refusal %d: %s\n", path, LOCK_BOARD_REFUSAL_NOT_SOUND,
-                refusal_words(LOCK_BOARD_REFUSAL_NOT_SOUND));
+        fprintf(stderr, "%s: refusal %d: %s%s\n", path, LOCK_BOARD_REFUSAL_NOT_SOUND,
+                refusal_words(LOCK_BOARD_REFUSAL_NOT_SOUND), len == OLD_IMAGE_LEN ? old_image : "");
         return -1;
     }
     memcpy(image, bytes, LOCK_BOARD_IMAGE_LEN);

@@ -70,6 +70,7 @@ static void say_holders(struct text *text, const struct board_view *view, int p)
     }
 }
 
+/* `program 2 waits for file 1, which program 3 reads; passed by 2 of at most 8 programs` */
 static void show_waiting(const struct board_view *view) {
     puts(view->waiting_line[0] ? "Waiting, oldest first:" : "Waiting: nobody");
     for (const uint8_t *p = view->waiting_line; *p; p++) {
@@ -78,6 +79,8 @@ static void show_waiting(const struct board_view *view) {
         say(&text, "  program %d ", *p);
         if (say_wait(&text, NULL, view, *p) == 0)
             say_holders(&text, view, *p);
+        say(&text, "; passed by %d of at most %d programs", view->programs[*p].passed,
+            LOCK_BOARD_MOST_PASSED);
         write_paragraph(bytes);
     }
 }

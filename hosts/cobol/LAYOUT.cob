@@ -23,6 +23,7 @@
            PERFORM TEST-WRITE
            PERFORM TEST-WRITE-REFUSALS
            PERFORM TEST-CANCEL
+           PERFORM TEST-PASSED
            PERFORM TEST-REFUSALS
            STOP RUN.
 
@@ -36,12 +37,7 @@
                    OR LINE-LEN NOT = LB-JOURNAL-LINE-LEN
                PERFORM FAIL
            END-IF
-           CALL STATIC "lock_board_empty" USING
-               BY REFERENCE LB-IMAGE BY VALUE SIZE AUTO LB-IMAGE-LEN
-               RETURNING LB-ANSWER
-           IF LB-ANSWER NOT = 0 OR NOT LB-ABSENT (32)
-               PERFORM FAIL
-           END-IF.
+           PERFORM ASK-EMPTY.
 
       * Program 1 writes 1, 2, 3; 2 writes 1, 2; 4 only reads 32.
        TEST-ENTER.
@@ -253,9 +249,7 @@
            MOVE "CANCEL" TO TESTED
            SET LB-CALL-CANCEL TO TRUE
            MOVE 2 TO LB-CALL-PROGRAM
-           PERFORM ASK-WRITE
-           MOVE LB-ANSWER TO LB-REQUEST-LEN
-           PERFORM ASK
+           PERFORM ASK-CALL
            IF LB-ANSWER NOT = 32
                    OR LB-COLUMNS (1) NOT = "DONE    2  0  0"
                    OR LB-COLUMNS (2) NOT = "ADMIT   3  0  0"
@@ -270,6 +264,69 @@
            PERFORM ASK
            MOVE LB-JNL-REFUSAL (1) TO LB-REFUSAL
            IF NOT LB-REFUSE (1) OR NOT LB-IS-RUNNING
+               PERFORM FAIL
+           END-IF.
+
+      * On an empty board 1 waits for the file that 2 writes. Eight
+      * others are admitted after it; the next one is held.
+       TEST-PASSED.
+           MOVE "counts" TO TESTED
+           PERFORM ASK-EMPTY
+           MOVE "PASSED" TO LB-CALL-LABEL
+           MOVE LB-FILE-BIT (1) TO LB-CALL-WRITABLE
+           MOVE 0 TO LB-CALL-READABLE
+           MOVE 1 TO LB-CALL-FILE
+           PERFORM VARYING I FROM 2 BY -1 UNTIL I < 1
+               MOVE I TO LB-CALL-PROGRAM
+               SET LB-CALL-ENTER TO TRUE
+               PERFORM ASK-CALL
+               SET LB-CALL-OPEN TO TRUE
+               PERFORM ASK-CALL
+           END-PERFORM
+           IF NOT LB-WAIT (1) OR LB-PASSED (1) NOT = 0
+               PERFORM FAIL
+           END-IF
+           SET LB-CALL-ENTER TO TRUE
+           PERFORM VARYING I FROM 1 BY 1 UNTIL I > LB-MOST-PASSED
+               COMPUTE LB-CALL-PROGRAM = I + 2
+               PERFORM ASK-CALL
+               IF NOT LB-ADMIT (1) OR LB-PASSED (1) NOT = I
+                   PERFORM FAIL
+               END-IF
+           END-PERFORM
+           MOVE 32 TO LB-CALL-PROGRAM
+           PERFORM ASK-CALL
+           IF LB-ANSWER NOT = 32
+                   OR LB-COLUMNS (1) NOT = "HELD   32  0  0"
+                   OR LB-COLUMNS (2) NOT = "FAVOUR  1  1  0"
+                   OR LB-FAVOURED NOT = 1 OR LB-AT-FAVOURING NOT = 10
+                   OR LB-PASSED (1) NOT = 8 OR LB-PASSED (32) NOT = 0
+               PERFORM FAIL
+           END-IF
+           PERFORM TEST-PASSED-ENDS.
+
+      * A count is 0 again when the wait ends. One above 8, or of a
+      * program that does not wait, is not sound.
+       TEST-PASSED-ENDS.
+           MOVE 9 TO LB-PASSED (1)
+           PERFORM ASK-ORDER
+           IF NOT LB-UNSOUND
+               PERFORM FAIL
+           END-IF
+           MOVE 8 TO LB-PASSED (1)
+           MOVE 1 TO LB-PASSED (32)
+           PERFORM ASK-ORDER
+           IF NOT LB-UNSOUND
+               PERFORM FAIL
+           END-IF
+           MOVE 0 TO LB-PASSED (32)
+           MOVE 2 TO LB-CALL-PROGRAM
+           SET LB-CALL-LEAVE TO TRUE
+           PERFORM ASK-CALL
+           IF LB-ANSWER NOT = 48
+                   OR LB-COLUMNS (2) NOT = "GIVEN   1  1  0"
+                   OR LB-COLUMNS (3) NOT = "ADMIT  32  0  0"
+                   OR LB-PASSED (1) NOT = 0
                PERFORM FAIL
            END-IF.
 
@@ -290,15 +347,23 @@
                PERFORM FAIL
            END-IF
            MOVE 512 TO LB-JOURNAL-LEN
-           MOVE 1154 TO LB-IMAGE-LEN
+           MOVE 1186 TO LB-IMAGE-LEN
            PERFORM ASK
            IF NOT LB-UNSOUND
                PERFORM FAIL
            END-IF
-      *    Its lower half is 1155: no half of a number is lost.
-           MOVE 4294968451 TO LB-IMAGE-LEN
+      *    Its lower half is 1187: no half of a number is lost.
+           MOVE 4294968483 TO LB-IMAGE-LEN
            PERFORM ASK
            IF NOT LB-UNSOUND
+               PERFORM FAIL
+           END-IF.
+
+       ASK-EMPTY.
+           CALL STATIC "lock_board_empty" USING
+               BY REFERENCE LB-IMAGE BY VALUE SIZE AUTO LB-IMAGE-LEN
+               RETURNING LB-ANSWER
+           IF LB-ANSWER NOT = 0 OR NOT LB-ABSENT (32)
                PERFORM FAIL
            END-IF.
 
@@ -329,6 +394,12 @@
                BY REFERENCE LB-REQUEST
                BY VALUE SIZE AUTO LB-REQUEST-ROOM
                RETURNING LB-ANSWER.
+
+      * The line is written from LB-CALL and served.
+       ASK-CALL.
+           PERFORM ASK-WRITE
+           MOVE LB-ANSWER TO LB-REQUEST-LEN
+           PERFORM ASK.
 
        WRITE-AND-COMPARE.
            PERFORM ASK-WRITE

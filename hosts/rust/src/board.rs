@@ -9,7 +9,7 @@ pub struct Board {
     image: [u8; IMAGE_LEN],
 }
 
-/// The journal lines of one request: first the answer, then those of settling.
+/// The journal lines of one request: first the answer, then those for other programs.
 #[derive(Clone, Debug, PartialEq, Eq)]
 pub struct Reply {
     answer: Line,
@@ -21,7 +21,8 @@ pub struct Reply {
 #[derive(Clone, Copy, Debug, PartialEq, Eq)]
 #[non_exhaustive]
 pub enum Error {
-    /// The image has this many bytes and not [`IMAGE_LEN`].
+    /// The image has this many bytes and not [`IMAGE_LEN`]; 1,155 are those of an image of version
+    /// 1.4 or before, whose board is to be emptied with that version.
     ImageLength(usize),
     /// Refused with 1 or 2: the board is as it was and nothing was written. Or a
     /// [`Request`](crate::Request) with 8 or 6: there is no such line.
@@ -51,7 +52,7 @@ impl Board {
     /// assert!(Board::from_image(&image).is_ok());
     /// image[32] = 4; // no standing of a program
     /// assert_eq!(Board::from_image(&image), Err(Error::Refused(Refusal::NotSound)));
-    /// assert_eq!(Board::from_image(&image[1..]), Err(Error::ImageLength(1154)));
+    /// assert_eq!(Board::from_image(&image[1..]), Err(Error::ImageLength(1186)));
     /// ```
     pub fn from_image(image: &[u8]) -> Result<Board, Error> {
         let image: [u8; IMAGE_LEN] = image
@@ -126,7 +127,8 @@ impl Reply {
         self.answer
     }
 
-    /// What settling did: the lines after the answer.
+    /// The lines after the answer: what settling did or, after the HELD of an ENTER, the FAVOUR line
+    /// of a waiter that [`MOST_PASSED`](crate::MOST_PASSED) programs have passed.
     ///
     /// ```
     /// use lock_board::{Board, Word};
@@ -146,7 +148,7 @@ impl Reply {
         &self.settled
     }
 
-    /// All lines: the answer and those of settling.
+    /// All lines: the answer and those after it.
     pub fn lines(&self) -> impl Iterator<Item = Line> + '_ {
         std::iter::once(self.answer).chain(self.settled.iter().copied())
     }

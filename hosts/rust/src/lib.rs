@@ -50,7 +50,7 @@ pub use request::{Enter, Request, Verb};
 pub use view::{Favoured, Files, Program, Standing};
 
 /// The bytes of a board's image.
-pub const IMAGE_LEN: usize = 1155;
+pub const IMAGE_LEN: usize = 1187;
 
 /// The bytes of journal that a call asks for from its place on.
 pub const JOURNAL_ROOM: usize = 512;
@@ -75,3 +75,6 @@ pub const FILES: usize = 64;
 
 /// The bytes of the label in an ENTER line.
 pub const LABEL_LEN: usize = 8;
+
+/// The programs that are admitted, at most, while one waits.
+pub const MOST_PASSED: u8 = 8;

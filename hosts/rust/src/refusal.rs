@@ -6,7 +6,7 @@ use std::fmt;
 #[repr(u8)]
 #[non_exhaustive]
 pub enum Refusal {
-    /// The board is not sound, or the image is not 1,155 bytes or not of its layout.
+    /// The board is not sound, or the image is not 1,187 bytes or not of its layout.
     NotSound = 1,
     /// The place is above 1,000,000,000, or place + 512 is above the journal's length.
     JournalFull,

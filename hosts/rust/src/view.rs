@@ -16,6 +16,7 @@ const ENTRY_LINE: usize = 1120;
 const FAVOURED: usize = 1152;
 const AT_FAVOURING: usize = 1153;
 const LEAVES: usize = 1154;
+const PASSED: usize = 1155;
 
 /// A set of files.
 #[derive(Clone, Copy, Debug, Default, PartialEq, Eq, Hash)]
@@ -166,6 +167,28 @@ impl Board {
     /// The programs that wait, oldest first.
     pub fn waiting_line(&self) -> &[u8] {
         self.line(WAITING_LINE)
+    }
+
+    /// How many programs were admitted since the one with this number, 1 to 32, began to wait, at
+    /// most [`MOST_PASSED`](crate::MOST_PASSED); 0 unless it waits.
+    ///
+    /// ```
+    /// use lock_board::Board;
+    ///
+    /// let mut board = Board::new();
+    /// board.serve(b"ENTER   1LISTS     0  1  1")?;
+    /// board.serve(b"ENTER   2PRICES    1  0  1")?;
+    /// board.serve(b"OPEN    1  1")?;
+    /// board.serve(b"OPEN    2  1")?;
+    /// board.serve(b"ENTER   3LISTS     0  1  1")?;
+    /// assert_eq!(board.passed(2), Some(1));
+    /// assert_eq!(board.passed(1), Some(0));
+    /// # Ok::<(), lock_board::Error>(())
+    /// ```
+    pub fn passed(&self, number: u8) -> Option<u8> {
+        let place = usize::from(number).checked_sub(1)?;
+        let counts = &self.image()[PASSED..PASSED + PROGRAMS];
+        counts.get(place).copied()
     }
 
     /// The programs that are held at entry, oldest first.
