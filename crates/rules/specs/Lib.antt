@@ -7,4 +7,5 @@ pub mod Settling
 pub mod Replies
 pub mod Checks
 pub mod Calls
+pub mod Digraph
 pub mod Worked
