@@ -166,7 +166,7 @@ enter-may b p v q e =
 pub claims-of : (x : Program) (f : ℕ) → claims x f ≡ true → Claims x f
 claims-of x f e = or-cases (member (x .writable) f) (member (x .readable) f) e inl inr
 
-claims-true : (x : Program) (f : ℕ) → Claims x f → claims x f ≡ true
+pub claims-true : (x : Program) (f : ℕ) → Claims x f → claims x f ≡ true
 claims-true x f = ⊎-elim (or-left (member (x .writable) f) (member (x .readable) f)) (or-right (member (x .writable) f) (member (x .readable) f))
 
 pub claims-file : (x : Program) (f : ℕ) → Claims x f → isFile f ≡ true

@@ -114,6 +114,12 @@ conflict-sym i j e = conflict-by j i (turn (by-conflict i j e))
     turn (any-2 u) = any-3 u
     turn (any-3 u) = any-2 u
 
+-- Two in conflict hold back each other, if what is open is claimed.
+pub conflict-holds : (i j : Program) → j .writing ⊑ j .writable → j .reading ⊑ j .readable → conflict i j ≡ true → holdsBack i j ≡ true
+conflict-holds i j v q e = holdsBack-by i j (map₃ (meets-mono (i .writing) (j .writing) (i .writing) (j .writable) (λ f u. u) v)
+    (meets-mono (i .writing) (j .reading) (i .writing) (j .readable) (λ f u. u) q)
+    (λ u. meets-mono (i .reading) (j .writing) (i .reading) (j .writable) (λ f w. w) v (meets-sym (j .writing) (i .reading) u)) (by-conflict i j e))
+
 pub idle-holds : (x y : Program) → x .writing ≡ noFiles → x .reading ≡ noFiles → holdsBack x y ≡ false
 idle-holds x y a b = none₃ _ _ _ (none-meets (x .writing) (y .writable) a) (none-meets (x .writing) (y .readable) a)
     (none-meets (x .reading) (y .writable) b)

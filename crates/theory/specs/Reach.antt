@@ -34,10 +34,10 @@ use Rattle.theory.specs.Carried.{holdsOn, order-of, of-order}
 
 -- ── Over any relation h of holding back ──
 
--- x holds back p, or holds back another one that reaches p: a chain in l that ends at p and has p nowhere else.
+-- x holds back p, or holds back another one of l that reaches p.
 pub data Reaches (h : ℕ → ℕ → Bool) (l : List ℕ) (p : ℕ) : ℕ → Type 0 where
-  direct : {x : ℕ} → x ∈ l → x ≢ p → h x p ≡ true → Reaches h l p x
-  through : {x y : ℕ} → x ∈ l → x ≢ p → x ≢ y → h x y ≡ true → Reaches h l p y → Reaches h l p x
+  direct : {x : ℕ} → x ≢ p → h x p ≡ true → Reaches h l p x
+  through : {x y : ℕ} → x ≢ y → h x y ≡ true → y ∈ l → Reaches h l p y → Reaches h l p x
 
 -- h′ differs from h only in what p holds back, and p holds back no fewer.
 pub record Grown (h h′ : ℕ → ℕ → Bool) (l : List ℕ) (p : ℕ) : Type 0 where
@@ -120,28 +120,32 @@ holds-before h (x ∷ o) c a b m k n e = by-test (eqb b x)
     (by-mem m (λ d. absurd (eqb-false a x v d)) (λ m′. by-mem k (λ d. absurd (eqb-false b x u d))
     (λ k′. let i = holds-before h o (c .1) a b m′ k′ n e in omega arith)))))
 
-reaches-in : {h : ℕ → ℕ → Bool} {l : List ℕ} {p x : ℕ} → Reaches h l p x → x ∈ l
-reaches-in (direct m n e) = m
-reaches-in (through m n d e r) = m
+grown-holds : (h h′ : ℕ → ℕ → Bool) (l : List ℕ) (p a b : ℕ) → Grown h h′ l p → a ∈ l → b ∈ l → a ≢ b → h a b ≡ true → h′ a b ≡ true
+grown-holds h h′ l p a b g m k n e = by-test (eqb a p)
+    (λ t. let d = eqb-true a p t in ap (λ z. h′ z b) d ∙ g .more b k (λ q. n (d ∙ q)) (ap (λ z. h z b) (sym d) ∙ e))
+    (λ t. g .same a b m k n (eqb-false a p t) ∙ e)
 
-reaches-off : {h : ℕ → ℕ → Bool} {l : List ℕ} {p x : ℕ} → Reaches h l p x → x ≢ p
-reaches-off (direct m n e) = n
-reaches-off (through m n d e r) = n
-
-reaches-before : (h h′ : ℕ → ℕ → Bool) (l o : List ℕ) (p : ℕ) → IsOrder h′ l o → p ∈ l → Grown h h′ l p → (x : ℕ)
+reaches-before : (h h′ : ℕ → ℕ → Bool) (l o : List ℕ) (p : ℕ) → IsOrder h′ l o → p ∈ l → Grown h h′ l p → (x : ℕ) → x ∈ l
     → Reaches h l p x → place x o < place p o
-reaches-before h h′ l o p c i g x (direct m n e) = holds-before h′ o (c .clear) x p (c .all x m) (c .all p i) n (g .same x p m i n n ∙ e)
-reaches-before h h′ l o p c i g x (through {y = y} m n d e r) =
-    let k = reaches-in r in
-    let u = holds-before h′ o (c .clear) x y (c .all x m) (c .all y k) d (g .same x y m k d n ∙ e) in
-    let v = reaches-before h h′ l o p c i g y r in omega arith
+reaches-before h h′ l o p c i g x m (direct n e) =
+    holds-before h′ o (c .clear) x p (c .all x m) (c .all p i) n (grown-holds h h′ l p x p g m i n e)
+reaches-before h h′ l o p c i g x m (through {y = y} d e k r) =
+    let u = holds-before h′ o (c .clear) x y (c .all x m) (c .all y k) d (grown-holds h h′ l p x y g m k d e) in
+    let v = reaches-before h h′ l o p c i g y k r in omega arith
 
-pub no-order-by-reach : (h h′ : ℕ → ℕ → Bool) (l o : List ℕ) (p b : ℕ) → p ∈ l → Grown h h′ l p → Reaches h l p b
+pub no-order-by-reach : (h h′ : ℕ → ℕ → Bool) (l o : List ℕ) (p b : ℕ) → p ∈ l → Grown h h′ l p → b ∈ l → Reaches h l p b
     → h′ p b ≡ true → IsOrder h′ l o → ⊥
-no-order-by-reach h h′ l o p b i g r e c =
-    let u = reaches-before h h′ l o p c i g b r in
-    let v = holds-before h′ o (c .clear) p b (c .all p i) (c .all b (reaches-in r)) (λ d. reaches-off r (sym d)) e in
-    omega arith
+no-order-by-reach h h′ l o p b i g m r e c =
+    let u = reaches-before h h′ l o p c i g b m r in by-test (eqb b p)
+    (λ t. let d = ap (λ z. place z o) (eqb-true b p t) in omega arith)
+    (λ t. let v = holds-before h′ o (c .clear) p b (c .all p i) (c .all b m) (λ d. eqb-false b p t (sym d)) e in omega arith)
+
+same-grown : (h : ℕ → ℕ → Bool) (l : List ℕ) (p : ℕ) → Grown h h l p
+same-grown h l p = record { same = λ a b m k n d. refl; more = λ b m n e. e }
+
+-- Where an order exists, nobody reaches itself.
+pub no-order-by-round : (h : ℕ → ℕ → Bool) (l o : List ℕ) (p : ℕ) → p ∈ l → Reaches h l p p → IsOrder h l o → ⊥
+no-order-by-round h l o p m r c = let u = reaches-before h h l o p c m (same-grown h l p) p m r in omega arith
 
 -- ── Both together ──
 
@@ -179,14 +183,17 @@ reachers-p h p [] = here
 reachers-p h p (x ∷ o) = more-reachers h p x p o (reachers-p h p o)
 
 reachers-reach : (h : ℕ → ℕ → Bool) (l : List ℕ) (p : ℕ) (o : List ℕ) → ((a : ℕ) → a ∈ o → a ∈ l) → (a : ℕ) → a ∈ reachers h p o
-    → a ≢ p → Reaches h l p a
+    → a ≢ p → (a ∈ l) × Reaches h l p a
 unfolding reachers
 reachers-reach h l p [] f a m n = by-mem m (λ d. absurd (n d)) (λ k. absurd (List·Memᴰ·not-nil k))
 reachers-reach h l p (x ∷ o) f a m n = by-reachers h p x a o m
-    (λ d u. let (y, k, q, e) = holdsIn-some h (reachers h p o) x u in let i = f a (List·Memᴰ·head d) in by-test (eqb y p)
-    (λ t. direct i n (ap (λ z. h z p) d ∙ ap (h x) (sym (eqb-true y p t)) ∙ e))
-    (λ t. through i n (λ z. q (sym d ∙ z)) (ap (λ z. h z y) d ∙ e)
-    (reachers-reach h l p o (λ a m. f a (List·Memᴰ·tail m)) y k (eqb-false y p t))))
+    (λ d u. let (y, k, q, e) = holdsIn-some h (reachers h p o) x u in (
+      f a (List·Memᴰ·head d),
+      by-test (eqb y p)
+          (λ t. direct n (ap (λ z. h z p) d ∙ ap (h x) (sym (eqb-true y p t)) ∙ e))
+          (λ t. let r = reachers-reach h l p o (λ a m. f a (List·Memᴰ·tail m)) y k (eqb-false y p t) in
+          through (λ z. q (sym d ∙ z)) (ap (λ z. h z y) d ∙ e) (r .0) (r .1)),
+    ))
     (λ k. reachers-reach h l p o (λ a m. f a (List·Memᴰ·tail m)) a k n)
 
 reachers-closed : (h : ℕ → ℕ → Bool) (p : ℕ) (o : List ℕ) → Clear h o → (x y : ℕ) → x ∈ o → y ∈ reachers h p o → x ≢ y → h x y ≡ true
@@ -205,12 +212,12 @@ pub no-order-iff : (h h′ : ℕ → ℕ → Bool) (l o : List ℕ) (p : ℕ) �
 no-order-iff h h′ l o p n c i g = (
   λ e. by-test (holdsIn h′ r p)
       (λ u. let (b, m, d, v) = holdsIn-some h′ r p u in let q : b ≢ p = λ z. d (sym z) in
-      let k = reachers-reach h l p o (c .only) b m q in (b, reaches-in k, q, v, k))
+      let k = reachers-reach h l p o (c .only) b m q in (b, k .0, q, v, k .1))
       (λ u. let (o′, k) = order-by-closed h h′ l o p s c i g closed (λ b m d v. no-true (h′ p b)
       (λ w. never (some-holdsIn h′ r p b (listed-mem b r v) (λ z. d (sym z)) w) u)) in
       never (ap found (orderIn-iff h′ l n .1 (o′, k) .1)) e),
   λ (b, m, d, e, r). no-true (found (orderIn h′ l)) (λ u. let (o′, k) = orderIn-iff h′ l n .0 (found-some (orderIn h′ l) u) in
-      no-order-by-reach h h′ l o′ p b i g r e k),
+      no-order-by-reach h h′ l o′ p b i g m r e k),
 )
   where
     r : List ℕ
@@ -256,20 +263,20 @@ given-holds q j f = by-test (member (q .writable) f)
 abbrev pub isOther : Board → ℕ → ℕ → Bool
 isOther b p x = isProgram x && isAdmitted (at b x .standing) && not (eqb x p)
 
--- x reaches p on the board
+-- the admitted program x reaches p on the board
 abbrev pub ReachesOn : Board → ℕ → ℕ → Type 0
-ReachesOn b p x = Reaches (holdsOn b) (admitted b) p x
+ReachesOn b p x = (x ∈ admitted b) × Reaches (holdsOn b) (admitted b) p x
 
 -- s finds every other program that holds back p, or holds back another one that s finds.
 pub record ClosedOn (b : Board) (p : ℕ) (s : ℕ → Bool) : Type 0 where
   pub base : (x : ℕ) → isOther b p x ≡ true → holdsOn b x p ≡ true → s x ≡ true
   pub step : (x y : ℕ) → isOther b p x ≡ true → isOther b p y ≡ true → eqb x y ≡ false → s y ≡ true → holdsOn b x y ≡ true → s x ≡ true
 
-mem-admitted : (b : Board) (x : ℕ) → isProgram x ≡ true → isAdmitted (at b x .standing) ≡ true → x ∈ admitted b
+pub mem-admitted : (b : Board) (x : ℕ) → isProgram x ≡ true → isAdmitted (at b x .standing) ≡ true → x ∈ admitted b
 unfolding admitted ins
 mem-admitted b x c e = mem-ins (b .programs) x (is-of x c) e
 
-admitted-mem : (b : Board) (x : ℕ) → x ∈ admitted b → Is x × (isAdmitted (at b x .standing) ≡ true)
+pub admitted-mem : (b : Board) (x : ℕ) → x ∈ admitted b → Is x × (isAdmitted (at b x .standing) ≡ true)
 unfolding admitted ins
 admitted-mem b x m = ins-mem (b .programs) x m
 
@@ -286,27 +293,27 @@ mem-other b p x m n =
 
 -- The two ways to reach p, by tests.
 pub reaches-direct : (b : Board) (p x : ℕ) → isOther b p x ≡ true → holdsOn b x p ≡ true → ReachesOn b p x
-reaches-direct b p x c e = let r = other-mem b p x c in direct (r .0) (r .1) e
+reaches-direct b p x c e = let r = other-mem b p x c in (r .0, direct (r .1) e)
 
 pub reaches-through : (b : Board) (p x y : ℕ) → isOther b p x ≡ true → eqb x y ≡ false → holdsOn b x y ≡ true → ReachesOn b p y
     → ReachesOn b p x
-reaches-through b p x y c n e k = let r = other-mem b p x c in through (r .0) (r .1) (eqb-false x y n) e k
+reaches-through b p x y c n e k = (other-mem b p x c .0, through (eqb-false x y n) e (k .0) (k .1))
 
 -- On a board that has an order, p holds back nobody that reaches it.
 pub no-back : (b : Board) (p x : ℕ) → isProgram p ≡ true → isAdmitted (at b p .standing) ≡ true → found (carried b) ≡ true
     → ReachesOn b p x → holdsOn b p x ≡ false
 no-back b p x c a e r = no-true (holdsOn b p x) (λ t. let (o, u) = order-of b e in
     no-order-by-reach (holdsOn b) (holdsOn b) (admitted b) o p x (mem-admitted b p c a)
-    (record { same = λ i j m k n d. refl; more = λ j m n w. w }) r t u)
+    (same-grown (holdsOn b) (admitted b) p) (r .0) (r .1) t u)
 
 module _ (b : Board) (p f : ℕ) (c : isProgram p ≡ true) (a : isAdmitted (at b p .standing) ≡ true) where
-  given-same : at (withGiven b p f) p ≡ opening (at b p) f
+  pub given-same : at (withGiven b p f) p ≡ opening (at b p) f
   unfolding withGiven
   given-same = getD-set-same (b .programs) (p - 1) (opening (at b p) f) noProgram (by-test (leb (length (b .programs)) (p - 1))
       (λ t. never a (ap (λ (q : Program). isAdmitted (q .standing)) (List·getD-eq-default (b .programs) noProgram (leb-true _ _ t))))
       (λ t. leb-false _ _ t))
 
-  given-other : (i : ℕ) → Is i → i ≢ p → at (withGiven b p f) i ≡ at b i
+  pub given-other : (i : ℕ) → Is i → i ≢ p → at (withGiven b p f) i ≡ at b i
   unfolding withGiven
   given-other i k n = put-other (b .programs) p i (opening (at b p) f) (is-of p c) k n
 
@@ -351,9 +358,13 @@ module _ (b : Board) (p f : ℕ) (c : isProgram p ≡ true) (a : isAdmitted (at 
   -- None comes back, if p then holds back one that reaches it.
   pub unsafe-by-reach : (x : ℕ) → ReachesOn b p x → holdsBack (opening (at b p) f) (at b x) ≡ true → safe b p f ≡ false
   unfolding safe
-  unsafe-by-reach x r e = no-true (safe b p f) (λ t. let (o, u) = order-of (withGiven b p f) t in
-      no-order-by-reach (holdsOn b) (holdsOn (withGiven b p f)) (admitted b) o p x (mem-admitted b p c a) given-grown r
-      (given-by x (reaches-in r) (reaches-off r) ∙ e) (subst (λ l. IsOrder (holdsOn (withGiven b p f)) l o) given-admitted u))
+  unsafe-by-reach x (m, r) e = no-true (safe b p f) (λ t. let (o, u) = order-of (withGiven b p f) t in
+      let k = subst (λ l. IsOrder (holdsOn (withGiven b p f)) l o) given-admitted u in
+      let i = mem-admitted b p c a in by-test (eqb x p)
+      (λ d. let v = reaches-before (holdsOn b) (holdsOn (withGiven b p f)) (admitted b) o p k i given-grown x m r in
+      let z = ap (λ y. place y o) (eqb-true x p d) in omega arith)
+      (λ d. no-order-by-reach (holdsOn b) (holdsOn (withGiven b p f)) (admitted b) o p x i given-grown m r
+      (given-by x m (eqb-false x p d) ∙ e) k))
 
   safe-is-in : safe b p f ≡ found (orderIn (holdsOn (withGiven b p f)) (admitted b))
   unfolding safe
@@ -367,7 +378,7 @@ module _ (b : Board) (p f : ℕ) (c : isProgram p ≡ true) (a : isAdmitted (at 
     λ t. let (o, u) = order-of b e in
         let (x, m, n, v, r) = no-order-iff (holdsOn b) (holdsOn (withGiven b p f)) (admitted b) o p once u (mem-admitted b p c a)
         given-grown .0 (sym safe-is-in ∙ t) in
-        (x, r, sym (given-by x m n) ∙ v),
+        (x, (m, r), sym (given-by x m n) ∙ v),
     λ (x, r, v). unsafe-by-reach x r v,
   )
     where

@@ -386,12 +386,30 @@ good-sound b g = record {
     own : (p : ℕ) → Is p → Own (at b p)
     own = g .loose .base .own
 
+idle-of : (q : Program) (t : Standing) → q .standing ≡ t → isAdmitted t ≡ false → (q .standing ≡ Standing.Absent
+    → (q .writing ≡ noFiles) × (q .reading ≡ noFiles)) → (q .standing ≡ Standing.Held → (q .writing ≡ noFiles) ×
+    (q .reading ≡ noFiles)) → (q .writing ≡ noFiles) × (q .reading ≡ noFiles)
+idle-of q Standing.Absent d e f g = f d
+idle-of q Standing.Running d e f g = never {t = true} refl e
+idle-of q (Standing.Waiting h) d e f g = never {t = true} refl e
+idle-of q Standing.Held d e f g = g d
+
+-- what a sound board says of a program by itself
+pub own-of : (b : Board) (p : ℕ) → Sound b → Is p → Own (at b p)
+own-of b p s i = let k = s .sets p i in record {
+  wv = within-⊑ _ _ (k .w-in-v);
+  rq = within-⊑ _ _ (k .r-in-q);
+  vq = k .v-apart-q;
+  idle = λ e. idle-of (at b p) (at b p .standing) refl e (λ u. let (_, _, x, y) = s .absent-empty p i u in (x, y)) (s .held-closed p i);
+  gone = λ u. let (x, y, _, _) = s .absent-empty p i u in (x, y);
+}
+
 pub sound-good : (b : Board) → Sized (b .programs) → Sound b → Good b
 sound-good b z s = record {
   loose = record {
     base = record {
       size = z;
-      own = own;
+      own = λ p i. own-of b p s i;
       apart = s .no-conflict;
       order = let (o, c) = s .order-exists in
           (o, subst (λ l. IsOrder (holdsOn b) l o) (admitted-is b) c);
@@ -407,23 +425,6 @@ sound-good b z s = record {
   stuck = λ p f i u. sym (canGive-is b p f) ∙ s .waiter-stuck p f i u;
   free = λ d. s .nobody-favoured d .0;
 }
-  where
-    idle-of : (q : Program) (t : Standing) → q .standing ≡ t → isAdmitted t ≡ false → (q .standing ≡ Standing.Absent
-        → (q .writing ≡ noFiles) × (q .reading ≡ noFiles)) → (q .standing ≡ Standing.Held → (q .writing ≡ noFiles) ×
-        (q .reading ≡ noFiles)) → (q .writing ≡ noFiles) × (q .reading ≡ noFiles)
-    idle-of q Standing.Absent d e f g = f d
-    idle-of q Standing.Running d e f g = never {t = true} refl e
-    idle-of q (Standing.Waiting h) d e f g = never {t = true} refl e
-    idle-of q Standing.Held d e f g = g d
-
-    own : (p : ℕ) → Is p → Own (at b p)
-    own p i = let k = s .sets p i in record {
-      wv = within-⊑ _ _ (k .w-in-v);
-      rq = within-⊑ _ _ (k .r-in-q);
-      vq = k .v-apart-q;
-      idle = λ e. idle-of (at b p) (at b p .standing) refl e (λ u. let (_, _, x, y) = s .absent-empty p i u in (x, y)) (s .held-closed p i);
-      gone = λ u. let (x, y, _, _) = s .absent-empty p i u in (x, y);
-    }
 
 -- What a board has between two steps of settling: no conflict, an order, and each waiter is admitted and has not opened its file.
 pub loose-apart : (b : Board) → Loose b → noConflict b ≡ true
