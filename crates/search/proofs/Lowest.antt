@@ -1,28 +1,21 @@
 -- Laws of the lowest program whose count is 0, by the set of those that are not tried yet. Assumes nothing.
-use mathlib.Core.Path.{_≡_, refl, sym, ap, _∙_}
+use mathlib.Core.Path.{_≡_, sym, ap, _∙_}
 use mathlib.Core.Logic.{_≢_}
-use mathlib.Core.Bool.{Bool, true, false}
+use mathlib.Core.Bool.{true, false}
 use mathlib.Core.List.{List}
-use mathlib.Core.Option.{Option, none, Option·getD}
-use Prim.Native.Nat.{ℕ, zero, suc, _-_}
+use mathlib.Core.Option.{Option, Option·getD}
+use Prim.Native.Nat.{ℕ, _-_}
 use native.Mathlib.Omega.{arith}
 use lib.Dec.{eqb}
 use borrow.Author.Tests.{eqb-true, eqb-false}
 use Rattle.files.proofs.Tests.{by-test, never, no-true, and-left, and-right, and-both}
 use Rattle.files.specs.Bits.{hasBit}
 use Rattle.files.proofs.Bits.{zero-has, has-bit, without-number-same, without-number-other}
-use Rattle.rules.specs.Lists.{rising, first}
 use Rattle.rules.specs.Boards.{everyone}
 use Rattle.tables.specs.declared.ProgramSet.{ProgramSet}
 use Rattle.tables.specs.ProgramSets.{hasProgram, withoutProgram, IsLowest}
-use Rattle.tables.proofs.Laws.{first-at}
+use Rattle.tables.proofs.Laws.{first-at, first-no}
 use Rattle.search.specs.Counts.{countOf, atZero, lowest}
-
-module _ (t : ℕ → Bool) where
-  first-no : (n k : ℕ) → ((q : ℕ) → t q ≡ false) → first t (rising n k) ≡ none
-  unfolding first rising
-  first-no zero k f = refl
-  first-no (suc n) k f = rw (f k) (first-no n (suc k) f)
 
 module _ (counts : List ℕ) (left : ProgramSet) where
   -- whoever has the count 0 is not tried yet, and whoever is not tried yet is left

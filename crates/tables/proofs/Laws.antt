@@ -3,7 +3,7 @@ use mathlib.Core.Path.{_≡_, refl, sym, ap, ap₂, _∙_}
 use mathlib.Core.Logic.{_≢_}
 use mathlib.Core.Bool.{Bool, true, false, not, _&&_, _||_}
 use mathlib.Core.List.{List, [], _∷_}
-use mathlib.Core.Option.{some}
+use mathlib.Core.Option.{none, some}
 use Prim.Native.Nat.{ℕ, zero, suc, _+_, _-_, _^_, _≤_, _<_}
 use native.Mathlib.Nat.{add-zero, add-suc, suc-add}
 use native.Mathlib.Omega.{arith}
@@ -201,6 +201,11 @@ first-at t (suc n) k p l h e f =
     (λ z. let w : k ≡ p = eqb-true k p z in rw (ap t w ∙ e) (ap some w))
     (λ z. let w : k ≢ p = eqb-false k p z in
     rw (f k (omega arith) (omega arith)) (first-at t n (suc k) p (omega arith) (omega arith) e (λ q a b. f q (omega arith) b)))
+
+pub first-no : (t : ℕ → Bool) (n k : ℕ) → ((q : ℕ) → t q ≡ false) → first t (rising n k) ≡ none
+unfolding first rising
+first-no t zero k f = refl
+first-no t (suc n) k f = rw (f k) (first-no t n (suc k) f)
 
 -- ---- the numbers from p to 32
 

@@ -1,0 +1,3 @@
+pub mod Laws
+pub mod LoopLaws
+pub mod AnswerLaws

@@ -1,0 +1,36 @@
+-- `find_for` meets its contract. Assumes nothing.
+use mathlib.Core.Path.{refl, sym, _∙_, subst}
+use Rattle.rules.specs.declared.Board.{Board}
+use Rattle.digraph.specs.Loops.{LoopOf}
+use native.Mathlib.Omega.{arith}
+use borrow.Author.Tests.{not-true, not-false}
+use Rattle.files.proofs.Tests.{never}
+use borrow.Author.Needs.{needs}
+use Rattle.digraph.proofs.AnswerLaws.{waiter-found}
+use Rattle.digraph.proofs.loops.find_for.Statement.{statement}
+use Rattle.digraph.proofs.loops.find_for.Tie as tie
+
+returns : tie.Need-returns
+returns c = let w = c .before .is-waiting in let n = sym (w .ensures) ∙ not-true (w .result) (c .if1 .taken) in
+    record { is-loop = λ u. never u n; is-none = λ u. refl; fits = omega arith }
+
+returns-2 : tie.Need-returns-2
+returns-2 c = let g = c .before in let f = g .before .awaited in let i = g .before .before in let w = i .before .is-waiting in
+    let s = i .before .before .before in let a = s .args in
+    waiter-found (a .t1) (a .p) (f .result) (c .find .result) (search needs) (record { least = search needs; most = search needs })
+    (sym (w .ensures) ∙ not-false (w .result) (i .if1 .left)) (f .ensures) (subst (λ (x : Board). LoopOf x (c .find .result)) (g .give .ensures) (c .find .ensures))
+
+pub find-for-spec : {M : Type 1} → statement M
+find-for-spec =
+    tie.close
+    (tie.spec
+    (λ c. search needs)
+    (λ c. search needs)
+    (λ c. search needs)
+    (λ c. search needs)
+    (λ c κs. search needs)
+    returns
+    (λ c κs. search needs)
+    (λ c κs. search needs)
+    (λ c κs. search needs)
+    returns-2)

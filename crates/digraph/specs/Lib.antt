@@ -1,0 +1,3 @@
+-- The definitions that the contracts of digraph cite.
+pub mod Rows
+pub mod Loops
