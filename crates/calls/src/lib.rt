@@ -1,15 +1,25 @@
-// The six direct calls, each with the board by value: check 1, then the rules.
+// The six direct calls, each with the board by value: check 1, then the rules; an UNSAFE answer carries a loop.
+use digraph::Loop;
 use files::FileSet;
 use rules::Asked;
 use rules::Board;
 use rules::Reply;
 use rules::Verb;
 ghost use mathlib.Core.Path.{_≡_};
+ghost use mathlib.Core.Bool.{true};
 ghost use Rattle.files.specs.Sets.{noFiles};
+ghost use Rattle.rules.specs.Digraph.{mayCarry};
+ghost use Rattle.digraph.specs.Loops.{named};
 ghost use Rattle.rules.specs.Calls.{direct, callOf, callWith, Enter, Open, Close, Drop, Leave, Cancel};
 
-// The direct call that is asked for: on a board that is not sound refusal 1, otherwise what the rules give.
-pub fn call(b: Board, a: Asked) -> Reply
+// What a direct call gives back: the reply, and the loop that its answer carries, none unless UNSAFE.
+pub struct Answered {
+    pub reply: Reply,
+    pub carries: Loop,
+}
+
+// The reply to the direct call that is asked for: on a board that is not sound refusal 1, otherwise what the rules give.
+fn reply_to(b: Board, a: Asked) -> Reply
     ensures { λ r. ⌜ r ≡ direct b (callOf a) ⌝ }
 {
     let j = sound::judge(b);
@@ -21,9 +31,20 @@ pub fn call(b: Board, a: Asked) -> Reply
     apply::replies::complete(changed, order)
 }
 
+// The direct call that is asked for, with the loop that its answer carries.
+pub fn call(b: Board, a: Asked) -> Answered
+    ensures { λ r. ⌜ r .reply ≡ direct b (callOf a) ⌝ }
+    ensures { λ r. ⌜ mayCarry b (callOf a) (r .reply .answer) (named (r .carries)) ≡ true ⌝ }
+{
+    let reply = reply_to(b, a);
+    let carries = digraph::answers::loop_of(b, reply);
+    Answered { reply, carries }
+}
+
 // A program enters with its claims.
-pub fn enter(b: Board, program: u64, writable: FileSet, readable: FileSet) -> Reply
-    ensures { λ r. ⌜ r ≡ direct b (Enter program writable readable) ⌝ }
+pub fn enter(b: Board, program: u64, writable: FileSet, readable: FileSet) -> Answered
+    ensures { λ r. ⌜ r .reply ≡ direct b (Enter program writable readable) ⌝ }
+    ensures { λ r. ⌜ mayCarry b (Enter program writable readable) (r .reply .answer) (named (r .carries)) ≡ true ⌝ }
 {
     call(
         b,
@@ -38,8 +59,9 @@ pub fn enter(b: Board, program: u64, writable: FileSet, readable: FileSet) -> Re
 }
 
 // A call of a program and a file.
-fn call_file(b: Board, verb: Verb, program: u64, file: u64) -> Reply
-    ensures { λ r. ⌜ r ≡ direct b (callWith verb program file noFiles noFiles) ⌝ }
+fn call_file(b: Board, verb: Verb, program: u64, file: u64) -> Answered
+    ensures { λ r. ⌜ r .reply ≡ direct b (callWith verb program file noFiles noFiles) ⌝ }
+    ensures { λ r. ⌜ mayCarry b (callWith verb program file noFiles noFiles) (r .reply .answer) (named (r .carries)) ≡ true ⌝ }
 {
     let none = FileSet::EMPTY;
     call(
@@ -55,36 +77,41 @@ fn call_file(b: Board, verb: Verb, program: u64, file: u64) -> Reply
 }
 
 // A program opens a file.
-pub fn open(b: Board, program: u64, file: u64) -> Reply
-    ensures { λ r. ⌜ r ≡ direct b (Open program file) ⌝ }
+pub fn open(b: Board, program: u64, file: u64) -> Answered
+    ensures { λ r. ⌜ r .reply ≡ direct b (Open program file) ⌝ }
+    ensures { λ r. ⌜ mayCarry b (Open program file) (r .reply .answer) (named (r .carries)) ≡ true ⌝ }
 {
     call_file(b, Verb::Open, program, file)
 }
 
 // A program closes a file.
-pub fn close(b: Board, program: u64, file: u64) -> Reply
-    ensures { λ r. ⌜ r ≡ direct b (Close program file) ⌝ }
+pub fn close(b: Board, program: u64, file: u64) -> Answered
+    ensures { λ r. ⌜ r .reply ≡ direct b (Close program file) ⌝ }
+    ensures { λ r. ⌜ mayCarry b (Close program file) (r .reply .answer) (named (r .carries)) ≡ true ⌝ }
 {
     call_file(b, Verb::Close, program, file)
 }
 
 // A program drops a file from its claim.
-pub fn drop(b: Board, program: u64, file: u64) -> Reply
-    ensures { λ r. ⌜ r ≡ direct b (Drop program file) ⌝ }
+pub fn drop(b: Board, program: u64, file: u64) -> Answered
+    ensures { λ r. ⌜ r .reply ≡ direct b (Drop program file) ⌝ }
+    ensures { λ r. ⌜ mayCarry b (Drop program file) (r .reply .answer) (named (r .carries)) ≡ true ⌝ }
 {
     call_file(b, Verb::Drop, program, file)
 }
 
 // A program leaves.
-pub fn leave(b: Board, program: u64) -> Reply
-    ensures { λ r. ⌜ r ≡ direct b (Leave program) ⌝ }
+pub fn leave(b: Board, program: u64) -> Answered
+    ensures { λ r. ⌜ r .reply ≡ direct b (Leave program) ⌝ }
+    ensures { λ r. ⌜ mayCarry b (Leave program) (r .reply .answer) (named (r .carries)) ≡ true ⌝ }
 {
     call_file(b, Verb::Leave, program, 0)
 }
 
 // A program that waits or is held is removed.
-pub fn cancel(b: Board, program: u64) -> Reply
-    ensures { λ r. ⌜ r ≡ direct b (Cancel program) ⌝ }
+pub fn cancel(b: Board, program: u64) -> Answered
+    ensures { λ r. ⌜ r .reply ≡ direct b (Cancel program) ⌝ }
+    ensures { λ r. ⌜ mayCarry b (Cancel program) (r .reply .answer) (named (r .carries)) ≡ true ⌝ }
 {
     call_file(b, Verb::Cancel, program, 0)
 }

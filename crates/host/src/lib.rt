@@ -1,21 +1,29 @@
 // The line call and the calls of a C host.
+use digraph::Loop;
 use image::Loaded;
 use rules::Board;
 use rules::Reply;
 use search::Search;
 ghost use mathlib.Core.Path.{_≡_};
+ghost use mathlib.Core.Bool.{true};
 ghost use Prim.Native.Nat.{_≤_};
 ghost use lib.ListN.{take};
+ghost use Rattle.rules.specs.Digraph.{mayCarry};
+ghost use Rattle.request.specs.Requests.{requestOf, requestCall};
+ghost use Rattle.digraph.specs.Loops.{named};
 ghost use Rattle.serve.specs.LineCall.{lineCall};
 ghost use Rattle.host.specs.Host.{readImage, refusalAnswer, hostAnswer, hostCall, emptyAnswer, emptyImage};
 ghost use Rattle.host.specs.Host.{placedAnswer, placedIn, orderAnswer, orderBuffer};
 
+pub mod digraphs;
 mod writing;
 
-// What a line call gives back: the reply, with the board after it, and the new place in the journal.
+// What a line call gives back: the reply, with the board after it, the new place in the journal,
+// and the loop that the answer carries, none unless UNSAFE.
 pub struct Posted {
     pub reply: Reply,
     pub place: u64,
+    pub carries: Loop,
 }
 
 // The line call: check 1, then the line is served.
@@ -23,18 +31,25 @@ pub fn line_call(b: Board, line: &[u8], journal: &mut [u8], place: u64) -> Poste
     ensures { λ r. ⌜ r .reply ≡ lineCall b (now (line .entry)) (now (journal .entry)) place .reply ⌝ }
     ensures { λ r. ⌜ r .place ≡ lineCall b (now (line .entry)) (now (journal .entry)) place .place ⌝ }
     ensures { λ r. ⌜ now (journal .exit) ≡ lineCall b (now (line .entry)) (now (journal .entry)) place .journal ⌝ }
+    ensures { λ r. ⌜ mayCarry b (requestCall (requestOf (now (line .entry)))) (r .reply .answer) (named (r .carries)) ≡ true ⌝ }
 {
     let j = sound::judge(b);
     if !j.sound {
         let reply = apply::replies::refused_unsound(b);
-        return Posted { reply, place };
+        return Posted {
+            reply,
+            place,
+            carries: Loop::NONE,
+        };
     }
     let s = serve::line(b, line, journal, place);
     let order = j.order;
     let reply = apply::replies::complete(s.changed, order);
+    let carries = digraph::answers::loop_of(b, reply);
     Posted {
         reply,
         place: s.place,
+        carries,
     }
 }
 
@@ -127,7 +142,7 @@ pub extern "C" fn lock_board_empty(image: &mut [u8]) -> u64
     refusal_answer(1)
 }
 
-// Writes the first n numbers of an order from the buffer's start and answers n; a buffer shorter than that gets refusal 17.
+// Writes the first n numbers of an order or a loop from the buffer's start and answers n; a buffer shorter than that gets refusal 17.
 fn put_order(at: [u8; 32], n: usize, buffer: &mut [u8]) -> u64
     requires { ⌜ n ≤ 32 ⌝ }
     ensures { λ r. ⌜ r ≡ placedAnswer (take n at) (now (buffer .entry)) ⌝ }

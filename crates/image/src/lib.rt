@@ -113,7 +113,7 @@ fn row_bytes(p: Program) -> [u8; 34]
 }
 
 // Writes all of src into out from a place on; the rest keeps its contents.
-fn put_at(out: &mut [u8], at: usize, src: &[u8])
+pub fn put_at(out: &mut [u8], at: usize, src: &[u8])
     requires { ⌜ at + length (now src) ≤ length (now out) ⌝ }
     ensures { λ r. ⌜ now (out .exit) ≡ putAt (now (out .entry)) at (now (src .entry)) ⌝ }
 {

@@ -10,6 +10,8 @@ use Rattle.rules.specs.Soundness.{sound}
 use Rattle.search.specs.Rows.{asOrder}
 use Rattle.apply.proofs.Laws.{found-is}
 use Rattle.serve.proofs.Laws.{call-unsound}
+use Rattle.request.specs.Requests.{requestOf, requestCall}
+use Rattle.host.proofs.Carries.{line-carries, unsound-carries}
 use Rattle.host.proofs.Promises.{refused-keeps-board}
 use borrow.Author.Needs.{needs}
 use Rattle.host.proofs.line_call.Statement.{statement}
@@ -25,8 +27,17 @@ sure c = let j = c .before .before .judge in sym (j .ensures .0) ∙ not-false (
 returns : tie.Need-returns
 returns c = let i = c .before in let j = i .before .before in let a = j .before .before .before .args in
     let e = call-unsound (a .b) (a .line .now) (a .journal .now) (a .place) (sym (j .judge .ensures .0)
-    ∙ not-true (j .judge .result .sound) (i .if1 .taken)) in
-    (rw e (c .refused-unsound .ensures), (rw e, rw e))
+    ∙ not-true (j .judge .result .sound) (i .if1 .taken)) in (
+      rw e (c .refused-unsound .ensures),
+      (
+        rw e,
+        (
+          rw e,
+          unsound-carries (a .b) (requestCall (requestOf (a .line .now))) (c .refused-unsound .result)
+              (c .refused-unsound .ensures),
+        ),
+      ),
+    )
 
 line-requires : tie.Need-line-requires
 line-requires c κs = sure (c .before)
@@ -40,7 +51,17 @@ complete-requires c κs = let l = c .before .before .before in let i = l .before
 )
 
 returns-2 : tie.Need-returns-2
-returns-2 c = let k = c .before .before .before .before .line .ensures in (c .complete .ensures ∙ k .0 .0, k .1)
+returns-2 c = let f = c .before in let l = f .before .before .before .before in let k = l .line .ensures in let a = start (l .before .before) .args in
+    let q = f .complete .ensures ∙ k .0 .0 in (
+      q,
+      (
+        k .1 .0,
+        (
+          k .1 .1,
+          line-carries (a .b) (a .line .now) (a .journal .now) (a .place) (f .complete .result) (c .loop-of .result) q (c .loop-of .ensures),
+        ),
+      ),
+    )
 
 pub line-call-spec : {M : Type 1} → statement M
 line-call-spec =
@@ -51,5 +72,6 @@ line-call-spec =
     returns
     line-requires
     complete-requires
+    (λ c κs. search needs)
     (λ c. search needs)
     returns-2)

@@ -48,7 +48,7 @@ loop-again c =
     let l4 : length (s .args .t2) ≡ 32 = s .good .1 .0 .1 .0 .1 in (
       omega arith,
       c .before .before .put-at .kept .0 ∙ l .inv .1,
-      put-row (s .args .out .now) (l .out)
+      put-row rowBytes 34 row-length (s .args .out .now) (l .out)
           (c .before .before .put-at .last .0) (c .before .before .before .before .before .row-bytes .result)
           (s .args .t2) _ (l .i) (omega arith) (l .inv .2) (c .before .before .before .before .before .row-bytes .ensures)
           (c .before .before .put-at .ensures),
