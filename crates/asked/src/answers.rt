@@ -1,4 +1,5 @@
 // Writes the answers.
+use digraph::Loop;
 use host::Posted;
 use libc::STDOUT_FILENO;
 use rules::Answer;
@@ -71,8 +72,38 @@ pub fn write_image(b: Board) {
     write(&bytes);
 }
 
-// The answer to a direct call.
-pub fn call(r: Reply) {
+// A number of bytes, told by 255 if it is more than that.
+fn short(n: usize) -> u8 {
+    if n < 255 {
+        return n as u8;
+    }
+    255
+}
+
+// Place i of a loop; 0 after its programs.
+fn place_in(l: Loop, i: usize) -> u8 {
+    if i >= l.count {
+        return 0;
+    }
+    if i >= 32 {
+        return 0;
+    }
+    l.at[i]
+}
+
+// The places of a loop.
+fn places(l: Loop) -> [u8; 32] {
+    let mut bytes = [0u8; 32];
+    let mut i: usize = 0;
+    while i < 32 {
+        bytes[i] = place_in(l, i);
+        i += 1;
+    }
+    bytes
+}
+
+// The answer to a direct call, with the loop that it carries.
+pub fn call(r: Reply, l: Loop) {
     let answer = r.answer;
     let head = [answer.refusal(), answer_letter(answer), r.count, r.placed];
     let lines = r.lines;
@@ -82,33 +113,43 @@ pub fn call(r: Reply) {
     write(&head);
     write(&bytes);
     write(&order);
+    write(&[short(l.count)]);
+    write(&places(l));
     write_image(board);
 }
 
 // The answer to a line call: that of a direct call, the new place in decimal and byte 10, the journal.
 pub fn post(p: Posted, journal: &[u8]) {
-    call(p.reply);
+    call(p.reply, p.carries);
     io::print_decimal(STDOUT_FILENO, p.place);
     write(b"\n");
     write(journal);
 }
 
-// The answer to an image.
-pub fn load(ok: bool, b: Board) {
-    if ok {
+// 1 or 0.
+pub fn truth(yes: bool) {
+    if yes {
         write(&[1]);
     } else {
         write(&[0]);
     }
+}
+
+// The answer to an image.
+pub fn load(ok: bool, b: Board) {
+    truth(ok);
     write_image(b);
 }
 
-// The answer to a line whose label is asked; a label has at most 8 bytes, and a longer one would be told by 255.
+// The rows of a matrix, four bytes each.
+pub fn matrix(rows: [u32; 32]) {
+    let mut bytes = [0u8; 128];
+    host::digraphs::put_rows(&mut bytes, rows);
+    write(&bytes);
+}
+
+// The answer to a line whose label is asked.
 pub fn label(part: &[u8]) {
-    let mut n: u8 = 255;
-    if part.len() < 255 {
-        n = part.len() as u8;
-    }
-    write(&[n]);
+    write(&[short(part.len())]);
     write(part);
 }

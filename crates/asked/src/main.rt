@@ -5,11 +5,15 @@
 // i, l, p: as many bytes follow as the first number says, at most 4,096. i: an image, from which the board is read. l: a line, whose label is asked.
 // p: a line for the line call that changes the program's board in place. The second number is how much of a journal of 1,024 bytes, each of them
 // 170, is handed over, the third is the place in it.
+// m: the matrix of the program's board, sound or not, is asked.
+// k: as many bytes follow as the third number says, at most 4,096: a list, of which is asked whether it is a loop with the file given to the program.
 //
-// A call is answered with 1,351 bytes: the refusal's number or 0, the answer's word, the count of lines, that of programs in the order,
-// 32 lines of 4 bytes (word, program, file, refusal), the 32 places of the order, the reply's board as its image. A word is its first letter.
+// A call is answered with 1,384 bytes: the refusal's number or 0, the answer's word, the count of lines, that of programs in the order,
+// 32 lines of 4 bytes (word, program, file, refusal), the 32 places of the order, the count of programs in the loop that it carries and the 32
+// places of that, the reply's board as its image. A word is its first letter.
 // i is answered with 1 if the image is of its layout, 0 if not, and the board's image; l with the label's length and bytes; p as a call is, then
-// the new place in decimal and byte 10, the journal, and the image of the board that was lent.
+// the new place in decimal and byte 10, the journal, and the image of the board that was lent; m with 128 bytes, a row of four for each program,
+// the lowest first; k with 1 or 0.
 mod answers;
 mod lent;
 mod records;

@@ -2,10 +2,10 @@
 use crate::answers;
 use crate::lent;
 use crate::lent::Lent;
+use calls::Answered;
 use files::FileSet;
 use libc::STDIN_FILENO;
 use rules::Board;
-use rules::Reply;
 ghost use mathlib.Core.Path.{_≡_};
 ghost use Prim.Native.Nat.{_≤_};
 ghost use lib.ListN.{length};
@@ -49,7 +49,7 @@ pub fn parse(s: &[u8]) -> Record
 }
 
 // The direct call of a record; any kind but the five others is leave.
-fn call(b: Board, r: Record) -> Reply {
+fn call(b: Board, r: Record) -> Answered {
     if r.kind == b'E' {
         let writable = FileSet { bits: r.writable };
         let readable = FileSet { bits: r.readable };
@@ -111,6 +111,20 @@ fn label(asked: u64) {
     answers::label(request::label(front(&text, n)));
 }
 
+// The matrix of the board.
+fn matrix(b: Board) {
+    let mut rows = [0u32; 32];
+    digraph::fill_matrix(b, &mut rows);
+    answers::matrix(rows);
+}
+
+// Whether the list that follows is a loop with the file given to the program.
+fn check(b: Board, r: Record) {
+    let mut text = [0u8; 4096];
+    let n = read_text(&mut text, r.writable);
+    answers::truth(digraph::loops::is_loop_with(b, r.program, r.file, front(&text, n)));
+}
+
 // The line call in place, with as much of a journal as is asked for.
 fn post(b: Board, line: &[u8], journal: &mut [u8], asked: u64, place: u64) -> Lent {
     let n = at_most(asked, journal.len());
@@ -141,7 +155,16 @@ pub fn take(b: Board, r: Record) -> Board {
     if r.kind == b'p' {
         return in_place(b, r);
     }
-    let reply = call(b, r);
-    answers::call(reply);
+    if r.kind == b'm' {
+        matrix(b);
+        return b;
+    }
+    if r.kind == b'k' {
+        check(b, r);
+        return b;
+    }
+    let answered = call(b, r);
+    let reply = answered.reply;
+    answers::call(reply, answered.carries);
     reply.board
 }

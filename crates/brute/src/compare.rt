@@ -1,10 +1,12 @@
-// Compares the search with the brute search on one board, and counts what came of it.
+// Compares the search, the matrix and the loop with the brute search on one board, and counts what came of it.
 use super::orders;
+use super::orders::Admitted;
 use super::orders::Tried;
+use super::paths;
 use rules::Board;
 use search::Search;
 
-// Whether the board has a completion order, whether it has one by rising number, and whether the search agrees.
+// Whether the board has a completion order, whether it has one by rising number, and whether search, matrix and loop agree.
 pub struct Outcome {
     pub some: bool,
     pub rising: bool,
@@ -12,7 +14,7 @@ pub struct Outcome {
 }
 
 // Boards, those with a completion order, those of them where the order by rising number is none,
-// those without a completion order, and those on which the two searches differ.
+// those without a completion order, and those on which the brute search and the others differ.
 pub struct Tally {
     pub boards: u64,
     pub with: u64,
@@ -55,6 +57,14 @@ fn right_answer(kind: Search, t: Tried, count: usize, at: [u8; 32]) -> bool {
     }
 }
 
+// Whether all agree on a board: the search, the matrix and the loop.
+fn all_agree(b: Board, a: Admitted, kind: Search, t: Tried, at: [u8; 32]) -> bool {
+    if !right_answer(kind, t, a.count, at) {
+        return false;
+    }
+    paths::agree(b, a, t.orders == 0)
+}
+
 // Both searches on one board; the board's own order is the one that the test of a sound board gives back.
 pub fn compared(b: Board) -> Outcome {
     let a = orders::admitted_programs(b);
@@ -73,7 +83,7 @@ pub fn compared(b: Board) -> Outcome {
     Outcome {
         some: t.orders != 0,
         rising: t.rising,
-        agrees: right_answer(kind, t, a.count, at),
+        agrees: all_agree(b, a, kind, t, at),
     }
 }
 

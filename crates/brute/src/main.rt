@@ -1,9 +1,11 @@
-// Tries every order of the admitted programs on many small boards, and compares what it finds with the carried order of the search.
+// Tries every order of the admitted programs on many small boards, and compares what it finds with the carried order of the search,
+// with the matrix of who reaches whom and with the loop that is found.
 mod boards;
 mod compare;
 mod families;
 mod known;
 mod orders;
+mod paths;
 mod report;
 
 fn main() {

@@ -91,7 +91,7 @@ fn holds_back(i: Program, j: Program) -> bool {
 }
 
 // The set that holds only place `i`.
-fn only(i: usize) -> u64 {
+pub fn only(i: usize) -> u64 {
     if i < 6 {
         return 1u64 << i;
     }
@@ -126,7 +126,7 @@ fn held_back_by(a: Admitted, i: usize) -> u64 {
     set
 }
 
-fn stored(xs: [u64; 6], i: usize, x: u64) -> [u64; 6] {
+pub fn stored(xs: [u64; 6], i: usize, x: u64) -> [u64; 6] {
     if i >= 6 {
         return xs;
     }
@@ -136,7 +136,7 @@ fn stored(xs: [u64; 6], i: usize, x: u64) -> [u64; 6] {
 }
 
 // For each place, the places that it holds back.
-fn all_held_back(a: Admitted) -> [u64; 6] {
+pub fn all_held_back(a: Admitted) -> [u64; 6] {
     let mut sets = [0; 6];
     let mut i: usize = 0;
     while i < a.count {
@@ -212,21 +212,21 @@ fn nth_order(n: usize, number: u64) -> [usize; 6] {
     p.place
 }
 
-fn name_at(xs: [u8; 6], i: usize) -> u8 {
+pub fn name_at(xs: [u8; 6], i: usize) -> u8 {
     if i < 6 {
         return xs[i];
     }
     0
 }
 
-fn place_at(xs: [usize; 6], i: usize) -> usize {
+pub fn place_at(xs: [usize; 6], i: usize) -> usize {
     if i < 6 {
         return xs[i];
     }
     0
 }
 
-fn set_at(xs: [u64; 6], i: usize) -> u64 {
+pub fn set_at(xs: [u64; 6], i: usize) -> u64 {
     if i < 6 {
         return xs[i];
     }

@@ -25,7 +25,8 @@ pub enum Error {
     /// 1.4 or before, whose board is to be emptied with that version.
     ImageLength(usize),
     /// Refused with 1 or 2: the board is as it was and nothing was written. Or a
-    /// [`Request`](crate::Request) with 8 or 6: there is no such line.
+    /// [`Request`](crate::Request) with 8 or 6: there is no such line. Or
+    /// [`loop_for`](Board::loop_for) with 8: there is no such program.
     Refused(Refusal),
     /// The label of an ENTER has this many bytes, more than [`LABEL_LEN`].
     LabelLength(usize),

@@ -50,6 +50,27 @@ mod c {
             line: *mut u8,
             line_len: usize,
         ) -> u64;
+        pub fn lock_board_reach(
+            image: *const u8,
+            image_len: usize,
+            rows: *mut u8,
+            rows_len: usize,
+        ) -> u64;
+        pub fn lock_board_loop(
+            image: *const u8,
+            image_len: usize,
+            program: u64,
+            list: *mut u8,
+            list_len: usize,
+        ) -> u64;
+        pub fn lock_board_is_loop(
+            image: *const u8,
+            image_len: usize,
+            program: u64,
+            file: u64,
+            list: *const u8,
+            list_len: usize,
+        ) -> u64;
     }
 }
 
@@ -150,6 +171,85 @@ pub fn write(
             label.len(),
             line.as_mut_ptr(),
             line.len(),
+        )
+    }
+}
+
+/// Writes the matrix of the image's board from the buffer's start on, four bytes for each program
+/// 1 to 32, and answers [`REACH_LEN`](crate::REACH_LEN), [`UNSOUND`] or [`BUFFER_SHORT`]. In the row
+/// of a program, a number of 32 bits with its lowest byte first, bit i - 1 is set if program i
+/// reaches it: over a path of one or more steps, each from an admitted program to one that it
+/// holds back. [`Board::reach`](crate::Board::reach) is easier to use.
+///
+/// ```
+/// use lock_board::{entry, Board, REACH_LEN};
+///
+/// let mut board = Board::new();
+/// board.serve(b"ENTER   1STOCK     1  0  3")?;
+/// board.serve(b"ENTER   2BILLS     1  0  3")?;
+/// board.serve(b"OPEN    2  3")?;
+/// let mut rows = [0; REACH_LEN];
+/// assert_eq!(entry::reach(board.image(), &mut rows), 128);
+/// assert_eq!(rows[..8], [0b10, 0, 0, 0, 0, 0, 0, 0]); // 2 reaches 1, and nobody 2
+/// assert_eq!(entry::reach(board.image(), &mut rows[1..]), entry::BUFFER_SHORT);
+/// # Ok::<(), lock_board::Error>(())
+/// ```
+pub fn reach(image: &[u8], rows: &mut [u8]) -> u64 {
+    // SAFETY: the slices give pointers that are not null and their own lengths; `rows` is
+    // borrowed for this call alone, so the two do not overlap.
+    unsafe { c::lock_board_reach(image.as_ptr(), image.len(), rows.as_mut_ptr(), rows.len()) }
+}
+
+/// Writes a loop of a waiting program, a byte for each program in it, from the buffer's start on
+/// and answers how many; 0 if the program does not wait; [`UNSOUND`], [`OUT_OF_RANGE`] or
+/// [`BUFFER_SHORT`], if the buffer has not [`LOOP_ROOM`](crate::LOOP_ROOM) bytes.
+/// [`Board::loop_for`](crate::Board::loop_for) says what a loop is.
+///
+/// ```
+/// use lock_board::{entry, Board, LOOP_ROOM};
+///
+/// let board = Board::new();
+/// let mut list = [0; LOOP_ROOM];
+/// assert_eq!(entry::loop_for(board.image(), 1, &mut list), 0);
+/// assert_eq!(entry::loop_for(board.image(), 33, &mut list), entry::OUT_OF_RANGE);
+/// assert_eq!(entry::loop_for(board.image(), 1, &mut list[1..]), entry::BUFFER_SHORT);
+/// ```
+pub fn loop_for(image: &[u8], program: u64, list: &mut [u8]) -> u64 {
+    // SAFETY: the slices give pointers that are not null and their own lengths; `list` is
+    // borrowed for this call alone, so the two do not overlap.
+    unsafe {
+        c::lock_board_loop(
+            image.as_ptr(),
+            image.len(),
+            program,
+            list.as_mut_ptr(),
+            list.len(),
+        )
+    }
+}
+
+/// Answers 1 if the list, a byte for each program, is a loop with the file given to the program,
+/// otherwise 0; or [`UNSOUND`]. Any list may be asked about.
+/// [`Board::is_loop`](crate::Board::is_loop) says more.
+///
+/// ```
+/// use lock_board::{entry, Board};
+///
+/// let board = Board::new();
+/// assert_eq!(entry::is_loop(board.image(), 1, 1, &[1, 2]), 0);
+/// assert_eq!(entry::is_loop(&[], 1, 1, &[1, 2]), entry::UNSOUND);
+/// ```
+pub fn is_loop(image: &[u8], program: u64, file: u64, list: &[u8]) -> u64 {
+    // SAFETY: the slices give pointers that are not null and their own lengths; the library only
+    // reads them, so they may overlap.
+    unsafe {
+        c::lock_board_is_loop(
+            image.as_ptr(),
+            image.len(),
+            program,
+            file,
+            list.as_ptr(),
+            list.len(),
         )
     }
 }

@@ -1,4 +1,4 @@
-//! The lock board, for hosts in Rust: a safe wrapper of the four functions of `libhost.a`.
+//! The lock board, for hosts in Rust: a safe wrapper of the seven functions of `libhost.a`.
 //!
 //! A [`Board`] serves request lines and gives back the journal lines of each:
 //!
@@ -37,6 +37,7 @@
 #![deny(missing_docs)]
 
 mod board;
+mod digraph;
 pub mod entry;
 mod journal;
 mod refusal;
@@ -44,6 +45,7 @@ mod request;
 mod view;
 
 pub use board::{Board, Error, Reply};
+pub use digraph::Reach;
 pub use journal::{Line, Word};
 pub use refusal::Refusal;
 pub use request::{Enter, Request, Verb};
@@ -75,6 +77,12 @@ pub const FILES: usize = 64;
 
 /// The bytes of the label in an ENTER line.
 pub const LABEL_LEN: usize = 8;
+
+/// The bytes of a matrix: four for each program.
+pub const REACH_LEN: usize = 128;
+
+/// The bytes of buffer that a loop asks for.
+pub const LOOP_ROOM: usize = 32;
 
 /// The programs that are admitted, at most, while one waits.
 pub const MOST_PASSED: u8 = 8;

@@ -38,7 +38,8 @@ pub enum Refusal {
     IsOpen,
     /// The file is not open by the program.
     NotOpen,
-    /// The buffer for an order or a line is shorter than that.
+    /// The buffer for an order, a line or a matrix is shorter than that, or one for a loop than 32
+    /// bytes.
     BufferShort,
     /// The program that is to be cancelled is running.
     IsRunning,

@@ -2,7 +2,7 @@
 
 use lock_board::{entry, Board, Error, Line, Refusal, Reply, Request, Standing, Word};
 use lock_board::{CUT_LINE, HIGHEST_PLACE, IMAGE_LEN, JOURNAL_LINE, JOURNAL_ROOM, LONGEST_LINE};
-use lock_board::{MOST_PASSED, PROGRAMS};
+use lock_board::{LOOP_ROOM, MOST_PASSED, PROGRAMS, REACH_LEN};
 
 fn board_after(lines: &[&str]) -> Board {
     let mut board = Board::new();
@@ -382,6 +382,127 @@ fn order_is_given() {
     assert_eq!(order, [170; 3]);
     assert_eq!(entry::order(board.image(), &mut order), 2);
     assert_eq!(order, [1, 9, 170]);
+}
+
+/// Program 7 has file 4 open, which 20 claims too, and 31 has 5, which 7 claims too. Program 20
+/// waits for 6, which 31 claims too.
+fn unsafe_of_three() -> Board {
+    let mut board = board_after(&[
+        "ENTER   7STOCK     2  0  4  5",
+        "ENTER  20BILLS     2  0  4  6",
+        "ENTER  31LISTS     2  0  5  6",
+        "OPEN    7  4",
+        "OPEN   31  5",
+    ]);
+    let reply = board.serve(b"OPEN   20  6").unwrap();
+    assert_eq!(reply.answer(), line(Word::Unsafe, 20, 6));
+    board
+}
+
+#[test]
+fn who_reaches_whom() {
+    let reach = unsafe_of_three().reach();
+    let numbers = (0..=u8::MAX).flat_map(|i| (0..=u8::MAX).map(move |j| (i, j)));
+    let pairs: Vec<(u8, u8)> = numbers.filter(|&(i, j)| reach.reaches(i, j)).collect();
+    assert_eq!(pairs, [(7, 20), (31, 7), (31, 20)]);
+    assert_eq!(reach.reaching(20).collect::<Vec<_>>(), [7, 31]);
+    assert_eq!(reach.reaching(31).count() + reach.reaching(0).count(), 0);
+    assert_ne!(reach, Board::new().reach());
+}
+
+/// There is one loop, wherever it begins.
+#[test]
+fn a_waiting_program_has_its_loop() {
+    let board = unsafe_of_three();
+    let turned = [[20, 31, 7], [31, 7, 20], [7, 20, 31]];
+    let list = board.loop_for(20).unwrap();
+    assert!(turned.iter().any(|turned| *turned == list[..]), "{list:?}");
+    assert!(turned.iter().all(|turned| board.is_loop(20, 6, turned)));
+    for wrong in [
+        &[][..],
+        &[20],
+        &[20, 31],
+        &[7, 31, 20],
+        &[20, 31, 7, 20],
+        &[20, 31, 7, 0],
+        &[33, 20, 31, 7],
+    ] {
+        assert!(!board.is_loop(20, 6, wrong), "{wrong:?}");
+    }
+    for (program, file) in [
+        (20, 4),
+        (31, 6),
+        (20, 5),
+        (0, 6),
+        (33, 6),
+        (20, 0),
+        (20, 65),
+        (1, 6),
+    ] {
+        assert!(
+            !board.is_loop(program, file, &[20, 31, 7]),
+            "{program} {file}"
+        );
+    }
+    for program in [1, 7, 31, 32] {
+        assert_eq!(
+            board.loop_for(program),
+            Ok(vec![]),
+            "{program} does not wait"
+        );
+    }
+    for program in [0, 33, 255] {
+        let refused = Err(Error::Refused(Refusal::OutOfRange));
+        assert_eq!(board.loop_for(program), refused, "{program}");
+    }
+}
+
+/// Those in conflict hold back each other.
+#[test]
+fn a_wait_has_its_loop() {
+    let board = passed_by(0);
+    let mut list = board.loop_for(2).unwrap();
+    assert!(board.is_loop(2, 1, &list));
+    list.sort();
+    assert_eq!(list, [1, 2]);
+}
+
+#[test]
+fn refusals_of_the_digraph_come_in_order() {
+    let board = unsafe_of_three();
+    let (image, bad) = (board.image(), &board.image()[1..]);
+    let mut buffer = [170; REACH_LEN + 1];
+    for (answer, expected) in [
+        (entry::reach(bad, &mut buffer[..1]), entry::UNSOUND),
+        (
+            entry::reach(image, &mut buffer[..REACH_LEN - 1]),
+            entry::BUFFER_SHORT,
+        ),
+        (entry::loop_for(bad, 0, &mut buffer[..1]), entry::UNSOUND),
+        (
+            entry::loop_for(image, 0, &mut buffer[..1]),
+            entry::OUT_OF_RANGE,
+        ),
+        (entry::loop_for(image, 33, &mut buffer), entry::OUT_OF_RANGE),
+        (
+            entry::loop_for(image, 20, &mut buffer[..LOOP_ROOM - 1]),
+            entry::BUFFER_SHORT,
+        ),
+        (
+            entry::loop_for(image, 7, &mut buffer[..LOOP_ROOM - 1]),
+            entry::BUFFER_SHORT,
+        ),
+        (entry::loop_for(image, 7, &mut buffer), 0),
+        (entry::is_loop(bad, 0, 0, &[]), entry::UNSOUND),
+        (entry::is_loop(image, 0, 0, &[]), 0),
+    ] {
+        assert_eq!(answer, expected);
+    }
+    assert_eq!(buffer, [170; REACH_LEN + 1]);
+    assert_eq!(entry::loop_for(image, 20, &mut buffer[..LOOP_ROOM]), 3);
+    assert!(buffer[3..].iter().all(|&byte| byte == 170));
+    assert_eq!(entry::reach(image, &mut buffer), REACH_LEN as u64);
+    assert_eq!(buffer[REACH_LEN], 170);
 }
 
 #[test]

@@ -18,7 +18,7 @@ use crate::model::board::{only, Files, PROGRAMS};
 use crate::model::direct::{self, Reply};
 use crate::model::events::Request;
 use crate::model::journal::{Entry, Word};
-use crate::model::{image, line};
+use crate::model::{digraph, image, line};
 use std::path::{Path, PathBuf};
 
 pub fn path() -> Option<PathBuf> {
@@ -400,9 +400,12 @@ fn enter_behind_a_count_of_8(asking: &mut Asking) -> Vec<(Word, usize)> {
 }
 
 /// What crates/asked is run on when it is proved, and what it must write, are
-/// the model's: 01's session, cancels of a waiting, an absent and a running
-/// program, a number out of range, a line on the lent board, a board that is not
-/// sound, an enter that favours, labels. LOCK_BOARD_WRITE=1 writes both files anew.
+/// the model's: 01's session, whose UNSAFE carries a loop, cancels of a waiting,
+/// an absent and a running program, a number out of range, a line on the lent
+/// board, a board that is not sound, an enter that favours, labels, matrices and
+/// lists to check. "Which loop is free": the file has that of the library, and
+/// the model takes it. LOCK_BOARD_WRITE=1 writes both files anew, but keeps an
+/// output that the model takes.
 #[test]
 fn records_of_the_crate_are_the_models() {
     let mut asking = Asking::new();
@@ -431,9 +434,28 @@ fn records_of_the_crate_are_the_models() {
     assert_eq!(lines, [(Word::Held, 3), (Word::Favour, 2)]);
     asking.add(Record::Label(LABELS[0].0.to_vec()));
     asking.add(Record::Label(LABELS[1].0.to_vec()));
-    let (input, output) = asking.bytes();
+    matrices_and_lists(&mut asking);
     let folder = Path::new(env!("CARGO_MANIFEST_DIR")).join("../../crates/asked");
-    for (name, bytes) in [("stdin", input), ("stdout", output)] {
-        of_the_model(&folder.join(name), &bytes);
+    of_the_model(&folder.join("stdin"), &asking.input());
+    let stdout = folder.join("stdout");
+    match std::fs::read(&stdout) {
+        Ok(output) if asking.takes(&output) => {}
+        _ => of_the_model(&stdout, &asking.output()),
     }
+}
+
+/// The matrix of 01's board before the UNSAFE and of the one that giving the file
+/// would make, which is not sound; lists that are loops and that are not.
+fn matrices_and_lists(asking: &mut Asking) {
+    let image = board_after(&session()[..4]);
+    let board = image::read(&image).expect("a sound board");
+    asking.add(Record::Image(image));
+    asking.add(Record::Matrix);
+    for (list, answer) in [(&[1, 2][..], true), (&[2, 1], true), (&[1], false)] {
+        assert_eq!(digraph::is_loop_with(&board, 2, 2, list), answer);
+        let list = list.to_vec();
+        asking.add(Record::Check { p: 2, f: 2, list });
+    }
+    asking.add(Record::Image(image::write(&board.with_given(2, 2))));
+    asking.add(Record::Matrix);
 }

@@ -4,6 +4,8 @@ mod bytes;
 mod cancels;
 mod chosen;
 mod counts;
+mod digraph;
+mod digraph_vectors;
 mod direct;
 mod entry_vectors;
 mod favoured;

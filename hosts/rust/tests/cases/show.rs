@@ -3,12 +3,13 @@
 
 use super::chosen;
 use crate::expected::phrases::users;
-use crate::expected::show::{dot, edges, show};
+use crate::expected::show::{dot, edges, given_edges, show, Loops};
 use crate::model::board::{only, Board, Files, Program, Standing, MOST_PASSES};
 use crate::model::image;
 use crate::running::whole::{file, run};
 use crate::running::{built, HOSTS};
 use lock_board::{Files as ViewedFiles, Standing as ViewedStanding};
+use std::collections::BTreeMap;
 use std::ffi::OsStr;
 use std::path::Path;
 
@@ -35,6 +36,21 @@ pub fn shown(file: &Path, argument: &str, board: &Board) -> String {
     String::from_utf8(output.stdout).expect("plain text")
 }
 
+/// The loops that the text of --show names, by waiter: `program 2 waits for ..; with file 4 given:
+/// 2 holds back 1 over file 4, 1 holds back 2 over file 3; ..`
+fn loops_in(text: &str) -> Loops {
+    let unbroken = text.replace("\n      ", " ");
+    let waiter = |line: &str| {
+        let p = line.strip_prefix("  program ")?.split(' ').next()?;
+        let (_, given) = line.split_once("; with file ")?;
+        let (_, steps) = given.split(';').next()?.split_once(" given: ")?;
+        let first = |step: &str| step.split(' ').next().and_then(|i| i.parse().ok());
+        let list: Option<Vec<usize>> = steps.split(", ").map(first).collect();
+        Some((p.parse().ok()?, list?))
+    };
+    unbroken.lines().filter_map(waiter).collect()
+}
+
 /// Boards of all the examples, of short vectors, and some of each long one.
 fn chosen_boards() -> Vec<Board> {
     let mut chosen = longest_texts();
@@ -52,8 +68,8 @@ fn admitted(standing: Standing, v: Files, q: Files, w: Files, r: Files) -> Progr
     }
 }
 
-/// The boards with the longest texts: one with 32 readers of all files, and one
-/// where 31 readers of 63 files hold back a program that waits for the last.
+/// The boards with the longest texts: one with 32 readers of all files, one where 31
+/// readers of 63 files hold back a program that waits for the last, and the longest loop.
 fn longest_texts() -> Vec<Board> {
     let last = only(64);
     let mut all_read = Board::EMPTY;
@@ -64,15 +80,41 @@ fn longest_texts() -> Vec<Board> {
     }
     *one_waits.get_mut(32) = admitted(Standing::Waiting(64), !0, 0, 0, 0);
     one_waits.waiting.push(32);
-    for board in [&all_read, &one_waits] {
+    let longest = vec![all_read, one_waits, longest_loop()];
+    for board in &longest {
         assert!(image::read(&image::write(board)).is_ok(), "a sound board");
     }
-    vec![all_read, one_waits]
+    longest
+}
+
+/// Each program but the last writes the file of its number and only reads that of the one before,
+/// the first that of the last; this one waits for its own.
+fn longest_loop() -> Board {
+    let mut board = Board::EMPTY;
+    for p in 1..=32 {
+        let before = if p == 1 { 32 } else { p - 1 };
+        let (own, read) = (only(32 + p), only(32 + before));
+        *board.get_mut(p) = admitted(Standing::Running, own, read, own, 0);
+    }
+    let last = board.get_mut(32);
+    (last.standing, last.w) = (Standing::Waiting(64), 0);
+    board.waiting.push(32);
+    board
 }
 
 /// What a board has that the text must tell.
-fn met(board: &Board) -> Vec<&'static str> {
+fn met(board: &Board, loops: &Loops) -> Vec<&'static str> {
     let mut met = Vec::new();
+    for list in loops.values() {
+        met.push(match list.len() {
+            2 => "a loop of two",
+            32 => "a loop of all",
+            _ => "a longer loop",
+        });
+    }
+    if loops.len() > 1 {
+        met.push("several loops");
+    }
     for &p in &board.waiting {
         let Standing::Waiting(f) = board.get(p).standing else {
             unreachable!("a waiter waits");
@@ -114,7 +156,11 @@ fn met(board: &Board) -> Vec<&'static str> {
     met
 }
 
-const TO_MEET: [&str; 15] = [
+const TO_MEET: [&str; 19] = [
+    "a loop of two",
+    "a longer loop",
+    "a loop of all",
+    "several loops",
     "no order would be left",
     "a writer has the file",
     "a reader has the file",
@@ -140,9 +186,10 @@ fn show_agrees() {
     let chosen = chosen_boards();
     for board in &chosen {
         let text = shown(&file, "--show", board);
-        assert_eq!(text, show(board));
+        let loops = loops_in(&text);
+        assert_eq!(text, show(board, &loops));
         assert!(text.lines().all(|line| line.len() <= 80), "{text}");
-        all_met.extend(met(board));
+        all_met.extend(met(board, &loops));
     }
     for what in TO_MEET {
         assert!(all_met.contains(&what), "no board: {what}");
@@ -154,15 +201,20 @@ fn show_agrees() {
 #[ignore = "runs the hosts: hosts/test show"]
 fn dot_agrees() {
     let file = file("dot.image");
-    let mut found = 0;
+    let (mut found, mut red) = (0, 0);
     for board in &chosen_boards() {
+        let loops = loops_in(&shown(&file, "--show", board));
         let text = shown(&file, "--dot", board);
-        assert_eq!(text, dot(board));
+        assert_eq!(text, dot(board, &loops));
         let graph = graph(&text).unwrap_or_else(|| panic!("no graph:\n{text}"));
-        assert_eq!(graph, (board.admitted(), edges(board)));
-        found += graph.1.len();
+        assert_eq!(graph.nodes, board.admitted());
+        assert_eq!(graph.solid, edges(board));
+        let given: Vec<_> = given_edges(board, &loops).into_keys().collect();
+        assert_eq!(graph.dashed, given);
+        found += graph.solid.len();
+        red += graph.dashed.len();
     }
-    assert!(found > 0);
+    assert!(found > 0 && red > 0);
 }
 
 /// A word, a sign or a quoted text of Graphviz's language, and what comes after it.
@@ -171,7 +223,7 @@ fn token(text: &str) -> Option<(&str, &str)> {
     let end = match text.chars().next()? {
         '"' => 2 + text[1..].find('"')?,
         '-' if text.starts_with("->") => 2,
-        '{' | '}' | '[' | ']' | '=' | ';' => 1,
+        '{' | '}' | '[' | ']' | '=' | ';' | ',' => 1,
         first if first.is_alphanumeric() || first == '_' => text
             .find(|c: char| !c.is_alphanumeric() && c != '_')
             .unwrap_or(text.len()),
@@ -180,8 +232,25 @@ fn token(text: &str) -> Option<(&str, &str)> {
     Some(text.split_at(end))
 }
 
+/// A digraph in Graphviz's language.
+#[derive(Default)]
+struct Graph {
+    nodes: Vec<usize>,
+    solid: Vec<(usize, usize)>,
+    dashed: Vec<(usize, usize)>,
+}
+
+/// The words of `name=value, ..`, by name.
+fn attributes<'a>(tokens: &[&'a str]) -> Option<BTreeMap<&'a str, &'a str>> {
+    let attribute = |tokens: &[&'a str]| match tokens {
+        [name, "=", value] => Some((*name, *value)),
+        _ => None,
+    };
+    tokens.split(|&token| token == ",").map(attribute).collect()
+}
+
 /// The nodes and the edges of a digraph in Graphviz's language, each with a label.
-fn graph(text: &str) -> Option<(Vec<usize>, Vec<(usize, usize)>)> {
+fn graph(text: &str) -> Option<Graph> {
     let (mut tokens, mut rest) = (Vec::new(), text);
     while !rest.trim().is_empty() {
         let (token, after) = token(rest)?;
@@ -192,19 +261,22 @@ fn graph(text: &str) -> Option<(Vec<usize>, Vec<(usize, usize)>)> {
         ["digraph", _, "{", statements @ .., "}"] => statements,
         _ => return None,
     };
-    let (mut nodes, mut edges) = (Vec::new(), Vec::new());
+    let mut graph = Graph::default();
     for statement in statements.split_inclusive(|&token| token == ";") {
-        match statement {
-            [node, "[", "label", "=", label, "]", ";"] if label.starts_with('"') => {
-                nodes.push(node.parse().ok()?);
-            }
-            [i, "->", j, "[", "label", "=", label, "]", ";"] if label.starts_with('"') => {
-                edges.push((i.parse().ok()?, j.parse().ok()?));
+        let open = statement.iter().position(|&token| token == "[")?;
+        let (what, words) = (&statement[..open], statement[open..].strip_prefix(&["["])?);
+        let attributes = attributes(words.strip_suffix(&["]", ";"])?)?;
+        attributes.get("label")?.strip_prefix('"')?;
+        match (what, attributes.get("style")) {
+            ([node], None) => graph.nodes.push(node.parse().ok()?),
+            ([i, "->", j], None) => graph.solid.push((i.parse().ok()?, j.parse().ok()?)),
+            ([i, "->", j], Some(&"dashed")) => {
+                graph.dashed.push((i.parse().ok()?, j.parse().ok()?))
             }
             _ => return None,
         }
     }
-    Some((nodes, edges))
+    Some(graph)
 }
 
 /// A program as the wrapper views it.

@@ -1,6 +1,7 @@
-//! The program `asked`, which makes direct calls, asks for labels and lends its
-//! board to line calls: a list of its records, and the model's answers compared
-//! with the program's. The form of both is told in crates/asked/src/main.rt.
+//! The program `asked`, which makes direct calls, asks for labels, matrices and
+//! loops and lends its board to line calls: a list of its records, and the
+//! model's answers compared with the program's. The form of both is told in
+//! crates/asked/src/main.rt.
 
 use super::call::Call;
 use super::programs;
@@ -8,8 +9,9 @@ use crate::model::board::{Board, PROGRAMS};
 use crate::model::direct::{self, Reply};
 use crate::model::events::Request;
 use crate::model::journal::{Entry, Word};
-use crate::model::{image, line};
+use crate::model::{digraph, image, line};
 use std::fmt;
+use std::ops::Range;
 use std::path::Path;
 
 #[derive(Clone)]
@@ -19,6 +21,44 @@ pub enum Record {
     Label(Vec<u8>),
     /// The line call on a lent board; the journal's bytes are the program's.
     Line(Call),
+    /// The matrix of the program's board, sound or not.
+    Matrix,
+    /// Whether a list is a loop with a file given to a program.
+    Check {
+        p: u64,
+        f: u64,
+        list: Vec<u8>,
+    },
+}
+
+/// What the program is to answer.
+struct Answer {
+    /// All bytes; if it carries a loop, with one of those that it may carry.
+    bytes: Vec<u8>,
+    /// The board on which the carried one is a loop.
+    given: Option<Box<Board>>,
+}
+
+/// Where the loop stands in the answer to a call: its count, then its places.
+const CARRIED: Range<usize> = 164..197;
+
+impl Answer {
+    fn plain(bytes: Vec<u8>) -> Answer {
+        Answer { bytes, given: None }
+    }
+
+    /// Whether an answer is this one. "Which loop is free": it may have any.
+    fn is(&self, found: &[u8]) -> bool {
+        let mut expected = self.bytes.clone();
+        if let (Some(given), Some(carried)) = (&self.given, found.get(CARRIED)) {
+            let (count, places) = (usize::from(carried[0]), &carried[1..]);
+            let (list, rest) = places.split_at(count.min(places.len()));
+            if digraph::is_loop(given, list) && rest.iter().all(|&byte| byte == 0) {
+                expected[CARRIED].copy_from_slice(carried);
+            }
+        }
+        found == expected
+    }
 }
 
 impl Record {
@@ -32,6 +72,8 @@ impl Record {
                 let numbers = [text.len() as u64, call.journal as u64, call.place, 0];
                 (b'p', numbers, text)
             }
+            Record::Matrix => (b'm', [0; 4], &[]),
+            Record::Check { p, f, list } => (b'k', [*p, *f, list.len() as u64, 0], list),
         };
         let mut bytes = vec![kind];
         bytes.extend(numbers.iter().flat_map(|number| number.to_le_bytes()));
@@ -40,28 +82,31 @@ impl Record {
     }
 
     /// The model's answer, and the board after it.
-    fn answer(&self, board: &mut Vec<u8>) -> Vec<u8> {
+    fn answer(&self, board: &mut Vec<u8>) -> Answer {
         match self {
             Record::Call(request) => {
                 let reply = direct::call(board, request);
                 board.clone_from(&reply.image);
-                reply_bytes(&reply)
+                Answer {
+                    bytes: reply_bytes(&reply),
+                    given: reply.given,
+                }
             }
             Record::Image(text) => {
                 let loaded = direct::load(text);
                 let ok = u8::from(loaded.is_ok());
                 *board = loaded.unwrap_or_else(|empty| empty);
-                [&[ok], board.as_slice()].concat()
+                Answer::plain([&[ok], board.as_slice()].concat())
             }
             Record::Label(text) => {
                 let label = line::label(text);
-                [&[label.len() as u8], label].concat()
+                Answer::plain([&[label.len() as u8], label].concat())
             }
-            Record::Line(call) => {
-                let (reply, place, journal) = lent_line(board, call);
-                board.clone_from(&reply.image);
-                let place = format!("{place}\n");
-                [&reply_bytes(&reply), place.as_bytes(), &journal, board].concat()
+            Record::Line(call) => posted(board, call),
+            Record::Matrix => Answer::plain(digraph::rows(&image::parts(board).0)),
+            Record::Check { p, f, list } => {
+                let board = image::parts(board).0;
+                Answer::plain(vec![digraph::is_loop_with(&board, *p, *f, list).into()])
             }
         }
     }
@@ -81,6 +126,8 @@ impl fmt::Display for Record {
                     call.journal, call.place
                 )
             }
+            Record::Matrix => write!(to, "Matrix"),
+            Record::Check { p, f, list } => write!(to, "Check {p} {f} {list:?}"),
         }
     }
 }
@@ -92,6 +139,17 @@ fn lent_line(board: &[u8], call: &Call) -> (Reply, u64, Vec<u8>) {
     let room = call.journal.min(journal.len());
     let (reply, place) = direct::line_call(board, &call.line, &mut journal[..room], call.place);
     (reply, place, journal)
+}
+
+/// The model's answer to a line call, and the board after it.
+fn posted(board: &mut Vec<u8>, call: &Call) -> Answer {
+    let (reply, place, journal) = lent_line(board, call);
+    board.clone_from(&reply.image);
+    let place = format!("{place}\n");
+    Answer {
+        bytes: [&reply_bytes(&reply), place.as_bytes(), &journal, board].concat(),
+        given: reply.given,
+    }
 }
 
 fn kind(request: &Request) -> u8 {
@@ -119,7 +177,7 @@ fn letter(word: Word) -> u8 {
 }
 
 /// A reply as the program writes it; after the last line stand lines of ADMIT
-/// and zeros, after the order's last program zeros.
+/// and zeros, after the order's last program and the loop's last zeros.
 fn reply_bytes(reply: &Reply) -> Vec<u8> {
     let [refusal, count, placed] = [reply.refusal, reply.lines.len(), reply.order.len()];
     let mut bytes = vec![refusal as u8, letter(reply.word), count as u8, placed as u8];
@@ -130,11 +188,20 @@ fn reply_bytes(reply: &Reply) -> Vec<u8> {
         bytes.push(letter(line.word));
         bytes.extend(numbers);
     }
-    let mut order: Vec<u8> = reply.order.iter().map(|&p| p as u8).collect();
-    order.resize(PROGRAMS, 0);
-    bytes.extend(order);
+    let order: Vec<u8> = reply.order.iter().map(|&p| p as u8).collect();
+    bytes.extend(places(order));
+    let carried = reply.given.as_deref().and_then(digraph::some_loop);
+    let carried = carried.unwrap_or_default();
+    bytes.push(carried.len() as u8);
+    bytes.extend(places(carried));
     bytes.extend(&reply.image);
     bytes
+}
+
+/// A list of programs in its 32 places.
+fn places(mut list: Vec<u8>) -> Vec<u8> {
+    list.resize(PROGRAMS, 0);
+    list
 }
 
 /// Records from the empty board on, and the model's board after them.
@@ -173,25 +240,39 @@ impl Asking {
         reply
     }
 
-    /// All the bytes that the program is to read, and to write.
-    pub fn bytes(&self) -> (Vec<u8>, Vec<u8>) {
-        let input = self.records.iter().flat_map(Record::bytes).collect();
-        (input, answers(&self.records).concat())
+    /// All the bytes that the program is to read.
+    pub fn input(&self) -> Vec<u8> {
+        input(&self.records)
+    }
+
+    /// What the program may write: with the loops of the model.
+    pub fn output(&self) -> Vec<u8> {
+        let answers = answers(&self.records).into_iter();
+        answers.flat_map(|answer| answer.bytes).collect()
+    }
+
+    /// Whether the program may write this.
+    pub fn takes(&self, output: &[u8]) -> bool {
+        difference(&self.records, output).is_none()
     }
 
     /// Runs the program. A difference ends the test, with few records that
     /// show it.
     pub fn check(&self, path: &Path) {
-        if difference(path, &self.records).is_some() {
+        if run_differs(path, &self.records).is_some() {
             let records = smallest(path, self.records.clone());
-            let text = difference(path, &records).expect("the difference stays");
+            let text = run_differs(path, &records).expect("the difference stays");
             let records: Vec<String> = records.iter().map(Record::to_string).collect();
             panic!("{text}\nrecords:\n{}", records.join("\n"));
         }
     }
 }
 
-fn answers(records: &[Record]) -> Vec<Vec<u8>> {
+fn input(records: &[Record]) -> Vec<u8> {
+    records.iter().flat_map(Record::bytes).collect()
+}
+
+fn answers(records: &[Record]) -> Vec<Answer> {
     let mut board = Asking::new().board;
     records
         .iter()
@@ -200,13 +281,16 @@ fn answers(records: &[Record]) -> Vec<Vec<u8>> {
 }
 
 /// What the program answers otherwise than the model, if anything.
-fn difference(path: &Path, records: &[Record]) -> Option<String> {
-    let input: Vec<u8> = records.iter().flat_map(Record::bytes).collect();
-    let output = programs::run(path, &input);
-    let mut found = output.as_slice();
+fn run_differs(path: &Path, records: &[Record]) -> Option<String> {
+    difference(records, &programs::run(path, &input(records)))
+}
+
+/// What in these answers is otherwise than the model's, if anything.
+fn difference(records: &[Record], mut found: &[u8]) -> Option<String> {
     for (record, expected) in records.iter().zip(answers(records)) {
-        let (answer, rest) = found.split_at(expected.len().min(found.len()));
-        if answer != expected {
+        let (answer, rest) = found.split_at(expected.bytes.len().min(found.len()));
+        if !expected.is(answer) {
+            let expected = expected.bytes;
             let at = answer.iter().zip(&expected).position(|(a, b)| a != b);
             let (answer, expected) = (answer.escape_ascii(), expected.escape_ascii());
             return Some(format!(
@@ -227,7 +311,7 @@ fn smallest(path: &Path, mut records: Vec<Record>) -> Vec<Record> {
         while at < records.len() {
             let mut fewer = records.clone();
             fewer.drain(at..records.len().min(at + part));
-            match difference(path, &fewer) {
+            match run_differs(path, &fewer) {
                 Some(_) => records = fewer,
                 None => at += part,
             }

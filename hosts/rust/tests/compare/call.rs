@@ -1,5 +1,6 @@
 //! One line call, made of the library and of the model on the same bytes.
 
+use super::digraph::{self, Seen};
 use super::guard::{spilt, Guarded};
 use super::orders::{self, Asked};
 use crate::generate::random::Random;
@@ -58,6 +59,8 @@ pub struct Outcome {
     pub journal: Vec<u8>,
     /// The order of the image after the call.
     pub order: Vec<Asked>,
+    /// Its matrix, and the loops of those that wait.
+    pub digraph: Seen,
     /// Bytes changed that no call may change.
     pub spilt: Option<&'static str>,
 }
@@ -65,9 +68,11 @@ pub struct Outcome {
 pub fn model(image: &[u8], call: &Call) -> Outcome {
     let (mut image, mut journal) = (image.to_vec(), call.journal_before());
     let answer = image::line_call(&mut image, &call.line, &mut journal, call.place);
+    let board = image::read(&image).ok();
     Outcome {
         answer,
-        order: orders::model(&image),
+        order: orders::model(board.as_ref()),
+        digraph: digraph::model(board.as_ref()),
         image,
         journal,
         spilt: None,
@@ -89,6 +94,7 @@ pub fn library(image: &[u8], call: &Call) -> Outcome {
     Outcome {
         answer,
         order: orders::library(&image),
+        digraph: digraph::library(&image, image::read(&image).ok().as_ref()),
         image,
         journal,
         spilt,

@@ -5,6 +5,7 @@
 pub mod asked;
 pub mod call;
 pub mod counters;
+pub mod digraph;
 pub mod guard;
 pub mod orders;
 pub mod programs;

@@ -2,7 +2,8 @@
 //! several lengths.
 
 use super::guard::{spilt, Guarded};
-use crate::model::image;
+use crate::model::board::Board;
+use crate::model::{image, order};
 
 extern "C" {
     fn lock_board_order(
@@ -40,8 +41,8 @@ fn ask(one: impl Fn(usize) -> Asked) -> Vec<Asked> {
     all
 }
 
-pub fn model(image: &[u8]) -> Vec<Asked> {
-    let order = image::order_of(image);
+pub fn model(board: Option<&Board>) -> Vec<Asked> {
+    let order = board.and_then(order::carried);
     ask(|len| {
         let mut buffer = vec![FILL; len];
         let answer = image::order_call(order.as_deref(), &mut buffer);

@@ -102,7 +102,20 @@ fn outcome(outcome: &Outcome, call: &Call, before: &[u8]) -> String {
     if let Some(what) = outcome.spilt {
         text += &format!("  {what} changed\n");
     }
-    text + &order(outcome)
+    text + &order(outcome) + &digraph(outcome)
+}
+
+/// The matrix after the call, and what is wrong with the loops.
+fn digraph(outcome: &Outcome) -> String {
+    let matrix = &outcome.digraph.matrix;
+    let mut text = format!("  matrix: {} {:?}\n", matrix.answer, matrix.buffer);
+    if let Some(what) = matrix.spilt {
+        text += &format!("  {what} changed\n");
+    }
+    for fault in &outcome.digraph.loops {
+        text += &format!("  {fault}\n");
+    }
+    text
 }
 
 /// The order after the call: each answer, with its buffer.

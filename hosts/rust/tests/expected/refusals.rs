@@ -1,7 +1,7 @@
 //! What a host shows on standard error of a session: one line for each refusal,
 //! with what was asked and what stands. The words come from docs/REFUSALS.md.
 
-use super::phrases::{files, open, programs, uses, wait, Labels};
+use super::phrases::{self, files, open, programs, users, uses, Labels};
 use crate::model::board::{members, only, Board, Standing, FILES, PROGRAMS};
 use crate::model::image::step;
 use crate::model::journal::{columns, Entry, Word};
@@ -179,6 +179,18 @@ impl Session<'_> {
             _ => open(program),
         }
     }
+}
+
+/// Why a program waits, and for want of an order also who holds it back.
+fn wait(board: &Board, p: usize, labels: &Labels) -> String {
+    let why = phrases::wait(board, p, labels);
+    if !users(board, p).is_empty() {
+        return why;
+    }
+    let mut holders = board.which(|other| other.holds_back(board.get(p)));
+    holders.retain(|&other| other != p);
+    assert!(!holders.is_empty(), "nobody holds back program {p}");
+    format!("{why}; held back by {}", programs(&holders, labels))
 }
 
 /// Bytes of a line between quotes, those outside 32 to 126 as `?`.

@@ -1,9 +1,15 @@
-//! The text of --show and of --dot.
+//! The text of --show and of --dot. Which loop they name is free, so each is handed the
+//! loops, and what is no loop fails here.
 
 use super::phrases::{files, open, programs, users, uses, wait, Labels};
-use crate::model::board::{Board, Files, Standing, MOST_PASSES, PROGRAMS};
+use crate::model::board::{members, only, Board, Files, Standing, MOST_PASSES, PROGRAMS};
+use crate::model::digraph::is_loop;
 use crate::model::order;
 use crate::model::settle::awaited;
+use std::collections::{BTreeMap, BTreeSet};
+
+/// A loop for each program that waits for want of an order, the program first.
+pub type Loops = BTreeMap<usize, Vec<usize>>;
 
 /// The columns of a line, and the blanks before all but the first of a paragraph.
 const WIDTH: usize = 80;
@@ -50,9 +56,27 @@ fn admitted(board: &Board, p: usize) -> String {
     format!("  program {p} {standing}: {}; {more}", open(program))
 }
 
-fn waiter(board: &Board, p: usize) -> String {
+/// The steps of a loop, by the model's checker, each with the lowest file over which the first
+/// holds back the second.
+fn steps(board: &Board, p: usize, list: &[usize]) -> Vec<(usize, usize, usize)> {
+    let given = board.with_given(p, awaited(board, p));
+    let bytes: Vec<u8> = list.iter().map(|&i| i as u8).collect();
+    assert!(is_loop(&given, &bytes), "no loop: {list:?}");
+    assert_eq!(list[0], p, "{list:?}");
+    let next = list.iter().cycle().skip(1);
+    let step = |(&i, &j): (&usize, &usize)| (i, j, members(held_in(&given, i, j))[0]);
+    list.iter().zip(next).map(step).collect()
+}
+
+fn waiter(board: &Board, p: usize, loops: &Loops) -> String {
     let mut text = format!("  program {p} {}", wait(board, p, &Labels::new()));
     if users(board, p).is_empty() {
+        let steps: Vec<String> = steps(board, p, &loops[&p])
+            .iter()
+            .map(|(i, j, file)| format!("{i} holds back {j} over file {file}"))
+            .collect();
+        let file = awaited(board, p);
+        text += &format!("; with file {file} given: {}", steps.join(", "));
         let holders: Vec<String> = (1..=PROGRAMS)
             .filter(|&i| i != p && held_in(board, i, p) != 0)
             .map(|i| format!("program {i} ({})", files(held_in(board, i, p))))
@@ -89,7 +113,7 @@ fn named(list: &[usize]) -> String {
     }
 }
 
-pub fn show(board: &Board) -> String {
+pub fn show(board: &Board, loops: &Loops) -> String {
     let mut paragraphs = Vec::new();
     match board.admitted() {
         none if none.is_empty() => paragraphs.push("Admitted: nobody".to_string()),
@@ -102,7 +126,7 @@ pub fn show(board: &Board) -> String {
         paragraphs.push("Waiting: nobody".to_string());
     } else {
         paragraphs.push("Waiting, oldest first:".to_string());
-        paragraphs.extend(board.waiting.iter().map(|&p| waiter(board, p)));
+        paragraphs.extend(board.waiting.iter().map(|&p| waiter(board, p, loops)));
     }
     let order = order::carried(board).expect("a sound board has an order");
     paragraphs.push(format!("Favoured: {}", favoured(board)));
@@ -127,7 +151,43 @@ pub fn edges(board: &Board) -> Vec<(usize, usize)> {
         .collect()
 }
 
-pub fn dot(board: &Board) -> String {
+/// The edges that are there only with an awaited file given, with the file.
+pub fn given_edges(board: &Board, loops: &Loops) -> BTreeMap<(usize, usize), usize> {
+    let first = |(&p, list): (&usize, &Vec<usize>)| {
+        let (i, j, file) = steps(board, p, list)[0];
+        assert_eq!(held_in(board, i, j), 0, "{i} holds back {j} as it is");
+        assert_eq!(file, awaited(board, p));
+        ((i, j), file)
+    };
+    loops.iter().map(first).collect()
+}
+
+/// The edges among the admitted programs, in the sequence of their numbers; red are the loops,
+/// dashed what only a file given makes.
+fn edge_lines(board: &Board, loops: &Loops) -> BTreeMap<(usize, usize), String> {
+    let red: BTreeSet<_> = loops
+        .iter()
+        .flat_map(|(&p, list)| steps(board, p, list))
+        .map(|(i, j, _)| (i, j))
+        .collect();
+    let colour = |i, j| match red.contains(&(i, j)) {
+        true => ", color=red",
+        false => "",
+    };
+    let solid = edges(board).into_iter().map(|(i, j)| {
+        let label = files(held_in(board, i, j));
+        let line = format!("{i} -> {j} [label=\"{label}\"{}]", colour(i, j));
+        ((i, j), line)
+    });
+    let dashed = given_edges(board, loops).into_iter().map(|((i, j), file)| {
+        let label = files(only(file)) + " if given";
+        let line = format!("{i} -> {j} [label=\"{label}\", color=red, style=dashed]");
+        ((i, j), line)
+    });
+    solid.chain(dashed).collect()
+}
+
+pub fn dot(board: &Board, loops: &Loops) -> String {
     let mut text = "digraph lock_board {\n".to_string();
     for p in board.admitted() {
         let standing = match board.get(p).standing {
@@ -136,11 +196,8 @@ pub fn dot(board: &Board) -> String {
         };
         text += &format!("    {p} [label=\"program {p}\\n{standing}\"];\n");
     }
-    for (i, j) in edges(board) {
-        text += &format!(
-            "    {i} -> {j} [label=\"{}\"];\n",
-            files(held_in(board, i, j))
-        );
+    for line in edge_lines(board, loops).values() {
+        text += &format!("    {line};\n");
     }
     text + "}\n"
 }

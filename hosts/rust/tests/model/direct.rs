@@ -18,6 +18,9 @@ pub struct Reply {
     pub lines: Vec<Entry>,
     pub order: Vec<usize>,
     pub image: Vec<u8>,
+    /// "An UNSAFE answer now carries a loop": the board before the call "with the
+    /// file given", on which it is one. None for other answers.
+    pub given: Option<Box<Board>>,
 }
 
 /// "Every answer carries the order of the board after the call; a refusal that
@@ -34,12 +37,17 @@ pub fn call(image: &[u8], request: &Request) -> Reply {
         Ok(result) => result,
         Err(number) => return refused(number, carried(&board), image),
     };
+    let given = (lines[0].word == Word::Unsafe).then(|| {
+        let (p, f) = request.numbers();
+        Box::new(board.with_given(p, f))
+    });
     Reply {
         word: lines[0].word,
         refusal: 0,
         order: carried(&after),
         image: write(&after),
         lines,
+        given,
     }
 }
 
@@ -67,6 +75,7 @@ fn refused(refusal: usize, order: Vec<usize>, image: &[u8]) -> Reply {
         lines: Vec::new(),
         order,
         image: image.to_vec(),
+        given: None,
     }
 }
 

@@ -4,7 +4,6 @@ use super::board::{Board, Program, Standing, FILES, PROGRAMS};
 use super::events;
 use super::journal::Entry;
 use super::line;
-use super::order;
 use super::sound::{self, Fault};
 
 /// "The image gains 32 count bytes at its end, 1,187 in all".
@@ -28,6 +27,7 @@ pub const COUNTS: usize = LEAVES + 1;
 /// Answers for refusals: 2^64 less the number.
 pub const REFUSED_1: u64 = u64::MAX;
 pub const REFUSED_2: u64 = u64::MAX - 1;
+pub const REFUSED_8: u64 = u64::MAX - 7;
 pub const REFUSED_17: u64 = u64::MAX - 16;
 
 /// The highest place, and the room that a call must find from the place on.
@@ -75,6 +75,17 @@ pub fn layout(image: &[u8]) -> Result<(Board, Vec<Fault>), Vec<Fault>> {
     if image.len() != LENGTH {
         return Err(vec![Fault::Length]);
     }
+    let (board, broken, gaps) = parts(image);
+    if broken.is_empty() {
+        Ok((board, gaps))
+    } else {
+        Err(broken)
+    }
+}
+
+/// The board of an image of the right length, the faults of its layout, and the
+/// gaps in its lines.
+pub fn parts(image: &[u8]) -> (Board, Vec<Fault>, Vec<Fault>) {
     let (mut board, mut broken, mut gaps) = (Board::EMPTY, Vec::new(), Vec::new());
     for p in 1..=PROGRAMS {
         *board.get_mut(p) = program(&image[PROGRAM * (p - 1)..PROGRAM * p], &mut broken);
@@ -100,11 +111,7 @@ pub fn layout(image: &[u8]) -> Result<(Board, Vec<Fault>), Vec<Fault>> {
     if board.favoured > PROGRAMS {
         broken.push(Fault::FavouredRange);
     }
-    if broken.is_empty() {
-        Ok((board, gaps))
-    } else {
-        Err(broken)
-    }
+    (board, broken, gaps)
 }
 
 fn program(bytes: &[u8], broken: &mut Vec<Fault>) -> Program {
@@ -166,12 +173,8 @@ pub fn line_call(image: &mut [u8], request: &[u8], journal: &mut [u8], place: u6
     place + bytes.len() as u64
 }
 
-/// The carried order of an image's board; none if the board is not sound.
-pub fn order_of(image: &[u8]) -> Option<Vec<usize>> {
-    order::carried(&read(image).ok()?)
-}
-
-/// The C host's order call, on an image whose order is this.
+/// The C host's order call, on an image whose order is this; none if its board is
+/// not sound.
 pub fn order_call(order: Option<&[usize]>, buffer: &mut [u8]) -> u64 {
     let Some(order) = order else {
         return REFUSED_1;
