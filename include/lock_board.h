@@ -9,7 +9,7 @@
 extern "C" {
 #endif
 
-#define LOCK_BOARD_VERSION "1.5.0" /* the image's form belongs to it; see CHANGELOG.md */
+#define LOCK_BOARD_VERSION "1.6.0" /* the image's form belongs to it; see CHANGELOG.md */
 
 #define LOCK_BOARD_IMAGE_LEN     1187 /* bytes of a board's image */
 #define LOCK_BOARD_JOURNAL_ROOM  512  /* bytes of journal that a call asks for from its place on */
@@ -19,8 +19,10 @@ extern "C" {
 #define LOCK_BOARD_HIGHEST_PLACE 1000000000 /* highest place that a call takes */
 #define LOCK_BOARD_PROGRAMS      32
 #define LOCK_BOARD_FILES         64
-#define LOCK_BOARD_LABEL_LEN     8 /* bytes of the label in an ENTER line */
-#define LOCK_BOARD_MOST_PASSED   8 /* programs that are admitted, at most, while one waits */
+#define LOCK_BOARD_LABEL_LEN     8   /* bytes of the label in an ENTER line */
+#define LOCK_BOARD_MOST_PASSED   8   /* programs that are admitted, at most, while one waits */
+#define LOCK_BOARD_REACH_LEN     128 /* bytes of the matrix of who reaches whom */
+#define LOCK_BOARD_LOOP_ROOM     32  /* bytes that a call asks for to write a loop */
 
 /*
  * The answer for a refusal: 2^64 less its number. So the number of a refusal is
@@ -38,8 +40,8 @@ extern "C" {
 /*
  * The numbers of the refusals; docs/REFUSALS.md has the words.
  * 1, 2 and 17 come as answers, 3 to 7, 9 to 16 and 18 in a REFUSE line of
- * the journal; lock_board_write answers 3, 6, 8 and 17. 8 never comes from a
- * request line.
+ * the journal; lock_board_write answers 3, 6, 8 and 17, lock_board_loop 1, 8
+ * and 17. 8 never comes from a request line.
  */
 enum lock_board_refusal {
     LOCK_BOARD_REFUSAL_NOT_SOUND = 1,
@@ -115,7 +117,8 @@ enum lock_board_verb {
  *   bytes as its length says, and no two buffers of a call overlap. All else is
  *   checked: any bytes, lengths and numbers are safe.
  * - Calls may run in several threads at once, but no two calls on the same
- *   image, journal, order or written line. Allow a call 64 KB of stack.
+ *   image, journal, order, written line, matrix or loop. Allow a call 64 KB of
+ *   stack.
  */
 
 /*
@@ -155,6 +158,60 @@ uint64_t lock_board_line(uint8_t *image, size_t image_len, const uint8_t *line, 
  * the number of admitted programs. Nothing is written.
  */
 uint64_t lock_board_order(const uint8_t *image, size_t image_len, uint8_t *order, size_t order_len);
+
+/*
+ * Which programs hold back which, over any number of steps. i holds back j,
+ * another program, if a file that i has open for writing is in a claim of j, or
+ * one that it has open for reading is in the write claim of j. i reaches p if a
+ * path of one or more such steps leads from i to p, all of them between admitted
+ * programs (running or waiting).
+ *
+ * Writes the matrix of the image's board into rows, LOCK_BOARD_REACH_LEN bytes
+ * from the start on, and answers LOCK_BOARD_REACH_LEN. It has a row for each
+ * program from 1 to 32, a 32-bit number in 4 bytes, lowest first: in the row of
+ * program p, which begins at 4 * (p - 1), bit i - 1 is set if i reaches p. So the
+ * row of p has those who come before p in every completion order. Rows and bits of
+ * programs that are not admitted are 0. No program reaches itself, since the board
+ * is sound. Bytes after the matrix keep their contents. The image is only read.
+ *
+ * A refusal writes nothing. The first that applies is the answer:
+ * LOCK_BOARD_UNSOUND: as above.
+ * LOCK_BOARD_BUFFER_SHORT: rows_len is less than LOCK_BOARD_REACH_LEN.
+ */
+uint64_t lock_board_reach(const uint8_t *image, size_t image_len, uint8_t *rows, size_t rows_len);
+
+/*
+ * Why a waiting program cannot have its file: a loop. That is a list of two or
+ * more different admitted programs, each holding back the next and the last the
+ * first, with the file given: on the image's board with the file that the program
+ * waits for among those that it has open. Every waiting program has one. Which of
+ * several is written, and with which of its programs it begins, is not said.
+ *
+ * Writes the programs' numbers, a byte each, into the list from its start on, and
+ * answers how many, 2 to 32. For a program that does not wait the answer is 0, and
+ * nothing is written. Bytes after the programs keep their contents. The image is
+ * only read.
+ *
+ * A refusal writes nothing. The first that applies is the answer:
+ * LOCK_BOARD_UNSOUND: as above.
+ * LOCK_BOARD_OUT_OF_RANGE: program is not 1 to LOCK_BOARD_PROGRAMS.
+ * LOCK_BOARD_BUFFER_SHORT: list_len is less than LOCK_BOARD_LOOP_ROOM, however
+ * long the loop is.
+ */
+uint64_t lock_board_loop(const uint8_t *image, size_t image_len, uint64_t program, uint8_t *list,
+                         size_t list_len);
+
+/*
+ * Answers 1 if the list is a loop, as above, on the image's board with this file
+ * given to this program, and 0 if it is not. The program need not wait, nor for
+ * this file. 0 too if the program is not admitted or no program at all, or if the
+ * file is in neither of its claims or no file at all. The list may be of any
+ * length and have any bytes. Nothing is written.
+ *
+ * LOCK_BOARD_UNSOUND: as above.
+ */
+uint64_t lock_board_is_loop(const uint8_t *image, size_t image_len, uint64_t program, uint64_t file,
+                            const uint8_t *list, size_t list_len);
 
 /*
  * Writes the request line of a call into the line's buffer, from its start on

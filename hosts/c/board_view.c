@@ -36,6 +36,13 @@ void board_view_read(struct board_view *view, const uint8_t *image) {
 
 uint64_t file_set(int file) { return (uint64_t)1 << (file - 1); }
 
+int lowest_file(uint64_t files) {
+    for (int f = 1; f <= LOCK_BOARD_FILES; f++)
+        if (files & file_set(f))
+            return f;
+    return 0;
+}
+
 int is_admitted(const struct program_view *program) {
     return program->standing == LOCK_BOARD_RUNNING || program->standing == LOCK_BOARD_WAITING;
 }
@@ -49,12 +56,26 @@ uint64_t holds_back_in(const struct program_view *i, const struct program_view *
     return (i->write_open & (j->write_claim | j->read_claim)) | (i->read_open & j->write_claim);
 }
 
-int has_in_conflicting_use(const struct board_view *view, int i, int p) {
-    struct program_view given = view->programs[p];
+struct program_view with_file_given(const struct program_view *program) {
+    struct program_view given = *program;
     const uint64_t file = file_set(given.awaited);
     given.write_open |= file & given.write_claim;
     given.read_open |= file & given.read_claim;
+    return given;
+}
+
+int has_in_conflicting_use(const struct board_view *view, int i, int p) {
+    const struct program_view given = with_file_given(&view->programs[p]);
     return i != p && in_conflict(&view->programs[i], &given);
+}
+
+int waits_for_order(const struct board_view *view, int p) {
+    if (view->programs[p].standing != LOCK_BOARD_WAITING)
+        return 0;
+    for (int i = 1; i <= LOCK_BOARD_PROGRAMS; i++)
+        if (has_in_conflicting_use(view, i, p))
+            return 0;
+    return 1;
 }
 
 /* At the latest with the leave that brings the leaves to the number at favouring less one. */

@@ -27,6 +27,9 @@ void board_view_read(struct board_view *view, const uint8_t *image);
 /* The set of one file, 1 to 64. */
 uint64_t file_set(int file);
 
+/* The lowest file of a set, 0 if there is none. */
+int lowest_file(uint64_t files);
+
 /* Running or waiting. */
 int is_admitted(const struct program_view *program);
 
@@ -40,10 +43,19 @@ int in_conflict(const struct program_view *i, const struct program_view *j);
 uint64_t holds_back_in(const struct program_view *i, const struct program_view *j);
 
 /*
+ * A waiting program with the file given that it waits for: it "joins the open files
+ * of p, in the way that its claim says".
+ */
+struct program_view with_file_given(const struct program_view *program);
+
+/*
  * Whether program i has the file that program p waits for in conflicting use:
  * "if, with f given, it and p would conflict".
  */
 int has_in_conflicting_use(const struct board_view *view, int i, int p);
+
+/* Whether program p waits for want of an order: for a file that nobody has in conflicting use. */
+int waits_for_order(const struct board_view *view, int p);
 
 /*
  * The leaves that are still to come, at most, until the favoured program gets its

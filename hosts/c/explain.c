@@ -168,6 +168,28 @@ static void say_remedy(struct text *text, const struct refused *r, const char *s
         say(text, "; a %s program that has died is removed with %s", standing, verb);
 }
 
+/* The programs that hold back a program, a 0 after them. */
+static void take_holders(const struct board_view *view, int program, uint8_t *holders) {
+    int count = 0;
+    for (int i = 1; i <= LOCK_BOARD_PROGRAMS; i++)
+        if (i != program && holds_back_in(&view->programs[i], &view->programs[program]))
+            holders[count++] = (uint8_t)i;
+    holders[count] = 0;
+}
+
+/*
+ * Why a program waits, and for want of an order also who is to be asked: `waits for file 4,
+ * which nobody has in conflicting use, ..; held back by program 1 (STOCK)`.
+ */
+static void explain_wait(struct text *text, const struct refused *r, int program) {
+    uint8_t holders[LOCK_BOARD_PROGRAMS + 1];
+    if (say_wait(text, r->labels, r->view, program) > 0)
+        return;
+    take_holders(r->view, program, holders);
+    say(text, "; held back by ");
+    say_programs(text, r->labels, holders);
+}
+
 /* `program 2 (BILLS) runs` */
 static void explain_not_absent(struct text *text, const struct refused *r) {
     const uint8_t entered[] = {(uint8_t)r->program, 0};
@@ -175,7 +197,7 @@ static void explain_not_absent(struct text *text, const struct refused *r) {
     say_programs(text, r->labels, entered);
     say(text, " ");
     if (standing == LOCK_BOARD_WAITING)
-        say_wait(text, r->labels, r->view, r->program);
+        explain_wait(text, r, r->program);
     else
         say(text, standing == LOCK_BOARD_HELD ? "is held at entry" : "runs");
 }
@@ -214,12 +236,12 @@ static void explain_held(struct text *text, const struct refused *r) {
     const uint8_t favoured[] = {(uint8_t)r->view->favoured, 0};
     say_programs(text, r->labels, favoured);
     say(text, " is favoured and ");
-    say_wait(text, r->labels, r->view, r->view->favoured);
+    explain_wait(text, r, r->view->favoured);
     say_remedy(text, r, "held", "CANCEL");
 }
 
 static void explain_waiting(struct text *text, const struct refused *r) {
-    say_wait(text, r->labels, r->view, r->program);
+    explain_wait(text, r, r->program);
     say_remedy(text, r, "waiting", "CANCEL");
 }
 

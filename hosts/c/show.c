@@ -1,6 +1,7 @@
 #include "show.h"
 
 #include "image_file.h"
+#include "loop.h"
 #include "phrases.h"
 
 #include <errno.h>
@@ -9,8 +10,8 @@
 
 #define WIDTH 80 /* columns of a line */
 #define HANG  6  /* blanks before the second line of a paragraph and those after it */
-/* Bytes of the longest paragraph: 31 programs, each with up to 64 files. */
-#define PARAGRAPH_LEN 10000
+/* Bytes of the longest paragraph: 31 programs, each with up to 64 files, and a loop of 32. */
+#define PARAGRAPH_LEN 12000
 
 static const char not_shown[] = "the board cannot be shown";
 
@@ -70,15 +71,34 @@ static void say_holders(struct text *text, const struct board_view *view, int p)
     }
 }
 
+/* `; with file 4 given: 2 holds back 1 over file 4, 1 holds back 2 over file 3` */
+static void say_loop(struct text *text, const struct board_view *view, const struct loop *loop) {
+    const int p = loop->programs[0];
+    const char *before = "";
+    struct board_view given = *view;
+    given.programs[p] = with_file_given(&view->programs[p]);
+    say(text, "; with file %d given: ", view->programs[p].awaited);
+    for (size_t n = 0; n < loop->count; n++) {
+        const int i = loop->programs[n], j = loop_next(loop, n);
+        const uint64_t files = holds_back_in(&given.programs[i], &given.programs[j]);
+        say(text, "%s%d holds back %d over file %d", before, i, j, lowest_file(files));
+        before = ", ";
+    }
+}
+
 /* `program 2 waits for file 1, which program 3 reads; passed by 2 of at most 8 programs` */
-static void show_waiting(const struct board_view *view) {
+static void show_waiting(const struct board_view *view, const uint8_t *image) {
     puts(view->waiting_line[0] ? "Waiting, oldest first:" : "Waiting: nobody");
     for (const uint8_t *p = view->waiting_line; *p; p++) {
+        const struct loop loop = loop_of(view, image, *p);
         char bytes[PARAGRAPH_LEN];
         struct text text = {bytes, sizeof bytes, 0};
         say(&text, "  program %d ", *p);
-        if (say_wait(&text, NULL, view, *p) == 0)
+        say_wait(&text, NULL, view, *p);
+        if (loop.count > 0) {
+            say_loop(&text, view, &loop);
             say_holders(&text, view, *p);
+        }
         say(&text, "; passed by %d of at most %d programs", view->programs[*p].passed,
             LOCK_BOARD_MOST_PASSED);
         write_paragraph(bytes);
@@ -124,23 +144,57 @@ int show_board(const char *path) {
     board_view_read(&view, image);
     lock_board_order(image, sizeof image, order, LOCK_BOARD_PROGRAMS);
     show_admitted(&view);
-    show_waiting(&view);
+    show_waiting(&view, image);
     show_favoured(&view);
     show_list("Held at entry, oldest first", view.entry_line);
     show_list("Completion order", order);
     return shown(not_shown);
 }
 
-/* The edges from program i: `1 -> 2 [label="file 1"];` */
-static void show_edges(const struct board_view *view, int i) {
-    for (int j = 1; j <= LOCK_BOARD_PROGRAMS; j++) {
-        const uint64_t files = holds_back_in(&view->programs[i], &view->programs[j]);
-        char bytes[PARAGRAPH_LEN];
-        struct text text = {bytes, sizeof bytes, 0};
-        if (i == j || !is_admitted(&view->programs[j]) || !files)
-            continue;
-        say_files(&text, files);
-        printf("    %d -> %d [label=\"%s\"];\n", i, j, bytes);
+/* steps[i][j]: in a loop of somebody who waits for want of an order i comes before j. */
+typedef uint8_t loop_steps[LOCK_BOARD_PROGRAMS + 1][LOCK_BOARD_PROGRAMS + 1];
+
+static void take_steps(loop_steps steps, const struct board_view *view, const uint8_t *image) {
+    for (int p = 1; p <= LOCK_BOARD_PROGRAMS; p++) {
+        const struct loop loop = loop_of(view, image, p);
+        for (size_t n = 0; n < loop.count; n++)
+            steps[loop.programs[n]][loop_next(&loop, n)] = 1;
+    }
+}
+
+/*
+ * An edge: `1 -> 2 [label="file 1"];`, in a loop `1 -> 2 [label="file 1", color=red];`. The
+ * one that is there only with the awaited file given is the first of its loop:
+ * `2 -> 1 [label="file 4 if given", color=red, style=dashed];`
+ */
+static void show_edge(const struct board_view *view, int i, int j, int in_loop) {
+    const uint64_t files = holds_back_in(&view->programs[i], &view->programs[j]);
+    char bytes[PARAGRAPH_LEN];
+    struct text text = {bytes, sizeof bytes, 0};
+    if (!files && !in_loop)
+        return;
+    say_files(&text, files ? files : file_set(view->programs[i].awaited));
+    printf("    %d -> %d [label=\"%s%s\"%s%s];\n", i, j, bytes, files ? "" : " if given",
+           in_loop ? ", color=red" : "", files ? "" : ", style=dashed");
+}
+
+static void show_edges(const struct board_view *view, const uint8_t *image) {
+    loop_steps steps = {{0}};
+    take_steps(steps, view, image);
+    for (int i = 1; i <= LOCK_BOARD_PROGRAMS; i++)
+        for (int j = 1; j <= LOCK_BOARD_PROGRAMS; j++)
+            if (i != j && is_admitted(&view->programs[j]))
+                show_edge(view, i, j, steps[i][j]);
+}
+
+/* The programs: `1 [label="program 1\nruns"];` */
+static void show_nodes(const struct board_view *view) {
+    for (int p = 1; p <= LOCK_BOARD_PROGRAMS; p++) {
+        const struct program_view *program = &view->programs[p];
+        if (program->standing == LOCK_BOARD_RUNNING)
+            printf("    %d [label=\"program %d\\nruns\"];\n", p, p);
+        else if (program->standing == LOCK_BOARD_WAITING)
+            printf("    %d [label=\"program %d\\nwaits for file %d\"];\n", p, p, program->awaited);
     }
 }
 
@@ -151,15 +205,8 @@ int show_digraph(const char *path) {
         return 1;
     board_view_read(&view, image);
     puts("digraph lock_board {");
-    for (int p = 1; p <= LOCK_BOARD_PROGRAMS; p++) {
-        const struct program_view *program = &view.programs[p];
-        if (program->standing == LOCK_BOARD_RUNNING)
-            printf("    %d [label=\"program %d\\nruns\"];\n", p, p);
-        else if (program->standing == LOCK_BOARD_WAITING)
-            printf("    %d [label=\"program %d\\nwaits for file %d\"];\n", p, p, program->awaited);
-    }
-    for (int p = 1; p <= LOCK_BOARD_PROGRAMS; p++)
-        show_edges(&view, p);
+    show_nodes(&view);
+    show_edges(&view, image);
     puts("}");
     return shown(not_shown);
 }

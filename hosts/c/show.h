@@ -12,7 +12,11 @@
 /* For a person, in at most 80 columns. */
 int show_board(const char *path);
 
-/* Who holds back whom among the admitted programs, and in which files, for Graphviz. */
+/*
+ * Who holds back whom among the admitted programs, and in which files, for Graphviz. Red is a
+ * loop of somebody who waits for want of an order, dashed its step that only the awaited file
+ * makes.
+ */
 int show_digraph(const char *path);
 
 /* Ends what such a function has written; the text says what has failed, if anything has. */

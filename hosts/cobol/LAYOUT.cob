@@ -11,6 +11,7 @@
        01  BIT-OF-64               PIC 9(20).
        01  EXPECTED-LINE           PIC X(40).
        01  EXPECTED-LEN            PIC 9(4) COMP-5.
+       01  EXPECTED-REACH          PIC 9(10).
 
        PROCEDURE DIVISION.
        MAIN-PART.
@@ -23,6 +24,9 @@
            PERFORM TEST-WRITE
            PERFORM TEST-WRITE-REFUSALS
            PERFORM TEST-CANCEL
+           PERFORM TEST-REACH
+           PERFORM TEST-LOOP
+           PERFORM TEST-IS-LOOP
            PERFORM TEST-PASSED
            PERFORM TEST-REFUSALS
            STOP RUN.
@@ -267,6 +271,123 @@
                PERFORM FAIL
            END-IF.
 
+      * On an empty board 32 writes 1, which 2 only reads, and 2
+      * writes 2, which 31 only reads. 31 asks for 64, which 32 only
+      * reads: then 31 would hold back 32. So 31 waits; 32 reaches 31
+      * over 2.
+       TEST-REACH.
+           MOVE "the matrix" TO TESTED
+           IF LENGTH OF LB-REACH NOT = LB-REACH-LEN
+               PERFORM FAIL
+           END-IF
+           PERFORM ASK-EMPTY
+           MOVE "REACH" TO LB-CALL-LABEL
+           MOVE 32 TO LB-CALL-PROGRAM
+           MOVE LB-FILE-BIT (1) TO LB-CALL-WRITABLE
+           MOVE LB-FILE-BIT (64) TO LB-CALL-READABLE
+           MOVE 1 TO LB-CALL-FILE
+           PERFORM ENTER-AND-OPEN
+           MOVE 2 TO LB-CALL-PROGRAM
+           MOVE LB-FILE-BIT (2) TO LB-CALL-WRITABLE
+           MOVE LB-FILE-BIT (1) TO LB-CALL-READABLE
+           MOVE 2 TO LB-CALL-FILE
+           PERFORM ENTER-AND-OPEN
+           MOVE 31 TO LB-CALL-PROGRAM
+           MOVE LB-FILE-BIT (64) TO LB-CALL-WRITABLE
+           MOVE LB-FILE-BIT (2) TO LB-CALL-READABLE
+           MOVE 64 TO LB-CALL-FILE
+           PERFORM ENTER-AND-OPEN
+           IF NOT LB-UNSAFE (1)
+               PERFORM FAIL
+           END-IF
+           PERFORM ASK-REACH
+           IF LB-ANSWER NOT = 128
+               PERFORM FAIL
+           END-IF
+           PERFORM VARYING I FROM 1 BY 1 UNTIL I > 32
+               EVALUATE I
+                   WHEN 2  MOVE LB-FILE-BIT (32) TO EXPECTED-REACH
+                   WHEN 31 ADD LB-FILE-BIT (2) LB-FILE-BIT (32)
+                               GIVING EXPECTED-REACH
+                   WHEN OTHER MOVE 0 TO EXPECTED-REACH
+               END-EVALUATE
+               IF LB-REACHED-BY (I) NOT = EXPECTED-REACH
+                   PERFORM FAIL
+               END-IF
+           END-PERFORM
+           PERFORM TEST-REACH-BITS
+           MOVE 127 TO LB-REACH-LEN
+           PERFORM ASK-REACH
+           IF NOT LB-BUFFER-SHORT
+               PERFORM FAIL
+           END-IF
+           MOVE 128 TO LB-REACH-LEN.
+
+      * Who reaches 31, as the copybook says: 2 and 32.
+       TEST-REACH-BITS.
+           MOVE 0 TO EXPECTED-REACH
+           PERFORM VARYING I FROM 1 BY 1 UNTIL I > 32
+               IF FUNCTION MOD (FUNCTION INTEGER
+                       (LB-REACHED-BY (31) / LB-FILE-BIT (I)) 2) = 1
+                   COMPUTE EXPECTED-REACH = 100 * EXPECTED-REACH + I
+               END-IF
+           END-PERFORM
+           IF EXPECTED-REACH NOT = 232
+               PERFORM FAIL
+           END-IF.
+
+      * 31 holds back 32, 32 holds back 2, and 2 holds back 31. With
+      * which it begins is free.
+       TEST-LOOP.
+           MOVE "a loop" TO TESTED
+           IF LENGTH OF LB-LOOP NOT = LB-LOOP-ROOM
+               PERFORM FAIL
+           END-IF
+           PERFORM ASK-LOOP
+           IF LB-ANSWER NOT = 3 OR LB-LOOP-PROGRAM (4) NOT = 255
+                   OR LB-LOOP (1:3) NOT = X"1F2002" AND X"20021F"
+                                      AND X"021F20"
+               PERFORM FAIL
+           END-IF
+           MOVE 31 TO LB-LOOP-ROOM
+           PERFORM ASK-LOOP
+           IF NOT LB-BUFFER-SHORT OR LB-LOOP-PROGRAM (1) NOT = 255
+               PERFORM FAIL
+           END-IF
+           MOVE 33 TO LB-CALL-PROGRAM
+           PERFORM ASK-LOOP
+           IF NOT LB-LOOP-OUT-OF-RANGE
+               PERFORM FAIL
+           END-IF
+           MOVE 32 TO LB-LOOP-ROOM
+           MOVE 2 TO LB-CALL-PROGRAM
+           PERFORM ASK-LOOP
+           IF LB-ANSWER NOT = 0 OR LB-LOOP-PROGRAM (1) NOT = 255
+               PERFORM FAIL
+           END-IF.
+
+       TEST-IS-LOOP.
+           MOVE "a list that is a loop" TO TESTED
+           MOVE 31 TO LB-CALL-PROGRAM
+           MOVE 64 TO LB-CALL-FILE
+           MOVE X"1F2002" TO LB-LOOP
+           MOVE 3 TO LB-LOOP-LEN
+           PERFORM ASK-IS-LOOP
+           IF LB-ANSWER NOT = 1
+               PERFORM FAIL
+           END-IF
+           MOVE 2 TO LB-LOOP-LEN
+           PERFORM ASK-IS-LOOP
+           IF LB-ANSWER NOT = 0
+               PERFORM FAIL
+           END-IF
+           MOVE 3 TO LB-LOOP-LEN
+           MOVE 2 TO LB-CALL-FILE
+           PERFORM ASK-IS-LOOP
+           IF LB-ANSWER NOT = 0
+               PERFORM FAIL
+           END-IF.
+
       * On an empty board 1 waits for the file that 2 writes. Eight
       * others are admitted after it; the next one is held.
        TEST-PASSED.
@@ -278,10 +399,7 @@
            MOVE 1 TO LB-CALL-FILE
            PERFORM VARYING I FROM 2 BY -1 UNTIL I < 1
                MOVE I TO LB-CALL-PROGRAM
-               SET LB-CALL-ENTER TO TRUE
-               PERFORM ASK-CALL
-               SET LB-CALL-OPEN TO TRUE
-               PERFORM ASK-CALL
+               PERFORM ENTER-AND-OPEN
            END-PERFORM
            IF NOT LB-WAIT (1) OR LB-PASSED (1) NOT = 0
                PERFORM FAIL
@@ -381,6 +499,28 @@
                BY REFERENCE LB-ORDER BY VALUE SIZE AUTO LB-ORDER-LEN
                RETURNING LB-ANSWER.
 
+       ASK-REACH.
+           CALL STATIC "lock_board_reach" USING
+               BY REFERENCE LB-IMAGE BY VALUE SIZE AUTO LB-IMAGE-LEN
+               BY REFERENCE LB-REACH BY VALUE SIZE AUTO LB-REACH-LEN
+               RETURNING LB-ANSWER.
+
+       ASK-LOOP.
+           MOVE ALL X"FF" TO LB-LOOP
+           CALL STATIC "lock_board_loop" USING
+               BY REFERENCE LB-IMAGE BY VALUE SIZE AUTO LB-IMAGE-LEN
+               BY VALUE SIZE AUTO LB-CALL-PROGRAM
+               BY REFERENCE LB-LOOP BY VALUE SIZE AUTO LB-LOOP-ROOM
+               RETURNING LB-ANSWER.
+
+       ASK-IS-LOOP.
+           CALL STATIC "lock_board_is_loop" USING
+               BY REFERENCE LB-IMAGE BY VALUE SIZE AUTO LB-IMAGE-LEN
+               BY VALUE SIZE AUTO LB-CALL-PROGRAM
+               BY VALUE SIZE AUTO LB-CALL-FILE
+               BY REFERENCE LB-LOOP BY VALUE SIZE AUTO LB-LOOP-LEN
+               RETURNING LB-ANSWER.
+
        ASK-WRITE.
            MOVE ALL X"FF" TO LB-REQUEST
            CALL STATIC "lock_board_write" USING
@@ -400,6 +540,14 @@
            PERFORM ASK-WRITE
            MOVE LB-ANSWER TO LB-REQUEST-LEN
            PERFORM ASK.
+
+      * The program of LB-CALL enters with its claims and opens the
+      * file.
+       ENTER-AND-OPEN.
+           SET LB-CALL-ENTER TO TRUE
+           PERFORM ASK-CALL
+           SET LB-CALL-OPEN TO TRUE
+           PERFORM ASK-CALL.
 
        WRITE-AND-COMPARE.
            PERFORM ASK-WRITE
