@@ -1,7 +1,7 @@
 -- Laws of the calls. Assumes nothing.
-use mathlib.Core.Path.{_≡_, refl, sym, ap, ap₂, _∙_, subst}
+use mathlib.Core.Path.{_≡_, refl, sym, ap, _∙_, subst}
 use mathlib.Core.Logic.{_≢_}
-use mathlib.Core.Bool.{Bool, true, false, _&&_}
+use mathlib.Core.Bool.{Bool, true, false, not, _&&_}
 use mathlib.Core.List.{List, [], _∷_, _++_}
 use mathlib.Core.Option.{Option, none, some, Option·getD}
 use Prim.Native.Nat.{ℕ, suc, _+_, _-_, _≤_, _<_}
@@ -9,8 +9,8 @@ use native.Mathlib.Omega.{arith}
 use lib.Dec.{leb}
 use lib.ListN.{length, replicate, length-append, length-replicate}
 use lib.Seq.{sets, sets-eq}
-use borrow.Author.Tests.{le-leb, lt-leb}
-use Rattle.files.proofs.Tests.{by-test, never}
+use borrow.Author.Tests.{le-leb, lt-leb, ne-eqb}
+use Rattle.laws.specs.Tests.{by-test, never}
 use Rattle.files.specs.declared.FileSet.{FileSet}
 use Rattle.files.specs.Sets.{isFile}
 use Rattle.files.proofs.Bits.{least}
@@ -23,28 +23,27 @@ use Rattle.rules.specs.declared.Line.{Line}
 use Rattle.rules.specs.declared.Reply.{Reply}
 use Rattle.rules.specs.declared.Verb.{Verb}
 use Rattle.rules.specs.declared.Asked.{Asked}
-use Rattle.rules.specs.Lists.{found, padded, names}
+use Rattle.laws.specs.Lists.{found, padded, names}
 use Rattle.rules.specs.Boards.{noProgram, isProgram, at, setProgram, closing, dropping}
 use Rattle.rules.specs.Orders.{carried, withGiven, safe}
 use Rattle.rules.specs.Soundness.{sound}
 use Rattle.rules.specs.Settling.{Step, line, favour, settle}
 use Rattle.rules.specs.Replies.{blank, refusalOf, refused, reply, refuse}
-use Rattle.rules.specs.Checks.{unlessRunning, unlessStopped, enterCheck, openCheck, closeCheck, leaveCheck, cancelCheck}
-use Rattle.rules.specs.Calls.{hold, holdFor, done, countLeave, withdrawn, Call, callOf, callWith, checked, accepted, unless, apply}
+use Rattle.rules.specs.Checks.{refuseIf, unlessRunning, enterCheck, openCheck, closeCheck, leaveCheck, cancelCheck}
+use Rattle.rules.specs.Calls.{hold, holdFor, done, countLeave, withdrawn, Call, Open, Close, Drop, callOf, callWith, checked, accepted, unless, apply}
 use Rattle.theory.specs.Loose.{Loose, Counts, Good}
 use Rattle.theory.specs.Sound.{sound-iff, sound-good, good-sound}
-use Rattle.theory.specs.Calls.{apply-accepted, apply-refused}
+use Rattle.theory.specs.Calls.{apply-accepted, apply-refused, failed-passed}
 use Rattle.theory.specs.Worked.{accepted-answer}
 use Rattle.theory.specs.Ready.{Ready, entry-room, waiting-room, close-ready, drop-ready, leave-ready, cancel-ready, leaves-room}
 use Rattle.search.specs.declared.Search.{Search}
 use Rattle.search.specs.declared.Order.{Order}
 use Rattle.search.specs.Rows.{asOrder, isFound}
 use Rattle.search.proofs.Laws.{drop-replicate}
-use Rattle.lines.proofs.Laws.{program-range}
 use Rattle.settling.specs.declared.Written.{Written}
 use Rattle.settling.specs.Writing.{after, Fits}
 use Rattle.apply.specs.declared.Changed.{Changed}
-use Rattle.apply.specs.Replies.{wrote, replied, numberIf, entryCheck, claimCheck, useCheck, foundBy, ComesTo}
+use Rattle.apply.specs.Replies.{wrote, replied, numberIf, fileFirst, claimCheck, useCheck, nearCheck, foundBy, ComesTo}
 
 -- ---- a call on a good board
 
@@ -68,10 +67,10 @@ pub apply-same : (b : Board) (c : Call) → refused (apply b c .answer) ≡ true
 unfolding apply
 apply-same b c n = unless-same b (checked b c) (accepted b c) (accepted-answer b c) n
 
--- the call with the verb and the program that are asked for
-pub by-verb : (b : Board) (a : Asked) (v : Verb) (p : ℕ) → a .verb ≡ v → p ≡ a .program
-    → apply b (callWith v p (a .file) (a .writable) (a .readable)) ≡ apply b (callOf a)
-by-verb b a v p e k = ap₂ (λ x y. apply b (callWith x y (a .file) (a .writable) (a .readable))) (sym e) k
+-- the call of the program that is asked for
+pub by-program : (b : Board) (a : Asked) (p : ℕ) → p ≡ a .program
+    → apply b (callWith (a .verb) p (a .file) (a .writable) (a .readable)) ≡ apply b (callOf a)
+by-program b a p e = ap (λ x. apply b (callWith (a .verb) x (a .file) (a .writable) (a .readable))) e
 
 -- ---- numbers in range
 
@@ -86,10 +85,7 @@ number-none true m n e z h = let k = h refl in let w : n ≡ m = e in absurd (om
 number-none false m n e z h = refl
 
 pub program-none : (m n : ℕ) → n ≡ numberIf (isProgram m) m → n ≡ 0 → isProgram m ≡ false
-program-none m n e z = number-none (isProgram m) m n e z (λ t. program-range m t .0)
-
-pub file-none : (m n : ℕ) → n ≡ numberIf (isFile m) m → n ≡ 0 → isFile m ≡ false
-file-none m n e z = number-none (isFile m) m n e z (λ t. least 64 m t)
+program-none m n e z = number-none (isProgram m) m n e z (λ t. least 32 m t)
 
 pub number-same : (t : Bool) (m n : ℕ) → n ≡ numberIf t m → n ≢ 0 → n ≡ m
 number-same true m n e z = e
@@ -102,69 +98,51 @@ no-file : (t : Bool) (f : ℕ) → isFile f ≡ false → (t && isFile f) ≡ fa
 no-file true f e = e
 no-file false f e = refl
 
--- in range
-pub in-range : (k n : ℕ) → n ≢ 0 → n ≤ k → (leb 1 n && leb n k) ≡ true
-in-range k n h l = let m : 1 ≤ n = omega (arith, h) in rw (le-leb 1 n m, le-leb n k l)
-
-module _ (b : Board) (p f : ℕ) where
-  pub enter-far : (v q : FileSet) → isProgram p ≡ false → enterCheck b p v q ≡ Check.Failed Refusal.OutOfRange
-  unfolding enterCheck
-  enter-far v q e = rw e
-
-  pub leave-far : isProgram p ≡ false → leaveCheck b p ≡ Check.Failed Refusal.OutOfRange
-  unfolding leaveCheck
-  leave-far e = rw e
-
-  pub cancel-far : isProgram p ≡ false → cancelCheck b p ≡ Check.Failed Refusal.OutOfRange
-  unfolding cancelCheck
-  cancel-far e = rw e
-
-  pub open-far-program : isProgram p ≡ false → openCheck b p f ≡ Check.Failed Refusal.OutOfRange
-  unfolding openCheck
-  open-far-program e = rw (no-program p f e)
-
-  pub open-far-file : isFile f ≡ false → openCheck b p f ≡ Check.Failed Refusal.OutOfRange
-  unfolding openCheck
-  open-far-file e = rw (no-file (isProgram p) f e)
-
-  -- in range: the standing, then the other checks
-  pub enter-near : (v q : FileSet) → isProgram p ≡ true → entryCheck (at b p) v q ≡ enterCheck b p v q
-  unfolding enterCheck
-  enter-near v q e = rw e
-
-  pub leave-near : isProgram p ≡ true → unlessRunning (at b p .standing) Check.Passed ≡ leaveCheck b p
-  unfolding leaveCheck
-  leave-near e = rw e
-
-  pub cancel-near : isProgram p ≡ true → unlessStopped (at b p .standing) Check.Passed ≡ cancelCheck b p
-  unfolding cancelCheck
-  cancel-near e = rw e
-
-  pub open-near : isProgram p ≡ true → isFile f ≡ true → unlessRunning (at b p .standing) (claimCheck (at b p) f) ≡ openCheck b p f
-  unfolding openCheck
-  open-near e d = rw (e, d)
-
-  pub close-near : isProgram p ≡ true → isFile f ≡ true → unlessRunning (at b p .standing) (useCheck (at b p) f) ≡ closeCheck b p f
-  unfolding closeCheck
-  close-near e d = rw (e, d)
-
-  pub close-far-program : isProgram p ≡ false → closeCheck b p f ≡ Check.Failed Refusal.OutOfRange
-  unfolding closeCheck
-  close-far-program e = rw (no-program p f e)
-
-  pub close-far-file : isFile f ≡ false → closeCheck b p f ≡ Check.Failed Refusal.OutOfRange
-  unfolding closeCheck
-  close-far-file e = rw (no-file (isProgram p) f e)
-
 -- check 8 of any call: its program
 checked-far : (b : Board) (v : Verb) (p f : ℕ) (w r : FileSet) → isProgram p ≡ false
     → checked b (callWith v p f w r) ≡ Check.Failed Refusal.OutOfRange
-checked-far b Verb.Enter p f w r e = enter-far b p f w r e
-checked-far b Verb.Open p f w r e = open-far-program b p f e
-checked-far b Verb.Close p f w r e = close-far-program b p f e
-checked-far b Verb.Drop p f w r e = open-far-program b p f e
-checked-far b Verb.Leave p f w r e = leave-far b p f e
-checked-far b Verb.Cancel p f w r e = cancel-far b p f e
+unfolding enterCheck openCheck closeCheck leaveCheck cancelCheck
+checked-far b Verb.Enter p f w r e = rw e
+checked-far b Verb.Open p f w r e = rw (no-program p f e)
+checked-far b Verb.Close p f w r e = rw (no-program p f e)
+checked-far b Verb.Drop p f w r e = rw (no-program p f e)
+checked-far b Verb.Leave p f w r e = rw e
+checked-far b Verb.Cancel p f w r e = rw e
+
+-- check 8 of the file m, of which the number is f
+file-first : (m f : ℕ) (t : Bool) (next : ℕ → Check) → t ≡ true → f ≡ numberIf (isFile m) m
+    → fileFirst f (next f) ≡ refuseIf (not (t && isFile m)) Refusal.OutOfRange (next m)
+file-first m f t next e h =
+    by-test (isFile m)
+    (λ k. let d : f ≡ m = rw k at h in let z : m ≢ 0 = omega (arith, least 64 m k) in rw (d, e, k, ne-eqb m 0 z))
+    (λ k. let d : f ≡ 0 = rw k at h in rw (d, e, k))
+
+module _ (b : Board) (p f m : ℕ) (w r : FileSet) (number : f ≡ numberIf (isFile m) m) where
+  -- in range: the standing, then the other checks
+  pub checked-near : (v : Verb) → isProgram p ≡ true → nearCheck (at b p) f v w r ≡ checked b (callWith v p m w r)
+  unfolding enterCheck openCheck closeCheck leaveCheck cancelCheck
+  checked-near Verb.Enter e = rw e
+  checked-near Verb.Open e = file-first m f (isProgram p) (λ x. unlessRunning (at b p .standing) (claimCheck (at b p) x)) e number
+  checked-near Verb.Close e = file-first m f (isProgram p) (λ x. unlessRunning (at b p .standing) (useCheck (at b p) x)) e number
+  checked-near Verb.Drop e = file-first m f (isProgram p) (λ x. unlessRunning (at b p .standing) (claimCheck (at b p) x)) e number
+  checked-near Verb.Leave e = rw e
+  checked-near Verb.Cancel e = rw e
+
+  -- a file that a check has let pass is in range
+  passed-file : (next : Check) → refuseIf (not (isProgram p && isFile m)) Refusal.OutOfRange next ≡ Check.Passed → f ≡ m
+  passed-file next k =
+      by-test (isFile m) (λ e. rw e at number)
+      (λ e. failed-passed Refusal.OutOfRange (rw (no-file (isProgram p) m e) at k))
+
+  -- so the call is that with the file's number
+  pub call-same : (v : Verb) → checked b (callWith v p m w r) ≡ Check.Passed → callWith v p f w r ≡ callWith v p m w r
+  unfolding openCheck closeCheck
+  call-same Verb.Enter k = refl
+  call-same Verb.Open k = ap (Open p) (passed-file _ k)
+  call-same Verb.Close k = ap (Close p) (passed-file _ k)
+  call-same Verb.Drop k = ap (Drop p) (passed-file _ k)
+  call-same Verb.Leave k = refl
+  call-same Verb.Cancel k = refl
 
 pub apply-far : (b : Board) (a : Asked) → isProgram (a .program) ≡ false → refuse b Refusal.OutOfRange ≡ apply b (callOf a)
 apply-far b a e =

@@ -5,19 +5,21 @@ use mathlib.Core.Path.{_≡_}
 use mathlib.Core.Bool.{Bool, not, cond}
 use mathlib.Core.List.{List, []}
 use mathlib.Core.Option.{none, Option·getD}
+use lib.Dec.{eqb}
 use lib.ListN.{length}
 use Rattle.files.specs.declared.FileSet.{FileSet}
 use Rattle.files.specs.Sets.{meets}
 use Rattle.rules.specs.declared.Program.{Program}
 use Rattle.rules.specs.declared.Board.{Board}
 use Rattle.rules.specs.declared.Refusal.{Refusal}
+use Rattle.rules.specs.declared.Verb.{Verb}
 use Rattle.rules.specs.declared.Check.{Check}
 use Rattle.rules.specs.declared.Answer.{Answer}
 use Rattle.rules.specs.declared.Line.{Line}
 use Rattle.rules.specs.declared.Reply.{Reply}
-use Rattle.rules.specs.Lists.{padded}
+use Rattle.laws.specs.Lists.{padded}
 use Rattle.rules.specs.Boards.{claims, hasOpen, isAbsent}
-use Rattle.rules.specs.Checks.{refuseIf}
+use Rattle.rules.specs.Checks.{refuseIf, unlessRunning, unlessStopped}
 use Rattle.rules.specs.Orders.{carried}
 use Rattle.rules.specs.Replies.{blank}
 use Rattle.search.specs.declared.Order.{Order}
@@ -64,6 +66,10 @@ ComesTo c r = (replyOf c ≡ r) × (c .found ≡ foundBy (r .answer) (r .board))
 abbrev pub numberIf : Bool → ℕ → ℕ
 numberIf t n = cond t n 0
 
+-- check 8, of a file's number or 0; then the next check
+abbrev pub fileFirst : ℕ → Check → Check
+fileFirst f next = refuseIf (eqb f 0) Refusal.OutOfRange next
+
 -- checks 9 and 10, of enter
 abbrev pub entryCheck : Program → FileSet → FileSet → Check
 entryCheck q v r = refuseIf (not (isAbsent (q .standing))) Refusal.NotAbsent (refuseIf (meets v r) Refusal.ClaimsMeet Check.Passed)
@@ -75,3 +81,12 @@ claimCheck q f = refuseIf (not (claims q f)) Refusal.NotClaimed (refuseIf (hasOp
 -- check 16, of close
 abbrev pub useCheck : Program → ℕ → Check
 useCheck q f = refuseIf (not (hasOpen q f)) Refusal.NotOpen Check.Passed
+
+-- the checks of the call with a verb, of a program in range; the file's number is 0 if out of range
+abbrev pub nearCheck : Program → ℕ → Verb → FileSet → FileSet → Check
+nearCheck q f Verb.Enter v r = entryCheck q v r
+nearCheck q f Verb.Open v r = fileFirst f (unlessRunning (q .standing) (claimCheck q f))
+nearCheck q f Verb.Close v r = fileFirst f (unlessRunning (q .standing) (useCheck q f))
+nearCheck q f Verb.Drop v r = fileFirst f (unlessRunning (q .standing) (claimCheck q f))
+nearCheck q f Verb.Leave v r = unlessRunning (q .standing) Check.Passed
+nearCheck q f Verb.Cancel v r = unlessStopped (q .standing) Check.Passed

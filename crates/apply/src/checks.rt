@@ -4,13 +4,14 @@ use rules::Check;
 use rules::Program;
 use rules::Refusal;
 use rules::Standing;
+use rules::Verb;
 ghost use mathlib.Core.Path.{_≡_};
 ghost use Prim.Native.Nat.{_≤_};
 ghost use Rattle.files.specs.Sets.{isFile};
 ghost use Rattle.rules.specs.Boards.{isProgram};
 ghost use Rattle.rules.specs.declared.Check.{Check};
 ghost use Rattle.rules.specs.Checks.{unlessRunning, unlessStopped};
-ghost use Rattle.apply.specs.Replies.{numberIf, entryCheck, claimCheck, useCheck};
+ghost use Rattle.apply.specs.Replies.{numberIf, fileFirst, entryCheck, claimCheck, useCheck, nearCheck};
 
 // The number if it is a program's, and 0 otherwise.
 pub fn program_of(n: u64) -> u8
@@ -36,6 +37,16 @@ pub fn file_of(n: u64) -> u8
         return 0;
     }
     n as u8
+}
+
+// 8, of a file that `file_of` gave; then the next check.
+fn file_check(f: u8, next: Check) -> Check
+    ensures { λ r. ⌜ r ≡ fileFirst f next ⌝ }
+{
+    if f == 0 {
+        return Check::Failed(Refusal::OutOfRange);
+    }
+    next
 }
 
 // 11, 12, 13; then the next check.
@@ -74,7 +85,7 @@ fn use_check(q: Program, f: u8) -> Check
 }
 
 // 9, 10, of a program in range.
-pub fn check_enter(q: Program, writable: FileSet, readable: FileSet) -> Check
+fn check_enter(q: Program, writable: FileSet, readable: FileSet) -> Check
     ensures { λ r. ⌜ r ≡ entryCheck q writable readable ⌝ }
 {
     let s = q.standing;
@@ -87,24 +98,24 @@ pub fn check_enter(q: Program, writable: FileSet, readable: FileSet) -> Check
     Check::Passed
 }
 
-// 11 to 15, of a program and a file in range; for open and for drop.
-pub fn check_open(q: Program, f: u8) -> Check
-    ensures { λ r. ⌜ r ≡ unlessRunning (q .standing) (claimCheck q f) ⌝ }
+// 8 and 11 to 15, of a program in range; for open and for drop.
+fn check_open(q: Program, f: u8) -> Check
+    ensures { λ r. ⌜ r ≡ fileFirst f (unlessRunning (q .standing) (claimCheck q f)) ⌝ }
 {
     let s = q.standing;
-    running_check(s, claim_check(q, f))
+    file_check(f, running_check(s, claim_check(q, f)))
 }
 
-// 11 to 13 and 16, of a program and a file in range.
-pub fn check_close(q: Program, f: u8) -> Check
-    ensures { λ r. ⌜ r ≡ unlessRunning (q .standing) (useCheck q f) ⌝ }
+// 8, 11 to 13 and 16, of a program in range.
+fn check_close(q: Program, f: u8) -> Check
+    ensures { λ r. ⌜ r ≡ fileFirst f (unlessRunning (q .standing) (useCheck q f)) ⌝ }
 {
     let s = q.standing;
-    running_check(s, use_check(q, f))
+    file_check(f, running_check(s, use_check(q, f)))
 }
 
 // 11 to 13, of a program in range.
-pub fn check_leave(q: Program) -> Check
+fn check_leave(q: Program) -> Check
     ensures { λ r. ⌜ r ≡ unlessRunning (q .standing) Check.Passed ⌝ }
 {
     let s = q.standing;
@@ -112,7 +123,7 @@ pub fn check_leave(q: Program) -> Check
 }
 
 // 11, 18, of a program in range.
-pub fn check_cancel(q: Program) -> Check
+fn check_cancel(q: Program) -> Check
     ensures { λ r. ⌜ r ≡ unlessStopped (q .standing) Check.Passed ⌝ }
 {
     let s = q.standing;
@@ -121,5 +132,19 @@ pub fn check_cancel(q: Program) -> Check
         Standing::Running => Check::Failed(Refusal::IsRunning),
         Standing::Waiting(_) => Check::Passed,
         Standing::Held => Check::Passed,
+    }
+}
+
+// The checks of the call with this verb, of a program in range.
+pub fn check_call(q: Program, f: u8, verb: Verb, writable: FileSet, readable: FileSet) -> Check
+    ensures { λ r. ⌜ r ≡ nearCheck q f verb writable readable ⌝ }
+{
+    match verb {
+        Verb::Enter => check_enter(q, writable, readable),
+        Verb::Open => check_open(q, f),
+        Verb::Close => check_close(q, f),
+        Verb::Drop => check_open(q, f),
+        Verb::Leave => check_leave(q),
+        Verb::Cancel => check_cancel(q),
     }
 }

@@ -17,12 +17,12 @@ ghost use mathlib.Core.Bool.{true};
 ghost use Prim.Native.Nat.{_≤_, _<_};
 ghost use lib.ListN.{length};
 ghost use Rattle.rules.specs.declared.Check.{Check};
-ghost use Rattle.rules.specs.Lists.{names, padded};
+ghost use Rattle.laws.specs.Lists.{names, padded};
 ghost use Rattle.rules.specs.Boards.{at};
 ghost use Rattle.rules.specs.Soundness.{sound};
 ghost use Rattle.rules.specs.Checks.{enterCheck, openCheck, closeCheck, leaveCheck, cancelCheck};
-ghost use Rattle.rules.specs.Calls.{newcomer, admit, hold, holdFor, enter, wait, openFile, closeFile, dropFile, countLeave, leave, apply, callOf, Enter, Open};
-ghost use Rattle.rules.specs.Calls.{countCancel, withdrawn, cancel, Close, Drop, Leave, Cancel};
+ghost use Rattle.rules.specs.Calls.{newcomer, admit, hold, holdFor, enter, wait, openFile, closeFile, dropFile, countLeave, leave};
+ghost use Rattle.rules.specs.Calls.{countCancel, withdrawn, cancel, callWith, callOf, checked, accepted, apply};
 ghost use Rattle.theory.specs.Loose.{Good};
 ghost use Rattle.apply.specs.Replies.{ComesTo};
 
@@ -43,14 +43,10 @@ pub struct Changed {
 fn new_program(writable: FileSet, readable: FileSet, s: Standing) -> Program
     ensures { λ r. ⌜ r ≡ newcomer writable readable s ⌝ }
 {
-    let none = FileSet::EMPTY;
-    Program {
-        writable: writable,
-        readable: readable,
-        writing: none,
-        reading: none,
-        standing: s,
-    }
+    let mut q = Program::ABSENT;
+    q.writable = writable;
+    q.readable = readable;
+    q.at_standing(s)
 }
 
 // p runs, and the count of each waiting program goes up.
@@ -59,7 +55,7 @@ fn put_running(b: Board, p: u8, writable: FileSet, readable: FileSet) -> Board
     ensures { λ r. ⌜ r ≡ admit b p writable readable ⌝ }
 {
     let runs = new_program(writable, readable, Standing::Running);
-    let mut c = search::put(b, p, runs);
+    let mut c = tables::boards::put(b, p, runs);
     let passed = settling::counts::tally(c);
     c.passed = passed;
     c
@@ -73,7 +69,7 @@ fn put_held(b: Board, p: u8, writable: FileSet, readable: FileSet) -> Board
     let held = new_program(writable, readable, Standing::Held);
     let line = b.entry;
     let longer = lines::append(line, p);
-    let mut c = search::put(b, p, held);
+    let mut c = tables::boards::put(b, p, held);
     c.entry = longer;
     c
 }
@@ -111,19 +107,6 @@ fn do_enter(b: Board, p: u8, writable: FileSet, readable: FileSet) -> Changed
     replies::answered(c, Word::Admit, p, 0, Answer::Admit, Order::NONE)
 }
 
-fn call_enter(b: Board, p: u8, writable: FileSet, readable: FileSet) -> Changed
-    requires { ⌜ ((1 ≤ p) × (p ≤ 32)) × Good b ⌝ }
-    ensures { λ r. ⌜ ComesTo r (apply b (Enter p writable readable)) ⌝ }
-{
-    let i = (p - 1) as usize;
-    let q = b.programs[i];
-    let check = checks::check_enter(q, writable, readable);
-    match check {
-        Check::Passed => do_enter(b, p, writable, readable),
-        Check::Failed(refusal) => replies::refused(b, refusal),
-    }
-}
-
 // ---- open
 
 // p waits for f, at the end of the waiting line.
@@ -136,7 +119,7 @@ fn put_waiting(b: Board, p: u8, f: u8) -> Board
     let waits = q.at_standing(Standing::Waiting(f));
     let line = b.waiting;
     let longer = lines::append(line, p);
-    let mut c = search::put(b, p, waits);
+    let mut c = tables::boards::put(b, p, waits);
     c.waiting = longer;
     c
 }
@@ -148,8 +131,8 @@ fn do_open(b: Board, q: Program, p: u8, f: u8) -> Changed
     ensures { λ r. ⌜ ComesTo r (openFile b p f) ⌝ }
 {
     let mut sets = [0u64; 128];
-    tables::take_sets(b, &mut sets);
-    let admitted = search::admitted_set(b);
+    tables::sets::take_sets(b, &mut sets);
+    let admitted = tables::boards::admitted_set(b);
     let uses = search::gives::uses_in(admitted, &sets);
     if search::gives::in_use(&sets, uses, p, f) {
         let c = put_waiting(b, p, f);
@@ -166,25 +149,8 @@ fn do_open(b: Board, q: Program, p: u8, f: u8) -> Changed
         kind: Search::Found(n),
         at: at,
     };
-    let given = search::put(b, p, q.opening(f));
+    let given = tables::boards::put(b, p, q.opening(f));
     replies::answered(given, Word::Given, p, f, Answer::Given, found)
-}
-
-fn call_open(b: Board, p: u8, file: u64) -> Changed
-    requires { ⌜ ((1 ≤ p) × (p ≤ 32)) × Good b ⌝ }
-    ensures { λ r. ⌜ ComesTo r (apply b (Open p file)) ⌝ }
-{
-    let f = checks::file_of(file);
-    if f == 0 {
-        return replies::refused(b, Refusal::OutOfRange);
-    }
-    let i = (p - 1) as usize;
-    let q = b.programs[i];
-    let check = checks::check_open(q, f);
-    match check {
-        Check::Passed => do_open(b, q, p, f),
-        Check::Failed(refusal) => replies::refused(b, refusal),
-    }
 }
 
 // ---- close
@@ -194,25 +160,8 @@ fn do_close(b: Board, q: Program, p: u8, f: u8) -> Changed
     requires { ⌜ ((1 ≤ p) × (p ≤ 32)) × Good b × (closeCheck b p f ≡ Check.Passed) × (q ≡ at b p) ⌝ }
     ensures { λ r. ⌜ ComesTo r (closeFile b p f) ⌝ }
 {
-    let c = search::put(b, p, q.closing(f));
+    let c = tables::boards::put(b, p, q.closing(f));
     replies::done(c, p, f)
-}
-
-fn call_close(b: Board, p: u8, file: u64) -> Changed
-    requires { ⌜ ((1 ≤ p) × (p ≤ 32)) × Good b ⌝ }
-    ensures { λ r. ⌜ ComesTo r (apply b (Close p file)) ⌝ }
-{
-    let f = checks::file_of(file);
-    if f == 0 {
-        return replies::refused(b, Refusal::OutOfRange);
-    }
-    let i = (p - 1) as usize;
-    let q = b.programs[i];
-    let check = checks::check_close(q, f);
-    match check {
-        Check::Passed => do_close(b, q, p, f),
-        Check::Failed(refusal) => replies::refused(b, refusal),
-    }
 }
 
 // ---- drop
@@ -222,25 +171,8 @@ fn do_drop(b: Board, q: Program, p: u8, f: u8) -> Changed
     requires { ⌜ ((1 ≤ p) × (p ≤ 32)) × Good b × (openCheck b p f ≡ Check.Passed) × (q ≡ at b p) ⌝ }
     ensures { λ r. ⌜ ComesTo r (dropFile b p f) ⌝ }
 {
-    let c = search::put(b, p, q.dropping(f));
+    let c = tables::boards::put(b, p, q.dropping(f));
     replies::done(c, p, f)
-}
-
-fn call_drop(b: Board, p: u8, file: u64) -> Changed
-    requires { ⌜ ((1 ≤ p) × (p ≤ 32)) × Good b ⌝ }
-    ensures { λ r. ⌜ ComesTo r (apply b (Drop p file)) ⌝ }
-{
-    let f = checks::file_of(file);
-    if f == 0 {
-        return replies::refused(b, Refusal::OutOfRange);
-    }
-    let i = (p - 1) as usize;
-    let q = b.programs[i];
-    let check = checks::check_open(q, f);
-    match check {
-        Check::Passed => do_drop(b, q, p, f),
-        Check::Failed(refusal) => replies::refused(b, refusal),
-    }
 }
 
 // ---- leave
@@ -266,21 +198,8 @@ fn do_leave(b: Board, p: u8) -> Changed
     ensures { λ r. ⌜ ComesTo r (leave b p) ⌝ }
 {
     let gone = Program::ABSENT;
-    let c = counted(search::put(b, p, gone));
+    let c = counted(tables::boards::put(b, p, gone));
     replies::done(c, p, 0)
-}
-
-fn call_leave(b: Board, p: u8) -> Changed
-    requires { ⌜ ((1 ≤ p) × (p ≤ 32)) × Good b ⌝ }
-    ensures { λ r. ⌜ ComesTo r (apply b (Leave p)) ⌝ }
-{
-    let i = (p - 1) as usize;
-    let q = b.programs[i];
-    let check = checks::check_leave(q);
-    match check {
-        Check::Passed => do_leave(b, p),
-        Check::Failed(refusal) => replies::refused(b, refusal),
-    }
 }
 
 // ---- cancel
@@ -313,7 +232,7 @@ fn withdraw(b: Board, p: u8, s: Standing) -> Board
         Standing::Waiting(_) => {
             let line = b.waiting;
             let waiters = lines::remove(line, p);
-            let mut c = search::put(b, p, gone);
+            let mut c = tables::boards::put(b, p, gone);
             c.waiting = waiters;
             let i = (p - 1) as usize;
             c.passed[i] = 0;
@@ -322,7 +241,7 @@ fn withdraw(b: Board, p: u8, s: Standing) -> Board
         Standing::Held => {
             let line = b.entry;
             let held = lines::remove(line, p);
-            let mut c = search::put(b, p, gone);
+            let mut c = tables::boards::put(b, p, gone);
             c.entry = held;
             c
         }
@@ -339,37 +258,46 @@ fn do_cancel(b: Board, q: Program, p: u8) -> Changed
     replies::done(c, p, 0)
 }
 
-fn call_cancel(b: Board, p: u8) -> Changed
-    requires { ⌜ ((1 ≤ p) × (p ≤ 32)) × Good b ⌝ }
-    ensures { λ r. ⌜ ComesTo r (apply b (Cancel p)) ⌝ }
+// ---- any call
+
+// The call with this verb, once its checks have passed.
+fn accept(
+    b: Board,
+    q: Program,
+    p: u8,
+    f: u8,
+    verb: Verb,
+    writable: FileSet,
+    readable: FileSet,
+) -> Changed
+    requires { ⌜ ((1 ≤ p) × (p ≤ 32)) × Good b × (checked b (callWith verb p f writable readable) ≡ Check.Passed) × (q ≡ at b p) ⌝ }
+    ensures { λ r. ⌜ ComesTo r (accepted b (callWith verb p f writable readable)) ⌝ }
 {
-    let i = (p - 1) as usize;
-    let q = b.programs[i];
-    let check = checks::check_cancel(q);
-    match check {
-        Check::Passed => do_cancel(b, q, p),
-        Check::Failed(refusal) => replies::refused(b, refusal),
+    match verb {
+        Verb::Enter => do_enter(b, p, writable, readable),
+        Verb::Open => do_open(b, q, p, f),
+        Verb::Close => do_close(b, q, p, f),
+        Verb::Drop => do_drop(b, q, p, f),
+        Verb::Leave => do_leave(b, p),
+        Verb::Cancel => do_cancel(b, q, p),
     }
 }
 
-// ---- any call
-
-// The call of a program in range.
+// The call of a program in range: its checks, then the call.
 fn call_by(b: Board, p: u8, a: Asked) -> Changed
     requires { ⌜ ((1 ≤ p) × (p ≤ 32)) × (p ≡ a .program) × Good b ⌝ }
     ensures { λ r. ⌜ ComesTo r (apply b (callOf a)) ⌝ }
 {
-    let file = a.file;
+    let f = checks::file_of(a.file);
     let writable = a.writable;
     let readable = a.readable;
     let verb = a.verb;
-    match verb {
-        Verb::Enter => call_enter(b, p, writable, readable),
-        Verb::Open => call_open(b, p, file),
-        Verb::Close => call_close(b, p, file),
-        Verb::Drop => call_drop(b, p, file),
-        Verb::Leave => call_leave(b, p),
-        Verb::Cancel => call_cancel(b, p),
+    let i = (p - 1) as usize;
+    let q = b.programs[i];
+    let check = checks::check_call(q, f, verb, writable, readable);
+    match check {
+        Check::Passed => accept(b, q, p, f, verb, writable, readable),
+        Check::Failed(refusal) => replies::refused(b, refusal),
     }
 }
 

@@ -1,7 +1,7 @@
 // Writes the answers.
 use digraph::Loop;
-use host::Posted;
 use libc::STDOUT_FILENO;
+use linecall::Posted;
 use rules::Answer;
 use rules::Board;
 use rules::Line;

@@ -1,12 +1,12 @@
 // The line call on a board that is lent for it.
-use host::Posted;
+use linecall::Posted;
 use rules::Board;
 ghost use mathlib.Core.Path.{_≡_};
 ghost use mathlib.Core.Bool.{true};
 ghost use Rattle.rules.specs.Digraph.{mayCarry};
 ghost use Rattle.request.specs.Requests.{requestOf, requestCall};
 ghost use Rattle.digraph.specs.Loops.{named};
-ghost use Rattle.serve.specs.LineCall.{lineCall};
+ghost use Rattle.linecall.specs.LineCall.{lineCall};
 
 // What the call gives back, and the board that was lent as the call left it.
 pub struct Lent {

@@ -2,7 +2,7 @@
 use crate::answers;
 use crate::lent;
 use crate::lent::Lent;
-use calls::Answered;
+use direct::Answered;
 use files::FileSet;
 use libc::STDIN_FILENO;
 use rules::Board;
@@ -53,21 +53,21 @@ fn call(b: Board, r: Record) -> Answered {
     if r.kind == b'E' {
         let writable = FileSet { bits: r.writable };
         let readable = FileSet { bits: r.readable };
-        return calls::enter(b, r.program, writable, readable);
+        return direct::enter(b, r.program, writable, readable);
     }
     if r.kind == b'O' {
-        return calls::open(b, r.program, r.file);
+        return direct::open(b, r.program, r.file);
     }
     if r.kind == b'C' {
-        return calls::close(b, r.program, r.file);
+        return direct::close(b, r.program, r.file);
     }
     if r.kind == b'D' {
-        return calls::drop(b, r.program, r.file);
+        return direct::drop(b, r.program, r.file);
     }
     if r.kind == b'X' {
-        return calls::cancel(b, r.program);
+        return direct::cancel(b, r.program);
     }
-    calls::leave(b, r.program)
+    direct::leave(b, r.program)
 }
 
 // A number, but at most so much.

@@ -3,7 +3,8 @@ use Prim.Native.Nat.{ℕ}
 use mathlib.Core.Path.{_≡_, refl}
 use mathlib.Core.List.{List, [], _∷_}
 use Rattle.columns.specs.Columns.{columnsOf, flat, digitOf, field3, fieldOf, numberOf}
-use Rattle.rules.specs.Lists.{any, all, keep, first, padded, rising, listed, distinct, without, same, names}
+use Rattle.laws.specs.Lists.{any, all, keep, first, padded, rising, listed, distinct, without, same, names}
+use Rattle.rules.specs.Modes.{touching}
 use Rattle.rules.specs.Boards.{everyone, admitted, tallied, opening, closing, dropping}
 use Rattle.rules.specs.Orders.{heldBack, carriedFrom, carried, withGiven, inUse, safe, canGive}
 use Rattle.rules.specs.Soundness.{setsSound, standingSound, programSound, noConflict, lineSound, waiterSound, noneFavoured, someFavoured, countSound, sound}
@@ -14,7 +15,7 @@ use Rattle.rules.specs.Calls.{admit, enter, apply, direct}
 use Rattle.request.specs.Requests.{begins, numberAt, programAt, labelPart, filesIn, risesFrom, addingAll}
 use Rattle.request.specs.Requests.{enterFiles, enterCounts, enterOf, fileOf, aloneOf, requestOf}
 use Rattle.journal.specs.Journal.{lineBytes, written}
-use Rattle.serve.specs.LineCall.{replyTo, linesFor, posted, lineCall}
+use Rattle.linecall.specs.LineCall.{replyTo, linesFor, posted, lineCall}
 use Rattle.board.specs.Input.{boardAfter, bytesAfter, served, feed, fed, finished, orderLine, orderOf, ending, output}
 
 -- ENTER 2 with an empty claim, and a line that is no request
@@ -25,7 +26,9 @@ input =
 -- ADMIT, REFUSE with 3, and the order
 expected : List ℕ
 expected =
-    65 ∷ 68 ∷ 77 ∷ 73 ∷ 84 ∷ 32 ∷ 32 ∷ 32 ∷ 50 ∷ 32 ∷ 32 ∷ 48 ∷ 32 ∷ 32 ∷ 48 ∷ 10 ∷ 82 ∷ 69 ∷ 70 ∷ 85 ∷ 83 ∷ 69 ∷ 32 ∷ 32 ∷ 48 ∷ 32 ∷ 32 ∷ 48 ∷ 32 ∷ 32 ∷ 51 ∷ 10 ∷ 79 ∷ 82 ∷ 68 ∷ 69 ∷ 82 ∷ 32 ∷ 32 ∷ 32 ∷ 50 ∷ 10 ∷ []
+    65 ∷ 68 ∷ 77 ∷ 73 ∷ 84 ∷ 32 ∷ 32 ∷ 32 ∷ 50 ∷ 32 ∷ 32 ∷ 48 ∷ 32 ∷ 32 ∷ 48 ∷ 10
+    ∷ 82 ∷ 69 ∷ 70 ∷ 85 ∷ 83 ∷ 69 ∷ 32 ∷ 32 ∷ 48 ∷ 32 ∷ 32 ∷ 48 ∷ 32 ∷ 32 ∷ 51 ∷ 10
+    ∷ 79 ∷ 82 ∷ 68 ∷ 69 ∷ 82 ∷ 32 ∷ 32 ∷ 32 ∷ 50 ∷ 10 ∷ []
 
 example : output input ≡ expected
 unfolding input expected boardAfter bytesAfter served feed fed finished orderLine orderOf ending output
@@ -34,7 +37,7 @@ unfolding input expected boardAfter bytesAfter served feed fed finished orderLin
     enterFiles enterCounts enterOf fileOf aloneOf requestOf
     lineBytes written replyTo linesFor posted lineCall
     any all keep first padded rising listed distinct without same names
-    everyone admitted tallied opening closing dropping
+    everyone admitted tallied touching opening closing dropping
     heldBack carriedFrom carried withGiven inUse safe canGive
     setsSound standingSound programSound noConflict lineSound waiterSound noneFavoured someFavoured countSound sound
     reply refuse refuseUnsound enterCheck

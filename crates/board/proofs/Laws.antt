@@ -11,11 +11,12 @@ use native.Mathlib.Numerals.{add-one}
 use native.Mathlib.Omega.{arith}
 use borrow.Rule.Slice.PartMut.{putMid}
 use borrow.Author.Tests.{eq-eqb, ne-eqb, le-ltb}
-use Rattle.files.proofs.Tests.{by-test}
+use Rattle.laws.specs.Tests.{by-test}
 use Rattle.rules.specs.declared.Board.{Board}
 use Rattle.rules.specs.Soundness.{sound}
-use Rattle.rules.specs.Lists.{names}
+use Rattle.laws.specs.Lists.{names}
 use Rattle.columns.specs.Columns.{columnsOf, flat}
+use Rattle.columns.proofs.Laws.{columns-length}
 use Rattle.columns.proofs.Rows.{flat-length}
 use Rattle.lines.proofs.Laws.{names-on}
 use Rattle.rules.specs.declared.Reply.{Reply}
@@ -23,9 +24,10 @@ use Rattle.request.specs.declared.Request.{Request}
 use Rattle.request.specs.Requests.{requestOf}
 use Rattle.journal.specs.Journal.{linesBytes, written}
 use Rattle.journal.proofs.Laws.{lines-length}
-use Rattle.serve.specs.LineCall.{Outcome, journalFull, replyTo, linesFor, posted, lineCall}
-use Rattle.serve.proofs.Laws.{call-posted}
-use Rattle.board.specs.Input.{firstLine, called, boardAfter, bytesAfter, Fed, held, served, feed, fed, finished, flushed, orderOf, ending, orderWord, orderLine}
+use Rattle.linecall.specs.LineCall.{Outcome, journalFull, replyTo, linesFor, posted, lineCall}
+use Rattle.linecall.proofs.Laws.{call-posted}
+use Rattle.board.specs.Input.{firstLine, called, boardAfter, bytesAfter, Fed, held, served, feed, fed, finished, flushed}
+use Rattle.board.specs.Input.{orderOf, ending, orderWord, orderLine}
 use Rattle.board.specs.Parts.{fed-append, fed-flushed}
 
 -- ---- where a line ends
@@ -199,14 +201,6 @@ close-is s b journal last place n h k e o =
     ∙ rw (take-append-le n last _ k, o, ← e)
 
 -- ---- the order
-
-pub columns-length : (n : ℕ) → length (columnsOf n) ≡ 3
-unfolding columnsOf
-columns-length n = refl
-
--- a row of bytes at the front
-pub put-is : (row b part last : List ℕ) → b ≡ row → length row ≡ 3 → last ≡ take (length b) b ++ drop (length b) part → last ≡ row ++ drop 3 part
-put-is row b part last e n h = h ∙ rw (take-length b, e, n)
 
 module _ (ps : List ℕ) (i : ℕ) where
   -- one name more

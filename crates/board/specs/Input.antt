@@ -7,11 +7,11 @@ use lib.Dec.{eqb}
 use lib.ListN.{length, take, replicate}
 use Rattle.rules.specs.declared.Board.{Board}
 use Rattle.rules.specs.Boards.{emptyBoard}
-use Rattle.rules.specs.Lists.{names}
+use Rattle.laws.specs.Lists.{names}
 use Rattle.rules.specs.Orders.{carried}
 use Rattle.search.specs.Rows.{asOrder}
 use Rattle.columns.specs.Columns.{columnsOf, flat}
-use Rattle.serve.specs.LineCall.{Outcome, lineCall}
+use Rattle.linecall.specs.LineCall.{Outcome, lineCall}
 
 -- the bytes before the first byte 10
 unfoldable pub firstLine : List ℕ → List ℕ

@@ -4,7 +4,7 @@ use mathlib.Core.Path.{_≡_, refl, ap, sym, _∙_}
 use mathlib.Core.List.{List, [], _∷_, _++_, append-assoc, append-nil}
 use lib.Dec.{eqb}
 use lib.ListN.{length}
-use Rattle.files.proofs.Tests.{by-test}
+use Rattle.laws.specs.Tests.{by-test}
 use Rattle.rules.specs.Boards.{emptyBoard}
 use Rattle.board.specs.Input.{Fed, held, flushed, boardAfter, bytesAfter, served, feed, fed, finished, orderOf, ending, output}
 

@@ -5,7 +5,7 @@ use mathlib.Core.Logic.{_⊎_, inl, inr}
 use mathlib.Core.Bool.{true, false, _&&_}
 use mathlib.Core.List.{[]}
 use lib.ListN.{getD}
-use Rattle.files.proofs.Tests.{never, and-left, and-both}
+use Rattle.laws.specs.Tests.{never, and-left, and-both}
 use Rattle.rules.specs.declared.Line.{Line}
 use Rattle.rules.specs.declared.Board.{Board}
 use Rattle.rules.specs.declared.Reply.{Reply}
@@ -49,7 +49,8 @@ pub waiter-found : (b : Board) (p f : ℕ) (l : Loop) → sound b ≡ true → I
 unfolding safe
 waiter-found b p f l s i w e h = record {
   is-loop = λ _. given-by b p (awaited b p) l (subst (λ g. LoopOf (withGiven b p g) l) e h)
-      (and-both (isProgram p) (isAdmitted (at b p .standing)) (of-is p i) (waiting-in (at b p .standing) w)) (waiter-claims b p s i w) (waiter-unsafe b p s i w);
+      (and-both (isProgram p) (isAdmitted (at b p .standing)) (of-is p i) (waiting-in (at b p .standing) w))
+      (waiter-claims b p s i w) (waiter-unsafe b p s i w);
   is-none = λ n. never w n;
   fits = h .fits;
 }

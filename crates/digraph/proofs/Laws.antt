@@ -11,11 +11,11 @@ use lib.Bits.{or-lt}
 use lib.ListN.{length, getD, set, length-set}
 use lib.Seq.{ext-getD, getD-set-same, getD-set-other}
 use borrow.Author.Tests.{eqb-true, eqb-false}
-use Rattle.files.proofs.Tests.{by-test, never, and-left, and-right, no-true, same-test, and-false}
+use Rattle.laws.specs.Tests.{by-test, never, and-left, and-right, no-true, same-test, and-false}
 use Rattle.files.specs.Bits.{isNumber, hasBit}
-use Rattle.files.proofs.Bits.{least, most, has-number, without-number-same, without-number-other}
+use Rattle.files.proofs.Bits.{least, most, without-number-same, without-number-other}
 use Rattle.rules.specs.declared.Board.{Board}
-use Rattle.rules.specs.Lists.{rising}
+use Rattle.laws.specs.Lists.{rising}
 use Rattle.rules.specs.Boards.{isProgram, everyone, at}
 use Rattle.rules.specs.Orders.{holdsBack}
 use Rattle.rules.specs.Digraph.{isIn, step, paths, reaches}
@@ -23,12 +23,13 @@ use Rattle.theory.specs.Programs.{Is, is-of, of-is}
 use Rattle.theory.specs.Matrix.{step-iff, reaches-all, mem-in}
 use Rattle.tables.specs.declared.ProgramSet.{ProgramSet}
 use Rattle.tables.specs.ProgramSets.{hasProgram, withoutProgram, unionOf}
-use Rattle.tables.specs.Tables.{setsOf, packed, rowOf, holdsOne, holdersOf}
-use Rattle.tables.proofs.Laws.{places-length, places-at, places-same, packed-has, packed-none, packed-lt, set-same, union-has}
+use Rattle.tables.specs.Sets.{setsOf, holdsOne}
+use Rattle.tables.specs.Tables.{packed, rowOf, holdersOf}
+use Rattle.tables.proofs.Laws.{places-length, places-at, places-same, packed-has, packed-none, packed-lt, set-same, union-has, set-is}
 use Rattle.tables.proofs.Given.{packed-same}
 use Rattle.tables.proofs.Walk.{none-left}
 use Rattle.tables.proofs.Whole.{sets-of, holds-is}
-use Rattle.search.specs.Rows.{admits, admittedSet}
+use Rattle.tables.specs.Boards.{admits, admittedSet}
 use Rattle.digraph.specs.Rows.{rowsSaying, matrixOf, cell, holderRows, byRow, byWay}
 
 -- ---- what the rows say
@@ -65,11 +66,8 @@ says-has g rows x p e i j = let a = j .least in let b = j .most in let w : suc (
 pub cell-is : (g : ℕ → ℕ → Bool) (rows : List ℕ) → rows ≡ rowsSaying g → ((x p : ℕ) → g x p ≡ true → Is x × Is p) → (x p : ℕ) → cell rows x p ≡ g x p
 cell-is g rows e f x p = same-test (cell rows x p) (g x p)
     (λ t. let j = is-of p (and-left (isProgram p) _ t) in let h = and-right (isProgram p) (hasProgram (rowOf rows p) x) t in
-    sym (says-has g rows x p e (in-set (rowOf rows p) x h) j) ∙ h)
+    sym (says-has g rows x p e (set-is (rowOf rows p) x h) j) ∙ h)
     (λ t. let (i, j) = f x p t in ap (λ (u : Bool). u && hasProgram (rowOf rows p) x) (of-is p j) ∙ says-has g rows x p e i j ∙ t)
-  where
-    in-set : (s : ProgramSet) (x : ℕ) → hasProgram s x ≡ true → Is x
-    in-set s x h = let n = has-number 32 (s .bits) x h in record { least = least 32 x n; most = most 32 x n }
 
 -- ---- who holds back whom
 
@@ -106,7 +104,7 @@ steps-are b = places-same _ _ 32 0 (λ i h k. by-test (hasProgram a (suc i))
     one x p l m h k e = by-test (eqb x p)
         (λ t. ap (λ (u : Bool). u && holdsOne sets p x) (ap (hasProgram (withoutProgram a p)) (eqb-true x p t) ∙ without-number-same 32 (a .bits) p)
         ∙ sym (ap (λ (u : Bool). not u && ((isIn b x && isIn b p) && holdsBack (at b x) (at b p))) t))
-        (λ t. ap₂ _&&_ (without-number-other 32 (a .bits) p x (eqb-false x p t) ∙ among-is b x) (holds-is b sets x p (sets-of b) l m h k)
+        (λ t. ap₂ _&&_ (without-number-other 32 (a .bits) p x (eqb-false x p t) ∙ among-is b x) (holds-is b sets (sets-of b) x p l m h k)
         ∙ sym (ap (λ (u : Bool). not u && ((isIn b x && isIn b p) && holdsBack (at b x) (at b p))) t
         ∙ ap (λ (u : Bool). (isIn b x && u) && holdsBack (at b x) (at b p)) e ∙ right (isIn b x) (holdsBack (at b x) (at b p))))
 

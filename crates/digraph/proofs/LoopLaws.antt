@@ -11,17 +11,17 @@ use lib.Dec.{eqb}
 use lib.ListN.{length, getD, set, take, drop, length-set, length-drop}
 use lib.Seq.{drop-cons, drop-set-lt, getD-set-same, take-at, take-length, length-take-le}
 use borrow.Author.Tests.{eqb-true, eqb-false, eq-eqb, ne-eqb, lt-leb}
-use Rattle.files.proofs.Tests.{by-test, by-option, never, and-left, and-right, and-both, no-true, true-not, same-test, and-false, or-cases}
+use Rattle.laws.specs.Tests.{by-test, by-option, never, and-left, and-right, and-both, no-true, true-not, same-test, and-false, or-cases}
 use Rattle.files.specs.Bits.{hasBit}
 use Rattle.files.specs.Sets.{member}
 use Rattle.files.proofs.Laws.{member-file}
-use Rattle.files.proofs.Bits.{least, most, has-number, has-bit, zero-has, without-number-same, without-number-other}
+use Rattle.files.proofs.Bits.{least, most, has-bit, zero-has, without-number-same, without-number-other}
 use Rattle.rules.specs.declared.Board.{Board}
-use Rattle.rules.specs.Lists.{any, all, first, found, rising, listed}
+use Rattle.laws.specs.Lists.{any, all, first, found, rising, listed}
 use Rattle.rules.specs.Boards.{isProgram, isAdmitted, everyone, at, admitted, claims}
 use Rattle.rules.specs.Orders.{carried, withGiven}
 use Rattle.rules.specs.Digraph.{isIn, step, reaches, isLoop, isLoopWith}
-use Rattle.theory.specs.Lists.{_∈_, Pairs, NoRepeat, by-mem, here, all-each, some-any, first-some, keep-mem, mem-keep, length-keep, length-rising}
+use Rattle.laws.specs.Laws.{_∈_, Pairs, NoRepeat, by-mem, here, all-each, some-any, first-some, keep-mem, mem-keep, length-keep, length-rising, first-keep}
 use Rattle.theory.specs.Order.{heldIn}
 use Rattle.theory.specs.Programs.{Is, is-of, of-is, mem-everyone}
 use Rattle.theory.specs.Carried.{holdsOn, carried-sound, of-order}
@@ -31,19 +31,15 @@ use Rattle.theory.specs.Matrix.{step-iff, reaches-iff, itself-iff}
 use Rattle.tables.specs.declared.ProgramSet.{ProgramSet}
 use Rattle.tables.specs.ProgramSets.{hasProgram, withoutProgram, commonOf, IsLowest}
 use Rattle.tables.specs.Tables.{packed, rowOf}
-use Rattle.tables.proofs.Laws.{packed-has, common-has, first-at, first-no}
-use Rattle.search.proofs.Laws.{first-keep}
+use Rattle.tables.proofs.Laws.{packed-has, common-has, first-at, first-no, set-is}
 use Rattle.digraph.specs.Rows.{rowsSaying, matrixOf, cell}
 use Rattle.digraph.specs.Loops.{listOf, goes, placeOf, lowestHolder}
 use Rattle.digraph.proofs.Laws.{cell-is}
 
 -- ---- the programs of a set
 
-pub is-in : (s : ProgramSet) (x : ℕ) → hasProgram s x ≡ true → Is x
-is-in s x e = let n = has-number 32 (s .bits) x e in record { least = least 32 x n; most = most 32 x n }
-
 mem-of : (s : ProgramSet) (x : ℕ) → hasProgram s x ≡ true → x ∈ listOf s
-mem-of s x e = mem-keep (hasProgram s) everyone x (mem-everyone x (is-in s x e)) e
+mem-of s x e = mem-keep (hasProgram s) everyone x (mem-everyone x (set-is s x e)) e
 
 of-mem : (s : ProgramSet) (x : ℕ) → x ∈ listOf s → hasProgram s x ≡ true
 of-mem s x m = keep-mem (hasProgram s) everyone x m .1
@@ -81,7 +77,7 @@ goes-going rows s z (p ∷ L) e =
       within = λ a m. by-mem m (λ d. ap (hasProgram s) d ∙ h)
           (λ k. let i = r .within a k in by-test (eqb a p) (λ t. never i (ap (hasProgram rest) (eqb-true a p t) ∙ gone))
           (λ t. sym (without-number-other 32 (s .bits) p a (eqb-false a p t)) ∙ i));
-      follows = (and-both (isProgram p) _ (of-is p (is-in s p h)) (and-right (hasProgram s p) (hasProgram (rowOf rows p) z) u), r .follows);
+      follows = (and-both (isProgram p) _ (of-is p (set-is s p h)) (and-right (hasProgram s p) (hasProgram (rowOf rows p) z) u), r .follows);
     }
 
 going-goes : (rows : List ℕ) (s : ProgramSet) (z : ℕ) (L : List ℕ) → Going rows s z L → goes rows s z L ≡ true
@@ -225,7 +221,7 @@ module _ (rows : List ℕ) (s : ProgramSet) (x : ℕ) (is-x : isProgram x ≡ tr
   holder-none : (y : ℕ) → y ≡ lowestHolder rows s x → y ≡ 0 → first holds (listOf s) ≡ none
   unfolding lowestHolder
   holder-none y e z = by-option (first holds (listOf s)) (λ u. u)
-      (λ q u. let i = is-in s q (of-mem s q (first-some holds (listOf s) q u .0)) .least in let w : y ≡ q = rw u at e in absurd (omega arith))
+      (λ q u. let i = set-is s q (of-mem s q (first-some holds (listOf s) q u .0)) .least in let w : y ≡ q = rw u at e in absurd (omega arith))
 
   holder-some : (y : ℕ) → y ≡ lowestHolder rows s x → y ≢ 0 → first holds (listOf s) ≡ some y
   unfolding lowestHolder
@@ -330,10 +326,10 @@ module _ (b : Board) (rows matrix : List ℕ) (f : rows ≡ rowsSaying (step b))
 
   pub found-some : (x : ℕ) → hasProgram s x ≡ true → found (carried b) ≡ true → ⊥
   found-some x h u = by-option (carried b) (λ v. never u (ap found v))
-      (λ o v. itself-iff b .0 (x, sym (self-has x (is-in s x h)) ∙ h) o (carried-sound b o v))
+      (λ o v. itself-iff b .0 (x, sym (self-has x (set-is s x h)) ∙ h) o (carried-sound b o v))
 
   self-mem : (a : ℕ) → a ∈ listOf s → reaches b a a ≡ true
-  self-mem a m = let h = of-mem s a m in sym (self-has a (is-in s a h)) ∙ h
+  self-mem a m = let h = of-mem s a m in sym (self-has a (set-is s a h)) ∙ h
 
   all-held : AllHeld (cell rows) (listOf s)
   unfolding heldIn

@@ -11,7 +11,7 @@ use lib.ListN.{take}
 use Rattle.rules.specs.declared.Board.{Board}
 use Rattle.rules.specs.declared.Line.{Line}
 use Rattle.rules.specs.declared.Reply.{Reply}
-use Rattle.rules.specs.Lists.{keep, first, found}
+use Rattle.laws.specs.Lists.{keep, first, found}
 use Rattle.rules.specs.Boards.{isProgram, isWaiting, everyone, at, awaited}
 use Rattle.rules.specs.Orders.{carried, withGiven}
 use Rattle.rules.specs.Calls.{Call, direct}

@@ -10,7 +10,8 @@ use Rattle.rules.specs.Boards.{isProgram, everyone}
 use Rattle.rules.specs.Digraph.{paths, reaches}
 use Rattle.tables.specs.declared.ProgramSet.{ProgramSet}
 use Rattle.tables.specs.ProgramSets.{hasProgram, withoutProgram, unionOf}
-use Rattle.tables.specs.Tables.{places, packed, rowOf, holdersOf}
+use Rattle.tables.specs.Sets.{places}
+use Rattle.tables.specs.Tables.{packed, rowOf, holdersOf}
 
 -- the rows that say g: in the row of each program p stand those x for which g x p says so
 abbrev pub rowsSaying : (ℕ → ℕ → Bool) → List ℕ

@@ -5,8 +5,8 @@ use tables::ProgramSet;
 ghost use mathlib.Core.Path.{_≡_};
 ghost use Prim.Native.Nat.{_≤_};
 ghost use lib.ListN.{length, replicate};
-ghost use Rattle.tables.specs.Tables.{setsOf};
-ghost use Rattle.search.specs.Rows.{admittedSet};
+ghost use Rattle.tables.specs.Sets.{setsOf};
+ghost use Rattle.tables.specs.Boards.{admittedSet};
 ghost use Rattle.digraph.specs.Rows.{byRow, holderRows, PassedBy, ClosedOver, matrixOf};
 
 pub mod answers;
@@ -49,8 +49,8 @@ fn fill_steps(b: Board, rows: &mut [u32; 32])
     ensures { λ _. ⌜ now (rows .exit) ≡ holderRows (setsOf b) (admittedSet b) ⌝ }
 {
     let mut sets = [0u64; 128];
-    tables::take_sets(b, &mut sets);
-    let admitted = search::admitted_set(b);
+    tables::sets::take_sets(b, &mut sets);
+    let admitted = tables::boards::admitted_set(b);
     fill_holders(&sets, admitted, rows);
 }
 

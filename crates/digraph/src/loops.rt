@@ -183,7 +183,7 @@ pub fn give(b: Board, p: u8, f: u8) -> Board
 {
     let i = (p - 1) as usize;
     let q = b.programs[i];
-    search::put(b, p, q.opening(f))
+    tables::boards::put(b, p, q.opening(f))
 }
 
 // Whether p is admitted and claims f, and the list is a loop with f given to it.

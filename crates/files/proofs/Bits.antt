@@ -11,7 +11,7 @@ use lib.Pow.{pow-lt, pow-add}
 use lib.Bits.{bitAnd, bitOr, bitXor, differ, and-step, or-step, xor-step, and-high, or-add-and, xor-add-and, and-le-l, and-comm}
 use borrow.Author.Tests.{eq-eqb, ne-eqb, eqb-true, eqb-false, leb-true, le-leb, ltb-true, ltb-false}
 use Rattle.files.specs.Bits.{hasBit, withBit, withoutBit, share, covers, isNumber, hasNumber, withNumber, withoutNumber}
-use Rattle.files.proofs.Tests.{by-test, never, or-cases, and-left, and-right, and-both, no-true, same-test}
+use Rattle.laws.specs.Tests.{by-test, never, or-cases, and-left, and-right, and-both, no-true, same-test}
 
 -- ---- bits by recursion
 

@@ -10,7 +10,7 @@ use borrow.Author.Tests.{eqb-true, eqb-false}
 use Rattle.files.specs.declared.FileSet.{FileSet}
 use Rattle.files.specs.Bits.{hasBit}
 use Rattle.files.specs.Sets.{isFile, noFiles, member, adding, removing, meets, within, OfFiles}
-use Rattle.files.proofs.Tests.{by-test, never, and-both, no-true}
+use Rattle.laws.specs.Tests.{by-test, never, and-both, no-true, same-test}
 use Rattle.files.proofs.Bits.{zero-has, with-more, with-only, without-other, without-less, share-of, of-share, of-covers, covers-of}
 use Rattle.files.proofs.Bits.{has-number, has-bit, with-number-same, with-number-other, without-number-same, without-number-other}
 use Rattle.files.proofs.Bits.{share-iff, covers-iff, numbers-same}
@@ -84,6 +84,9 @@ meets-mono s t s′ t′ f g e =
 
 pub meets-sym : (s t : FileSet) → meets s t ≡ true → meets t s ≡ true
 meets-sym s t e = let m = of-share (s .bits) (t .bits) e in share-of (t .bits) (s .bits) (m .0) (m .2) (m .1)
+
+pub meets-turn : (s t : FileSet) → meets s t ≡ meets t s
+meets-turn s t = same-test (meets s t) (meets t s) (meets-sym s t) (meets-sym t s)
 
 pub meets-at : (s t : FileSet) (f : ℕ) → member s f ≡ true → member t f ≡ true → meets s t ≡ true
 meets-at s t f a b = share-of (s .bits) (t .bits) (f - 1) (has-bit 64 (s .bits) f a) (has-bit 64 (t .bits) f b)

@@ -7,7 +7,7 @@ use lib.Dec.{eqb}
 use lib.ListN.{length, take, drop}
 use lib.Seq.{length-take-le, take-append-seam, drop-append-seam}
 use borrow.Author.Tests.{eqb-true, eqb-false}
-use Rattle.files.proofs.Tests.{by-test, never}
+use Rattle.laws.specs.Tests.{by-test, never}
 use Rattle.columns.specs.Columns.{flat}
 use Rattle.rules.specs.declared.Board.{Board}
 use Rattle.rules.specs.declared.Refusal.{Refusal}
@@ -19,6 +19,7 @@ use Rattle.rules.specs.Settling.{line}
 use Rattle.rules.specs.Replies.{refusalOf, refused, wordOf, refuse, reply, settlingLines}
 use Rattle.rules.specs.Calls.{Call, Enter, Open, Close, Drop, Leave, Cancel, programOf, fileOf, direct}
 use Rattle.theory.specs.Answers.{answer-first}
+use Rattle.apply.proofs.Laws.{refused-by}
 use Rattle.request.specs.declared.Reading.{Reading}
 use Rattle.request.specs.declared.Request.{Request}
 use Rattle.request.specs.Requests.{requestOf, requestCall}
@@ -26,8 +27,8 @@ use Rattle.request.specs.Law.{saying}
 use Rattle.request.proofs.Lines.{read-line}
 use Rattle.journal.specs.Journal.{lineBytes, linesBytes, written}
 use Rattle.journal.proofs.Laws.{line-length}
-use Rattle.serve.specs.LineCall.{linesFor, replyBy, replyTo}
-use Rattle.serve.proofs.Laws.{own-lines, refused-lines}
+use Rattle.linecall.specs.LineCall.{linesFor, replyBy, replyTo}
+use Rattle.linecall.proofs.Laws.{own-lines, refused-lines}
 use Rattle.host.specs.Promises.{answerLine}
 use Rattle.host.proofs.Laws.{number-some}
 
@@ -39,16 +40,10 @@ by-reading (Reading.Refused n) f g = g n refl
 
 -- an answer that is no refusal has no number
 pub accepted-number : (a : Answer) → refused a ≡ false → refusalOf a ≡ 0
-accepted-number Answer.Admit h = refl
-accepted-number Answer.Held h = refl
-accepted-number Answer.Given h = refl
-accepted-number Answer.Wait h = refl
-accepted-number Answer.Unsafe h = refl
-accepted-number Answer.Done h = refl
-accepted-number (Answer.Refuse r) h = never {t = true} refl h
+accepted-number a h = by-test (eqb (refusalOf a) 0) (eqb-true (refusalOf a) 0) (λ e. never (refused-by a (eqb-false (refusalOf a) 0 e)) h)
 
 -- one without a number is none
-number-accepted : (a : Answer) → eqb (refusalOf a) 0 ≡ true → refused a ≡ false
+pub number-accepted : (a : Answer) → eqb (refusalOf a) 0 ≡ true → refused a ≡ false
 number-accepted Answer.Admit h = refl
 number-accepted Answer.Held h = refl
 number-accepted Answer.Given h = refl
@@ -70,7 +65,7 @@ number-word (Answer.Refuse r) h = refl
 -- ---- the first line
 
 -- the program and the file of the line that asks for a call
-says-program : (c : Call) → saying c .program ≡ programOf c
+says-program : (c : Call) → saying c .asked .program ≡ programOf c
 says-program (Enter p v q) = refl
 says-program (Open p f) = refl
 says-program (Close p f) = refl
@@ -78,7 +73,7 @@ says-program (Drop p f) = refl
 says-program (Leave p) = refl
 says-program (Cancel p) = refl
 
-says-file : (c : Call) → saying c .file ≡ fileOf c
+says-file : (c : Call) → saying c .asked .file ≡ fileOf c
 says-file (Enter p v q) = refl
 says-file (Open p f) = refl
 says-file (Close p f) = refl
@@ -99,7 +94,8 @@ taken-first b q c e z =
 refused-first : (q : Request) (r : Reply) → eqb (refusalOf (r .answer)) 0 ≡ false → linesFor q r ≡ answerLine q (r .answer) ∷ []
 refused-first q r z =
     refused-lines q r (eqb-false (refusalOf (r .answer)) 0 z)
-    ∙ ap (λ (w : Word). record { word = w; program = q .program; file = q .file; refusal = refusalOf (r .answer) } ∷ []) (number-word (r .answer) z)
+    ∙ ap (λ (w : Word). record { word = w; program = q .asked .program; file = q .asked .file; refusal = refusalOf (r .answer) } ∷ [])
+    (number-word (r .answer) z)
 
 -- what a request line is answered begins with the line of its answer
 pub first-line : (b : Board) (l : List ℕ) → (ls : List Line) × (linesFor (requestOf l) (replyTo b (requestOf l))

@@ -9,7 +9,7 @@ use lib.Dec.{ltb}
 use lib.ListN.{length, drop}
 use lib.Seq.{length-take-le}
 use borrow.Author.Tests.{lt-ltb, le-ltb}
-use Rattle.files.proofs.Tests.{no-true}
+use Rattle.laws.specs.Tests.{no-true}
 use Rattle.rules.specs.declared.Board.{Board}
 use Rattle.rules.specs.Boards.{isProgram, at}
 use Rattle.rules.specs.Digraph.{isLoopWith}

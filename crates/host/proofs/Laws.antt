@@ -8,11 +8,11 @@ use lib.Dec.{eqb}
 use lib.ListN.{length, take, drop}
 use lib.Seq.{length-take-le, take-length}
 use borrow.Author.Tests.{ne-eqb, lt-ltb, le-ltb}
-use Rattle.files.proofs.Tests.{by-test, never}
+use Rattle.laws.specs.Tests.{by-test, never}
 use Rattle.rules.specs.declared.Reply.{Reply}
 use Rattle.rules.specs.declared.Board.{Board}
 use Rattle.rules.specs.declared.Refusal.{Refusal}
-use Rattle.rules.specs.Lists.{found}
+use Rattle.laws.specs.Lists.{found}
 use Rattle.rules.specs.Orders.{carried}
 use Rattle.rules.specs.Soundness.{sound}
 use Rattle.rules.specs.Replies.{number, refusalOf, refuseUnsound}
@@ -26,7 +26,7 @@ use Rattle.apply.proofs.Laws.{order-count, order-at}
 use Rattle.image.specs.Image.{imageLength, imageOf, loadedOf, refusedImage}
 use Rattle.image.specs.declared.Loaded.{Loaded}
 use Rattle.image.proofs.RoundTrip.{accepted}
-use Rattle.serve.specs.LineCall.{lineCall}
+use Rattle.linecall.specs.LineCall.{lineCall}
 use Rattle.host.specs.Host.{refusalAnswer, hostAnswer, hostImage, hostedBy, hostCall, readImage}
 use Rattle.host.specs.Host.{placedAnswer, placedIn, orderAnswer, orderBuffer}
 

@@ -10,7 +10,7 @@ use lib.Dec.{eqb, leb}
 use lib.ListN.{length, getD, take, drop, length-append, List·getD-append}
 use lib.Seq.{getD-append-add, getD-take, getD-drop, length-take-le}
 use borrow.Author.Tests.{eq-eqb, leb-true}
-use Rattle.files.proofs.Tests.{by-test, never, and-right, not-true}
+use Rattle.laws.specs.Tests.{by-test, never, and-right, not-true}
 use Rattle.files.specs.Sets.{noFiles}
 use Rattle.rules.specs.declared.Board.{Board}
 use Rattle.rules.specs.declared.Refusal.{Refusal}
@@ -20,43 +20,37 @@ use Rattle.rules.specs.declared.Line.{Line}
 use Rattle.rules.specs.declared.Reply.{Reply}
 use Rattle.rules.specs.Boards.{emptyBoard}
 use Rattle.rules.specs.Soundness.{sound}
-use Rattle.rules.specs.Replies.{number, refusalOf, refused, reply, refuse, refuseUnsound, orderOf}
+use Rattle.rules.specs.Replies.{number, refusalOf, refused, reply, refuse, refuseUnsound}
 use Rattle.rules.specs.Checks.{enterCheck, openCheck, leaveCheck}
 use Rattle.rules.specs.Worked.{workedFrom, worked}
-use Rattle.rules.specs.Calls.{Call, Enter, Open, Close, Drop, Leave, Cancel, checked, accepted, apply, direct}
-use Rattle.theory.specs.Calls.{take-padded, by-check, apply-accepted, apply-refused}
-use Rattle.theory.specs.Worked.{worked-sound, direct-is-apply, apply-reply}
+use Rattle.rules.specs.Calls.{Call, Enter, Open, Leave, checked, accepted, apply, direct}
+use Rattle.theory.specs.Calls.{by-check, apply-accepted, apply-refused}
+use Rattle.theory.specs.Worked.{worked-sound, direct-is-apply, reply-order, order-carried as apply-order}
 use Rattle.theory.specs.Answers.{accepted-answered}
-use Rattle.apply.proofs.Laws.{apply-same}
 use Rattle.request.specs.declared.Reading.{Reading}
 use Rattle.request.specs.Requests.{requestOf, requestCall}
 use Rattle.request.specs.Law.{InRange, saying}
-use Rattle.request.proofs.Lines.{line-read, read-line}
+use Rattle.request.proofs.Lines.{line-read, read-line, call-back}
 use Rattle.journal.specs.Journal.{linesBytes, written}
 use Rattle.journal.proofs.Laws.{lines-length}
 use Rattle.image.specs.declared.Loaded.{Loaded}
 use Rattle.image.specs.Image.{imageOf, loadedOf}
 use Rattle.image.proofs.RoundTrip.{loaded-back, loaded-again}
-use Rattle.serve.specs.LineCall.{Outcome, journalFull, linesFor, replyBy, replyTo, stopped, posted, lineCall}
-use Rattle.serve.proofs.Laws.{call-unsound, call-full, room}
-use Rattle.host.specs.Host.{hostedBy, hostCall, orderNow}
+use Rattle.linecall.specs.LineCall.{Outcome, journalFull, linesFor, replyTo, stopped, posted, lineCall}
+use Rattle.linecall.proofs.Laws.{call-unsound, call-full, room, refused-same}
+use Rattle.host.specs.Host.{hostedBy, hostCall}
 use Rattle.host.specs.Promises.{LineDoesItsCall, LineRefused, RefusedKeepsBoard, WritesNothing, OtherBytesKept, ReadsBack}
 use Rattle.host.specs.Promises.{AcceptedIsWritten, RefusedKeepsImage, LineNeverOutOfRange, DirectOutOfRange}
 use Rattle.host.specs.Promises.{AnswerWrittenFirst, OrderCarried}
 use Rattle.host.proofs.Laws.{number-some, image-layout, image-unsound, image-sound, image-kept}
 use Rattle.host.proofs.Range.{ofLine, line-reads, notEight, range-checked}
-use Rattle.host.proofs.Answers.{by-reading, accepted-number, first-line, written-first}
+use Rattle.host.proofs.Answers.{by-reading, accepted-number, number-accepted, first-line, written-first}
 
 -- ══ Lines ══
 
 says-reply : (b : Board) (c : Call) → replyTo b (saying c) ≡ direct b c
 unfolding replyTo
-says-reply b (Enter p v q) = refl
-says-reply b (Open p f) = refl
-says-reply b (Close p f) = refl
-says-reply b (Drop p f) = refl
-says-reply b (Leave p) = refl
-says-reply b (Cancel p) = refl
+says-reply b c = ap (direct b) (call-back c)
 
 pub line-does-its-call : LineDoesItsCall
 unfolding lineCall posted direct
@@ -71,24 +65,8 @@ line-refused b line journal place r s free e = rw (s, free, e, number-some r)
 
 -- ══ Refused calls ══
 
-direct-same : (b : Board) (c : Call) → refused (direct b c .answer) ≡ true → direct b c .board ≡ b
-unfolding direct refuseUnsound
-direct-same b c n =
-    by-test (sound b) (λ s. rw s (apply-same b c (rw s at n)))
-    (λ s. rw s)
-
-reply-same : (b : Board) (r : Reading) (c : Call) → refused (replyBy b r c .answer) ≡ true → replyBy b r c .board ≡ b
-unfolding refuse reply
-reply-same b Reading.Taken c n = direct-same b c n
-reply-same b (Reading.Refused r) c n = refl
-
 pub refused-keeps-board : RefusedKeepsBoard
-unfolding lineCall posted replyTo refuse reply refuseUnsound
-refused-keeps-board b line journal place n =
-    by-test (sound b)
-    (λ s. by-test (journalFull (length journal) place) (λ f. rw (s, f))
-    (λ f. rw (s, f) (reply-same b (requestOf line .reading) (requestCall (requestOf line)) (rw (s, f) at n))))
-    (λ s. rw s)
+refused-keeps-board = refused-same
 
 pub writes-nothing : WritesNothing
 writes-nothing b line journal place k = by-test (sound b)
@@ -178,13 +156,6 @@ other-bytes-kept b line journal place i k =
 
 -- ══ The order ══
 
-reply-order : (b : Board) (a : Answer) (ls : List Line) → orderOf (reply b a ls) ≡ orderNow b
-unfolding reply
-reply-order b a ls = take-padded 0 (orderNow b)
-
-apply-order : (b : Board) (c : Call) → orderOf (apply b c) ≡ orderNow (apply b c .board)
-apply-order b c = let k = apply-reply b c in ap orderOf (k .is) ∙ reply-order (apply b c .board) (apply b c .answer) (k .its-lines)
-
 pub order-carried : OrderCarried
 unfolding lineCall posted replyTo refuse reply
 order-carried b line journal place s =
@@ -208,13 +179,7 @@ accepted-is-written image y h =
 
 -- an answer that is a refusal has a number
 refused-number : (a : Answer) → refused a ≡ true → refusalOf a ≡ 0 → ⊥
-refused-number Answer.Admit h e = never {t = false} h refl
-refused-number Answer.Held h e = never {t = false} h refl
-refused-number Answer.Given h e = never {t = false} h refl
-refused-number Answer.Wait h e = never {t = false} h refl
-refused-number Answer.Unsafe h e = never {t = false} h refl
-refused-number Answer.Done h e = never {t = false} h refl
-refused-number (Answer.Refuse r) h e = never (eq-eqb (number r) 0 e) (number-some r)
+refused-number a h e = never h (number-accepted a (eq-eqb (refusalOf a) 0 e))
 
 module _ (image line journal : List ℕ) (place : ℕ) where
   kept : (b : Board) → refused (lineCall b line journal place .reply .answer) ≡ true → hostedBy image (lineCall b line journal place) .image ≡ image

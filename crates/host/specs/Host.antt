@@ -13,7 +13,7 @@ use Rattle.rules.specs.Soundness.{sound}
 use Rattle.rules.specs.Replies.{refusalOf}
 use Rattle.image.specs.declared.Loaded.{Loaded}
 use Rattle.image.specs.Image.{loadedOf, imageOf, refusedImage, imageFits, imageIn}
-use Rattle.serve.specs.LineCall.{Outcome, lineCall}
+use Rattle.linecall.specs.LineCall.{Outcome, lineCall}
 
 -- ---- reading an image
 

@@ -22,7 +22,7 @@ use Rattle.request.specs.Law.{InRange, IsLabel}
 use Rattle.journal.specs.Journal.{lineBytes, written}
 use Rattle.image.specs.Image.{imageOf}
 use Rattle.image.specs.Law.{BoardOfCode, Bytes}
-use Rattle.serve.specs.LineCall.{journalFull, refuseLine, lineCall}
+use Rattle.linecall.specs.LineCall.{journalFull, refuseLine, lineCall}
 use Rattle.host.specs.Host.{readImage, hostCall, orderNow}
 
 -- ══ Lines ══
@@ -69,7 +69,7 @@ DirectOutOfRange = (refusalOf (direct emptyBoard (Leave 0) .answer) ≡ 8)
 
 -- the line of an answer: its word, the program and the file of the request line, and the number of the refusal, 0 where none
 abbrev pub answerLine : Request → Answer → Line
-answerLine q a = record { word = wordOf a; program = q .program; file = q .file; refusal = refusalOf a }
+answerLine q a = record { word = wordOf a; program = q .asked .program; file = q .asked .file; refusal = refusalOf a }
 
 -- "The answer comes first", REFUSE too: the first of the lines that a call writes
 abbrev pub AnswerWrittenFirst : Type 0

@@ -1,57 +1,15 @@
-// The line call and the calls of a C host.
-use digraph::Loop;
+// The calls of a C host.
 use image::Loaded;
 use rules::Board;
-use rules::Reply;
 use search::Search;
 ghost use mathlib.Core.Path.{_≡_};
-ghost use mathlib.Core.Bool.{true};
 ghost use Prim.Native.Nat.{_≤_};
 ghost use lib.ListN.{take};
-ghost use Rattle.rules.specs.Digraph.{mayCarry};
-ghost use Rattle.request.specs.Requests.{requestOf, requestCall};
-ghost use Rattle.digraph.specs.Loops.{named};
-ghost use Rattle.serve.specs.LineCall.{lineCall};
 ghost use Rattle.host.specs.Host.{readImage, refusalAnswer, hostAnswer, hostCall, emptyAnswer, emptyImage};
 ghost use Rattle.host.specs.Host.{placedAnswer, placedIn, orderAnswer, orderBuffer};
 
 pub mod digraphs;
 mod writing;
-
-// What a line call gives back: the reply, with the board after it, the new place in the journal,
-// and the loop that the answer carries, none unless UNSAFE.
-pub struct Posted {
-    pub reply: Reply,
-    pub place: u64,
-    pub carries: Loop,
-}
-
-// The line call: check 1, then the line is served.
-pub fn line_call(b: Board, line: &[u8], journal: &mut [u8], place: u64) -> Posted
-    ensures { λ r. ⌜ r .reply ≡ lineCall b (now (line .entry)) (now (journal .entry)) place .reply ⌝ }
-    ensures { λ r. ⌜ r .place ≡ lineCall b (now (line .entry)) (now (journal .entry)) place .place ⌝ }
-    ensures { λ r. ⌜ now (journal .exit) ≡ lineCall b (now (line .entry)) (now (journal .entry)) place .journal ⌝ }
-    ensures { λ r. ⌜ mayCarry b (requestCall (requestOf (now (line .entry)))) (r .reply .answer) (named (r .carries)) ≡ true ⌝ }
-{
-    let j = sound::judge(b);
-    if !j.sound {
-        let reply = apply::replies::refused_unsound(b);
-        return Posted {
-            reply,
-            place,
-            carries: Loop::NONE,
-        };
-    }
-    let s = serve::line(b, line, journal, place);
-    let order = j.order;
-    let reply = apply::replies::complete(s.changed, order);
-    let carries = digraph::answers::loop_of(b, reply);
-    Posted {
-        reply,
-        place: s.place,
-        carries,
-    }
-}
 
 // The board of an image; an image that is not of its layout, or whose board is not sound, is refused and gives the empty board.
 pub fn read_image(image: &[u8]) -> Loaded
@@ -115,7 +73,7 @@ pub extern "C" fn lock_board_line(
         return answer_for(1, place);
     }
     let b = loaded.board;
-    let served = serve::line(b, line, journal, place);
+    let served = linecall::known::line(b, line, journal, place);
     let changed = served.changed;
     let answer = changed.answer;
     let n = answer.refusal();

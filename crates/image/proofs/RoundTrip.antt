@@ -2,12 +2,12 @@
 use Prim.Native.Nat.{ℕ, zero, suc, _+_, _*_, _/_, _%_, _^_, _<_, _≤_}
 use mathlib.Core.Path.{_≡_, refl, ap, sym, _∙_}
 use mathlib.Core.List.{List, [], _∷_, _++_, append-assoc}
-use mathlib.Core.Bool.{true, false}
+use mathlib.Core.Bool.{true}
 use lib.ListN.{length, getD, take, drop, length-take, length-drop, length-append, take-append-drop, drop-of-length-le}
 use lib.Seq.{drop-cons, drop-drop, take-at, take-all, drop-at, getD-drop, take-add, length-take-le}
 use native.Mathlib.Omega.{arith}
 use borrow.Author.Tests.{lt-leb, eqb-true}
-use Rattle.files.proofs.Tests.{by-test}
+use Rattle.laws.specs.Tests.{by-test, never}
 use Rattle.columns.specs.Columns.{flat}
 use Rattle.image.specs.Image.{waitingAt, entryAt, numbersAt, countsAt, imageLength}
 use Rattle.image.specs.Image.{bytesN, valueOf, kindOf, rowBytes, numbersOf, imageOf, standingOf, kindFits, rowIs, rowOf, rowsFit, rowsOf}
@@ -135,16 +135,13 @@ image-back b z g =
     let c : take 32 (drop countsAt (P ++ R)) ≡ b .passed = rw d₃ (take-all 32 (b .passed) (omega (arith, z .passed))) in
     sym (load-good (P ++ R) b (image-length b z) fit (sym (board-same (boardOf (P ++ R)) b rows w e (number 0) (number 1) (number 2) c)))
 
-never : {A : Type 0} → false ≡ true → A
-never h = absurd (let z : _≡_ {A = ℕ} 0 1 = cc in omega arith)
-
 kind-again : (k f : ℕ) → kindFits k f ≡ true → (kindOf (standingOf k f) ≡ k) × (awaitedOf (standingOf k f) ≡ f)
 unfolding kindFits standingOf
 kind-again zero f h = (refl, sym (eqb-true f 0 h))
 kind-again (suc zero) f h = (refl, sym (eqb-true f 0 h))
 kind-again (suc (suc zero)) f h = (refl, refl)
 kind-again (suc (suc (suc zero))) f h = (refl, sym (eqb-true f 0 h))
-kind-again (suc (suc (suc (suc k)))) f h = never (rw (lt-leb (suc (suc (suc (suc k)))) 3 (omega arith)) at h)
+kind-again (suc (suc (suc (suc k)))) f h = never (rw (lt-leb (suc (suc (suc (suc k)))) 3 (omega arith)) at h) refl
 
 row-again : (l : List ℕ) → length l ≡ 34 → Bytes l → rowIs l ≡ true → rowBytes (rowOf l) ≡ l
 unfolding rowIs rowOf rowBytes
@@ -178,8 +175,8 @@ unfolding imageOf boardOf
 image-again l h b f =
     let d : (n : ℕ) → take 32 (drop n l) ++ drop (n + 32) l ≡ drop n l = λ n. rw (← drop-drop 32 n l) (take-append-drop 32 (drop n l)) in
     let c : take 32 (drop countsAt l) ≡ drop countsAt l = take-all 32 (drop countsAt l) (omega (arith, length-drop countsAt l)) in
-    let z : getD l numbersAt 0 ∷ getD l (numbersAt + 1) 0 ∷ getD l (numbersAt + 2) 0 ∷ drop countsAt l ≡ drop numbersAt l = sym (drop-cons l numbersAt 0 (omega arith)
-    ∙ ap (λ (r : List ℕ). getD l numbersAt 0 ∷ r)
+    let z : getD l numbersAt 0 ∷ getD l (numbersAt + 1) 0 ∷ getD l (numbersAt + 2) 0 ∷ drop countsAt l ≡ drop numbersAt l =
+    sym (drop-cons l numbersAt 0 (omega arith) ∙ ap (λ (r : List ℕ). getD l numbersAt 0 ∷ r)
     (drop-cons l (numbersAt + 1) 0 (omega arith) ∙ ap (λ (r : List ℕ). getD l (numbersAt + 1) 0 ∷ r)
     (drop-cons l (numbersAt + 2) 0 (omega arith)))) in
     rw (rows-again 32 l (omega arith) b f, c, z, d entryAt, d waitingAt) (take-append-drop waitingAt l)
@@ -202,8 +199,8 @@ accepted l h =
     by-test (eqb (length l) imageLength)
     (λ e. by-test (rowsFit 32 l)
     (λ d. record { long = eqb-true (length l) imageLength e; fits = d; board = rw (e, d) })
-    (λ d. never (rw (e, d) at h)))
-    (λ e. never (rw e at h))
+    (λ d. never (rw (e, d) at h) refl))
+    (λ e. never (rw e at h) refl)
 
 -- an accepted image is the image of the board that is read from it
 pub loaded-again : (l : List ℕ) → Bytes l → loadedOf l .ok ≡ true → imageOf (loadedOf l .board) ≡ l

@@ -145,9 +145,3 @@ imageFits buffer = eqb (length buffer) imageLength
 -- the buffer after the image of a board, sound or not, is written into it; one of another length stays as it was
 abbrev pub imageIn : List ℕ → Board → List ℕ
 imageIn buffer b = cond (imageFits buffer) (imageOf b) buffer
-
--- ---- bytes put into a list
-
--- the list with src in place of its elements from a place on
-unfoldable pub putAt : List ℕ → ℕ → List ℕ → List ℕ
-putAt l at src = take at l ++ (src ++ drop (at + length src) l)

@@ -9,7 +9,8 @@ ghost use mathlib.Core.Bool.{true};
 ghost use Prim.Native.Nat.{_+_, _*_, _≤_, _<_};
 ghost use lib.ListN.{length, drop};
 ghost use Rattle.image.specs.Image.{bytesOf, valueOf, kindOf, rowBytes, rowsBytes, imageOf, standingOf, rowIs, rowOf, rowsFit, rowsOf};
-ghost use Rattle.image.specs.Image.{imageLength, loadedOf, kindFits, putAt, imageFits, imageIn};
+ghost use Rattle.image.specs.Image.{imageLength, loadedOf, kindFits, imageFits, imageIn};
+ghost use Rattle.columns.specs.Columns.{putAt};
 
 // Where the parts after the programs begin, and how many bytes an image has.
 const WAITING_AT: usize = 1088;
@@ -115,7 +116,7 @@ fn row_bytes(p: Program) -> [u8; 34]
 // Writes all of src into out from a place on; the rest keeps its contents.
 pub fn put_at(out: &mut [u8], at: usize, src: &[u8])
     requires { ⌜ at + length (now src) ≤ length (now out) ⌝ }
-    ensures { λ r. ⌜ now (out .exit) ≡ putAt (now (out .entry)) at (now (src .entry)) ⌝ }
+    ensures { λ r. ⌜ now (out .exit) ≡ putAt at (now (src .entry)) (now (out .entry)) ⌝ }
 {
     bytes::copy(src, &mut out[at..]);
 }

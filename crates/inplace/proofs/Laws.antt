@@ -11,13 +11,13 @@ use types.Kit.{Given, Item, Step, prop, raw, _$_, _∵_, !, qed, use0, suffices,
 use denote.Laws.{Is}
 use denote.Struct.Laws as LL
 use Rattle.rules.specs.declared.Board.{Board}
-use Rattle.host.specs.declared.Posted.{Posted}
+use Rattle.linecall.specs.declared.Posted.{Posted}
 use Rattle.rules.proofs.Board as B
 use Rattle.rules.proofs.Board.Laws as B′
 use Rattle.rules.proofs.Reply as R
 use Rattle.rules.proofs.Reply.Laws as R′
-use Rattle.host.proofs.Posted as P
-use Rattle.host.proofs.Posted.Laws as P′
+use Rattle.linecall.proofs.Posted as P
+use Rattle.linecall.proofs.Posted.Laws as P′
 
 -- the machine value of a board, and of what a line call gives back
 abbrev pub board-vals : Board → List Val

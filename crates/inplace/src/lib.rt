@@ -1,12 +1,12 @@
 // The line call on a lent board, for a Rattle host.
-use host::Posted;
+use linecall::Posted;
 use rules::Board;
 ghost use mathlib.Core.Path.{_≡_};
 ghost use mathlib.Core.Bool.{true};
 ghost use Rattle.rules.specs.Digraph.{mayCarry};
 ghost use Rattle.request.specs.Requests.{requestOf, requestCall};
 ghost use Rattle.digraph.specs.Loops.{named};
-ghost use Rattle.serve.specs.LineCall.{lineCall};
+ghost use Rattle.linecall.specs.LineCall.{lineCall};
 
 // The line call: the board that is lent is changed, and the answer comes back with its lines, its order, the new place
 // and the loop that it carries.
@@ -17,7 +17,7 @@ pub fn line_call_in(board: &mut Board, line: &[u8], journal: &mut [u8], place: u
     ensures { λ r. ⌜ now (board .exit) ≡ lineCall (now (board .entry)) (now (line .entry)) (now (journal .entry)) place .reply .board ⌝ }
     ensures { λ r. ⌜ mayCarry (now (board .entry)) (requestCall (requestOf (now (line .entry)))) (r .reply .answer) (named (r .carries)) ≡ true ⌝ }
 {
-    let posted = host::line_call(*board, line, journal, place);
+    let posted = linecall::line_call(*board, line, journal, place);
     *board = posted.reply.board;
     posted
 }

@@ -1,17 +1,18 @@
 -- Laws of the names of a line, and of lists in 32 places. Assumes nothing.
-use mathlib.Core.Path.{_≡_, refl, sym, ap, ap₂, _∙_}
-use mathlib.Core.Bool.{Bool, true, not, _&&_}
+use mathlib.Core.Path.{_≡_, sym, ap, _∙_}
+use mathlib.Core.Bool.{Bool, true, _&&_}
 use mathlib.Core.List.{List, [], _∷_, _++_, append-assoc, append-nil}
 use mathlib.Core.Logic.{_≢_}
-use Prim.Native.Nat.{ℕ, zero, suc, _+_, _-_, _≤_, _<_}
+use Prim.Native.Nat.{ℕ, suc, _+_, _-_, _≤_, _<_}
 use native.Mathlib.Numerals.{add-one}
 use native.Mathlib.Omega.{arith}
-use lib.Dec.{eqb, leb}
+use lib.Dec.{eqb}
 use lib.ListN.{length, getD, set, drop, replicate, drop-of-length-le, length-append, length-replicate}
 use lib.Seq.{drop-cons, set-append-seam}
-use borrow.Author.Tests.{eq-eqb, ne-eqb, eqb-true, leb-true}
-use Rattle.files.proofs.Tests.{by-test, never, and-left, and-right}
-use Rattle.rules.specs.Lists.{all, keep, same, names, padded, without}
+use borrow.Author.Tests.{eq-eqb, ne-eqb}
+use Rattle.laws.specs.Tests.{by-test, and-left, and-right}
+use Rattle.laws.specs.Lists.{all, keep, names, padded, without}
+use Rattle.files.proofs.Bits.{least, most}
 use Rattle.rules.specs.Boards.{isProgram}
 use Rattle.lines.specs.declared.Kept.{Kept}
 use Rattle.lines.specs.Kept.{keptAs, keepOther, keepOthers}
@@ -37,46 +38,6 @@ names-short [] = omega arith
 names-short (x ∷ l) =
     by-test (eqb x 0) (λ e. rw e (omega arith)) (λ e. let h = names-short l in rw e (omega arith))
 
--- ---- zeros after the names
-
-same-zeros : (l : List ℕ) → same l (replicate (length l) 0) ≡ all (λ x. eqb x 0) l
-unfolding same all
-same-zeros [] = refl
-same-zeros (x ∷ l) = ap (λ (t : Bool). eqb x 0 && t) (same-zeros l)
-
-same-after : (l : List ℕ) → same l (names l ++ replicate (length l - length (names l)) 0) ≡ all (λ x. eqb x 0) (drop (length (names l)) l)
-unfolding same names all
-same-after [] = refl
-same-after (x ∷ l) =
-    by-test (eqb x 0)
-    (λ e. let d : suc (length l) - 0 ≡ suc (length l) = omega arith in rw (e, d) (same-zeros (x ∷ l)))
-    (λ e. let d : suc (length l) - suc (length (names l)) ≡ length l - length (names l) = omega arith in
-    rw (e, d, eq-eqb x x refl) (same-after l))
-
-pub same-rest : (l : List ℕ) → length l ≡ 32 → same l (padded 0 (names l)) ≡ all (λ x. eqb x 0) (drop (length (names l)) l)
-unfolding padded
-same-rest l h = ap (λ (n : ℕ). same l (names l ++ replicate (n - length (names l)) 0)) (sym h) ∙ same-after l
-
--- lists that are the same are equal
-pub same-is : (a b : List ℕ) → same a b ≡ true → a ≡ b
-unfolding same
-same-is [] [] e = refl
-same-is [] (y ∷ b) e = never e refl
-same-is (x ∷ a) [] e = never e refl
-same-is (x ∷ a) (y ∷ b) e =
-    by-test (eqb x y)
-    (λ z. let w : x ≡ y = eqb-true x y z in ap₂ (λ (u : ℕ) (v : List ℕ). u ∷ v) w (same-is a b (rw z at e)))
-    (λ z. never (rw z at e) refl)
-
-module _ (t : ℕ → Bool) (l : List ℕ) (k : ℕ) where
-  pub all-on : k < length l → all t (drop k l) ≡ (t (getD l k 0) && all t (drop (suc k) l))
-  unfolding all
-  all-on h = rw (drop-cons l k 0 h)
-
-  pub all-over : length l ≤ k → all t (drop k l) ≡ true
-  unfolding all
-  all-over h = rw (drop-of-length-le l h)
-
 -- ---- a list in 32 places, with one more
 
 pub padded-push : {A : Type 0} (z : A) (l : List A) (x : A) → length l < 32 → set (padded z l) (length l) x ≡ padded z (l ++ (x ∷ []))
@@ -90,39 +51,6 @@ padded-push z l x h =
 pub padded-length : {A : Type 0} (z : A) (l : List A) → length l ≤ 32 → length (padded z l) ≡ 32
 unfolding padded
 padded-length z l h = length-append l (replicate (32 - length l) z) ∙ ap (λ (n : ℕ). length l + n) (length-replicate (32 - length l) z) ∙ omega arith
-
--- ---- the names of a line are those that were put in it
-
-pub names-of : (k : List ℕ) (n : ℕ) → all (λ x. not (eqb x 0)) k ≡ true → names (k ++ replicate n 0) ≡ k
-unfolding names all
-names-of [] zero e = refl
-names-of [] (suc n) e = refl
-names-of (x ∷ k) n e =
-    by-test (eqb x 0)
-    (λ z. never (rw z at e) refl)
-    (λ z. rw z (ap (λ (y : List ℕ). x ∷ y) (names-of k n (rw z at e))))
-
-pub names-nonzero : (l : List ℕ) → all (λ x. not (eqb x 0)) (names l) ≡ true
-unfolding names all
-names-nonzero [] = refl
-names-nonzero (x ∷ l) = by-test (eqb x 0) (λ e. rw e) (λ e. rw e (rw e (names-nonzero l)))
-
-pub all-keep : (s t : ℕ → Bool) (l : List ℕ) → all t l ≡ true → all t (keep s l) ≡ true
-unfolding all keep
-all-keep s t [] e = refl
-all-keep s t (x ∷ l) e =
-    by-test (t x)
-    (λ z. by-test (s x) (λ y. rw (y, z) (all-keep s t l (rw z at e))) (λ y. rw y (all-keep s t l (rw z at e))))
-    (λ z. never (rw z at e) refl)
-
-pub names-padded : (k : List ℕ) → all (λ x. not (eqb x 0)) k ≡ true → names (padded 0 k) ≡ k
-unfolding padded
-names-padded k e = names-of k (32 - length k) e
-
-pub names-without : (p : ℕ) (l : List ℕ) → names (padded 0 (without p (names l))) ≡ without p (names l)
-unfolding without
-names-without p l = names-padded (keep (λ x. not (eqb x p)) (names l)) (all-keep (λ x. not (eqb x p))
-    (λ x. not (eqb x 0)) (names l) (names-nonzero l))
 
 -- ---- a line without a name
 
@@ -173,7 +101,7 @@ push-is l p e h = ap (λ (x : List ℕ). set x (length (names l)) p) e ∙ padde
 -- ---- names that are programs
 
 pub program-range : (p : ℕ) → isProgram p ≡ true → (1 ≤ p) × (p ≤ 32)
-program-range p e = (leb-true 1 p (and-left (leb 1 p) (leb p 32) e), leb-true p 32 (and-right (leb 1 p) (leb p 32) e))
+program-range p e = (least 32 p e, most 32 p e)
 
 -- the first name of what is left of a line is a program
 pub name-range : (l : List ℕ) (k : ℕ) → k < length l → getD l k 0 ≢ 0 → all isProgram (names (drop k l)) ≡ true → (1 ≤ getD l k 0) × (getD l k 0 ≤ 32)

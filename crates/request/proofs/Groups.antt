@@ -1,27 +1,26 @@
 -- Claims as sets and as rising lists of files, both ways, and the columns of such a list. Assumes nothing.
-use Prim.Native.Nat.{ℕ, zero, suc, _+_, _-_, _*_, _/_, _^_, _<_, _≤_}
+use Prim.Native.Nat.{ℕ, zero, suc, _+_, _-_, _*_, _^_, _<_, _≤_}
 use mathlib.Core.Path.{_≡_, refl, ap, sym, _∙_}
 use mathlib.Core.List.{List, [], _∷_, _++_, append-assoc}
-use mathlib.Core.Option.{none, some}
+use mathlib.Core.Option.{some}
 use mathlib.Core.Bool.{Bool, true, false, _&&_, _||_}
-use lib.Dec.{eqb, leb, ltb}
-use lib.ListN.{length, take, drop, length-append}
+use lib.Dec.{eqb, ltb}
+use lib.ListN.{length, take, drop}
 use lib.Seq.{take-at, drop-at, take-add}
-use lib.Pow.{pow-mono, pow-lt}
-use lib.Bits.{bitAnd, and-comm, or-lt}
+use lib.Pow.{pow-lt}
+use lib.Bits.{or-lt}
 use native.Mathlib.Omega.{arith}
-use native.Mathlib.Nat.{div-eq-of-lt}
-use borrow.Author.Tests.{lt-ltb, ltb-true, leb-true, leb-false, eq-eqb, ne-eqb, eqb-true, eqb-false}
-use Rattle.files.proofs.Tests.{by-test, by-option, never, or-true, and-false}
+use borrow.Author.Tests.{lt-ltb, ltb-true, eq-eqb, ne-eqb, eqb-true, eqb-false}
+use Rattle.laws.specs.Tests.{by-test, by-option, never, or-true, and-false}
 use Rattle.columns.specs.Columns.{columnsOf, flat, numberOf}
-use Rattle.columns.proofs.Laws.{number-is, number-columns}
+use Rattle.columns.proofs.Laws.{columns-length, field-cases, number-is, number-columns}
 use Rattle.files.specs.declared.FileSet.{FileSet}
 use Rattle.files.specs.Sets.{isFile, noFiles, member, adding, OfFiles}
-use Rattle.files.proofs.Bits.{is-number, far-number, least, most}
+use Rattle.files.proofs.Bits.{is-number, least, most}
 use Rattle.files.proofs.Laws.{none-member, adding-same, adding-other, set-same}
-use Rattle.rules.specs.Lists.{any, keep, rising, listed}
+use Rattle.laws.specs.Lists.{any, keep, rising, listed}
+use Rattle.laws.specs.Laws.{no-some, some-same, keep-same, length-keep, rising-mem, mem-rising, length-rising, mem-listed}
 use Rattle.request.specs.Requests.{filesIn, risesFrom, rises, addingAll, setOf, filesOf, filesColumns}
-use Rattle.request.proofs.Laws.{field-cases}
 
 -- ---- lists of files
 
@@ -68,13 +67,6 @@ not-listed n g (f ∷ fs) h k =
     rw (ne-eqb g f (λ d. absurd (omega arith))) (not-listed f g fs (rw e at h) (omega arith)))
     (λ e. never (rw e at h) refl)
 
--- tests that agree from k on keep the same
-keep-same : (t u : ℕ → Bool) (n k : ℕ) → ((g : ℕ) → k ≤ g → t g ≡ u g) → keep t (rising n k) ≡ keep u (rising n k)
-unfolding keep rising
-keep-same t u zero k h = refl
-keep-same t u (suc n) k h =
-    rw (h k (omega arith), keep-same t u n (suc k) (λ g m. h g (omega arith)))
-
 -- every file of the list is at most m
 abbrev UpTo : ℕ → List ℕ → Type 0
 UpTo m [] = Unit {0}
@@ -118,7 +110,8 @@ keep-listed (suc n) k m (f ∷ fs) e h u =
     (λ d. let same : suc k ≡ f = eqb-true (suc k) f d in
     rw (
       listed-head (suc k) f fs same,
-      keep-same (λ g. listed g (f ∷ fs)) (λ g. listed g fs) n (suc (suc k)) (λ g i. listed-tail g f fs (λ j. absurd (omega arith))),
+      keep-same (λ g. listed g (f ∷ fs)) (λ g. listed g fs) (rising n (suc (suc k)))
+          (λ g i. let r = rising-mem n (suc (suc k)) g i .0 in listed-tail g f fs (λ j. absurd (omega arith))),
       keep-listed n (suc k) m fs (omega arith) (ap (λ (x : ℕ). risesFrom x fs) same ∙ b .1) (u .1),
       same,
     ))
@@ -130,7 +123,7 @@ keep-listed (suc n) k m (f ∷ fs) e h u =
 -- the files of the set of a rising list are the list
 pub list-back : (fs : List ℕ) → Files fs → rises fs ≡ true → filesOf (setOf fs) ≡ fs
 unfolding filesOf
-list-back fs k h = keep-same (member (setOf fs)) (λ g. listed g fs) 64 1 (λ g i. members fs g k) ∙ keep-listed 64 0 64 fs refl h (up-to fs k)
+list-back fs k h = keep-same (member (setOf fs)) (λ g. listed g fs) (rising 64 1) (λ g i. members fs g k) ∙ keep-listed 64 0 64 fs refl h (up-to fs k)
 
 -- ---- a set, from its list
 
@@ -143,17 +136,6 @@ listed-keep t g (x ∷ l) =
     by-test (t x) (λ d. rw (d, same, eq-eqb x x refl, d))
     (λ d. rw (d, e) (listed-keep t g l ∙ rw (same, d) (and-false (any (eqb x) l)))))
     (λ e. by-test (t x) (λ d. rw (d, e) (listed-keep t g l)) (λ d. rw (d, e) (listed-keep t g l)))
-
-listed-rising : (n k g : ℕ) → k ≤ g → g < k + n → listed g (rising n k) ≡ true
-unfolding listed any rising
-listed-rising zero k g h i = absurd (omega arith)
-listed-rising (suc n) k g h i = by-test (eqb g k) (λ e. rw e) (λ e. let d = eqb-false g k e in
-    rw e (listed-rising n (suc k) g (omega arith) (omega arith)))
-
-listed-above : (n k g : ℕ) → k + n ≤ g → listed g (rising n k) ≡ false
-unfolding listed any rising
-listed-above zero k g h = refl
-listed-above (suc n) k g h = rw (ne-eqb g k (λ e. absurd (omega arith))) (listed-above n (suc k) g (omega arith))
 
 -- the files of a set are files, and rise
 keep-files : (t : ℕ → Bool) (n k : ℕ) → 1 ≤ k → k + n ≤ 65 → Files (keep t (rising n k))
@@ -178,21 +160,16 @@ unfolding filesOf
 files-rise s = keep-rises (member s) 64 1 0 (omega arith)
 
 -- at most 64 files
-keep-length : (t : ℕ → Bool) (n k : ℕ) → length (keep t (rising n k)) ≤ n
-unfolding keep rising
-keep-length t zero k = omega arith
-keep-length t (suc n) k = by-test (t k) (λ e. rw e (omega (arith, keep-length t n (suc k)))) (λ e. rw e (omega (arith, keep-length t n (suc k))))
-
 pub files-length : (s : FileSet) → length (filesOf s) ≤ 64
 unfolding filesOf
-files-length s = keep-length (member s) 64 1
+files-length s = omega (arith, length-keep (member s) (rising 64 1), length-rising 64 1)
 
 set-members : (s : FileSet) (g : ℕ) → member (setOf (filesOf s)) g ≡ member s g
 unfolding filesOf
 set-members s g =
     members (filesOf s) g (files-files s) ∙ listed-keep (member s) g (rising 64 1)
     ∙ by-test (isFile g)
-    (λ e. rw (listed-rising 64 1 g (least 64 g e) (let m = most 64 g e in omega arith)))
+    (λ e. rw (mem-listed g (rising 64 1) (mem-rising 64 1 g (least 64 g e) (let m = most 64 g e in omega arith))))
     (λ e. rw e (and-false (listed g (rising 64 1))))
 
 -- the set of the files of a set is the set
@@ -200,15 +177,6 @@ pub set-back : (s : FileSet) → OfFiles s → setOf (filesOf s) ≡ s
 set-back s h = set-same (setOf (filesOf s)) s (set-bits (filesOf s) (files-files s)) h (set-members s)
 
 -- ---- the columns of a list of files
-
-columns-length : (n : ℕ) → length (columnsOf n) ≡ 3
-unfolding columnsOf
-columns-length n = refl
-
-pub flat-length : (fs : List ℕ) → length (filesColumns fs) ≡ 3 * length fs
-unfolding flat
-flat-length [] = refl
-flat-length (f ∷ fs) = omega (arith, length-append (columnsOf f) (filesColumns fs), columns-length f, flat-length fs)
 
 -- the columns of files are read as these files
 pub columns-back : (fs t : List ℕ) → Files fs → filesIn (length fs) (filesColumns fs ++ t) ≡ some fs
@@ -230,15 +198,14 @@ pub record Read (n : ℕ) (l fs : List ℕ) : Type 0 where
 
 pub files-read : (n : ℕ) (l fs : List ℕ) → filesIn n l ≡ some fs → Read n l fs
 unfolding filesIn flat
-files-read zero l fs h = let e : fs ≡ [] = cc in rw e (record { count = refl; files = Prim.tt; columns = refl })
+files-read zero l fs h = let e : fs ≡ [] = sym (some-same h) in rw e (record { count = refl; files = Prim.tt; columns = refl })
 files-read (suc n) l fs h =
     field-cases (numberOf 1 64 (take 3 l))
-    (λ e. absurd (let k : none ≡ some fs = rw e at h in let z : _≡_ {A = ℕ} 0 1 = cc in omega arith))
+    (λ e. no-some (rw e at h))
     (λ f e. by-option (filesIn n (drop 3 l))
-    (λ d. absurd (let k : none ≡ some fs = rw (e, d) at h in let z : _≡_ {A = ℕ} 0 1 = cc in omega arith))
+    (λ d. no-some (rw (e, d) at h))
     (λ ks d.
-    let k : some (f ∷ ks) ≡ some fs = rw (e, d) at h in
-    let u : fs ≡ f ∷ ks = cc in
+    let u : fs ≡ f ∷ ks = sym (some-same (rw (e, d) at h)) in
     let i = files-read n (drop 3 l) ks d in
     let m = number-is 1 64 (take 3 l) f e in
     let three : 3 * suc n ≡ 3 + 3 * n = omega arith in

@@ -2,7 +2,7 @@
 use Prim.Native.Nat.{ℕ, zero, suc, _+_, _-_, _*_, _<_, _≤_}
 use mathlib.Core.Path.{_≡_, refl, ap, sym, _∙_}
 use mathlib.Core.List.{List, [], _∷_}
-use mathlib.Core.Option.{Option, none, some}
+use mathlib.Core.Option.{none, some}
 use mathlib.Core.Bool.{Bool, true, false, cond, _&&_}
 use lib.Dec.{eqb, ltb}
 use lib.ListN.{length, getD, take, drop, length-take, drop-of-length-le}
@@ -11,13 +11,15 @@ use native.Mathlib.Omega.{arith}
 use native.Mathlib.Numerals.{add-one}
 use native.Mathlib.Nat.{add-sub-cancel-left}
 use borrow.Author.Tests.{le-leb, lt-leb, le-ltb, lt-ltb, ltb-false, eq-eqb, ne-eqb}
-use Rattle.files.proofs.Tests.{by-test, by-option, never, and-true}
+use Rattle.laws.specs.Tests.{by-test, by-option, never, and-true}
 use Rattle.columns.specs.declared.Field.{Field}
 use Rattle.columns.specs.Columns.{numberOf}
-use Rattle.columns.proofs.Laws.{number-is}
-use Rattle.files.specs.Sets.{noFiles}
+use Rattle.columns.proofs.Laws.{field-cases, number-is}
+use Rattle.files.specs.declared.FileSet.{FileSet}
+use Rattle.files.specs.Sets.{noFiles, adding}
 use Rattle.rules.specs.declared.Refusal.{Refusal}
-use Rattle.rules.specs.Lists.{all, same}
+use Rattle.laws.specs.Lists.{all, same}
+use Rattle.laws.specs.Laws.{no-some, some-same}
 use Rattle.rules.specs.declared.Verb.{Verb}
 use Rattle.request.specs.declared.Reading.{Reading}
 use Rattle.request.specs.declared.Request.{Request}
@@ -94,6 +96,15 @@ label-ends l i h = rw (drop-of-length-le l h)
 
 -- ---- a group, field by field
 
+module _ (g : Group) (k : Field) (n : ℕ) (s : FileSet) (e : k ≡ Field.Number n) (d : s ≡ adding (g .files) n) where
+  -- a file above the last one
+  pub join-rises : g .last < n → record { good = g .good; rising = g .rising; last = n; files = s } ≡ joined g k
+  join-rises h = rw (e, d, lt-ltb (g .last) n h)
+
+  -- and one that isn't
+  pub join-falls : n ≤ g .last → record { good = g .good; rising = false; last = n; files = s } ≡ joined g k
+  join-falls h = rw (e, d, le-ltb (g .last) n h)
+
 pub group-more : (n i : ℕ) (l : List ℕ) (g : Group) (a : ℕ) → i < n
     → groupFrom (n - i) (drop a l) g ≡ groupFrom (n - (i + 1)) (drop (a + 3) l) (joined g (numberOf 1 64 (take 3 (drop a l))))
 unfolding groupFrom
@@ -108,10 +119,6 @@ pub group-ends : (n i : ℕ) (l : List ℕ) (g : Group) → n ≤ i → groupFro
 unfolding groupFrom
 group-ends n i l g h = let e : n - i ≡ 0 = omega arith in rw e
 
-pub field-cases : {P : Type 0} (f : Field) → (f ≡ Field.Bad → P) → ((n : ℕ) → f ≡ Field.Number n → P) → P
-field-cases Field.Bad b g = b refl
-field-cases (Field.Number n) b g = g n refl
-
 -- a group that is bad stays so
 stays-bad : (n : ℕ) (l : List ℕ) (g : Group) → g .good ≡ false → groupFrom n l g .good ≡ false
 unfolding groupFrom
@@ -124,13 +131,13 @@ stays-bad (suc n) l g h =
 -- without the numbers of all files the group is bad
 group-none : (n : ℕ) (l : List ℕ) (g : Group) → filesIn n l ≡ none → groupFrom n l g .good ≡ false
 unfolding groupFrom filesIn
-group-none zero l g h = absurd (let z : _≡_ {A = ℕ} 0 1 = cc in omega arith)
+group-none zero l g h = no-some (sym h)
 group-none (suc n) l g h =
     field-cases (numberOf 1 64 (take 3 l))
     (λ e. rw (e, groupFrom) (stays-bad n (drop 3 l) (joined g Field.Bad) refl))
     (λ f e. by-option (filesIn n (drop 3 l))
     (λ d. rw (e, groupFrom) (group-none n (drop 3 l) (joined g (Field.Number f)) d))
-    (λ fs d. absurd (let k : some (f ∷ fs) ≡ none = rw (e, d) at h in let z : _≡_ {A = ℕ} 0 1 = cc in omega arith)))
+    (λ fs d. no-some (sym (rw (e, d) at h))))
 
 swap-and : (a b c : Bool) → (b && (a && c)) ≡ ((a && b) && c)
 swap-and true true c = refl
@@ -147,16 +154,15 @@ record Comes (g h : Group) (fs : List ℕ) : Type 0 where
 group-some : (n : ℕ) (l : List ℕ) (g : Group) (fs : List ℕ) → filesIn n l ≡ some fs → Comes g (groupFrom n l g) fs
 unfolding groupFrom filesIn risesFrom addingAll
 group-some zero l g fs h =
-    let e : fs ≡ [] = cc in
+    let e : fs ≡ [] = sym (some-same h) in
     rw e (record { good = refl; rising = refl; files = refl })
 group-some (suc n) l g fs h =
     field-cases (numberOf 1 64 (take 3 l))
-    (λ e. absurd (let k : none ≡ some fs = rw e at h in let z : _≡_ {A = ℕ} 0 1 = cc in omega arith))
+    (λ e. no-some (rw e at h))
     (λ f e. by-option (filesIn n (drop 3 l))
-    (λ d. absurd (let k : none ≡ some fs = rw (e, d) at h in let z : _≡_ {A = ℕ} 0 1 = cc in omega arith))
+    (λ d. no-some (rw (e, d) at h))
     (λ ks d.
-    let k : some (f ∷ ks) ≡ some fs = rw (e, d) at h in
-    let u : fs ≡ f ∷ ks = cc in
+    let u : fs ≡ f ∷ ks = sym (some-same (rw (e, d) at h)) in
     let i = group-some n (drop 3 l) (joined g (Field.Number f)) ks d in
     rw (e, u) (record {
       good = i .good;
@@ -175,6 +181,23 @@ enterBy v q p =
     cond (v .good) (cond (q .good) (cond (v .rising) (cond (q .rising) (taken Verb.Enter p 0 (v .files) (q .files))
     (refused Refusal.NotRising)) (refused Refusal.NotRising)) (refused Refusal.BadNumber))
     (refused Refusal.BadNumber)
+
+module _ (v q : Group) (p : ℕ) where
+  pub v-bad : v .good ≡ false → enterBy v q p ≡ refused Refusal.BadNumber
+  v-bad e = rw e
+
+  pub q-bad : v .good ≡ true → q .good ≡ false → enterBy v q p ≡ refused Refusal.BadNumber
+  q-bad e d = rw (e, d)
+
+  pub v-falls : v .good ≡ true → q .good ≡ true → v .rising ≡ false → enterBy v q p ≡ refused Refusal.NotRising
+  v-falls e d h = rw (e, d, h)
+
+  pub q-falls : v .good ≡ true → q .good ≡ true → v .rising ≡ true → q .rising ≡ false → enterBy v q p ≡ refused Refusal.NotRising
+  q-falls e d h k = rw (e, d, h, k)
+
+  pub both-good : v .good ≡ true → q .good ≡ true → v .rising ≡ true → q .rising ≡ true
+      → enterBy v q p ≡ taken Verb.Enter p 0 (v .files) (q .files)
+  both-good e d h k = rw (e, d, h, k)
 
 pub enter-by : (l : List ℕ) (p w r : ℕ) → enterFiles l p w r ≡ enterBy (groupFrom w (drop 23 l) noGroup) (groupFrom r (drop (23 + 3 * w) l) noGroup) p
 unfolding enterFiles
@@ -272,9 +295,6 @@ alone-good v l p n e = rw (eq-eqb (length l) 9 n, e)
 -- a number in three columns is at most the range's end
 pub at-most : (low high : ℕ) (l : List ℕ) (n : ℕ) (f : Field) → f ≡ numberOf low high l → f ≡ Field.Number n → n ≤ high
 at-most low high l n f e d = number-is low high l n (sym e ∙ d) .1
-
-pub at-least : (low high : ℕ) (l : List ℕ) (n : ℕ) (f : Field) → f ≡ numberOf low high l → f ≡ Field.Number n → low ≤ n
-at-least low high l n f e d = number-is low high l n (sym e ∙ d) .0
 
 -- ---- the label's line
 

@@ -1,38 +1,36 @@
 -- A line is taken with a call exactly when it is the line that asks for this call, with some label. Assumes nothing.
 use Prim.Native.Nat.{ℕ, _+_, _*_, _≤_}
-use mathlib.Core.Path.{_≡_, refl, ap, ap₂, sym, _∙_}
-use mathlib.Core.List.{List, [], _∷_, _++_, append-nil}
+use mathlib.Core.Path.{_≡_, refl, ap, sym, _∙_}
+use mathlib.Core.List.{List, [], _++_, append-nil}
 use mathlib.Core.Option.{some}
-use mathlib.Core.Bool.{Bool, true, false, _&&_}
+use mathlib.Core.Bool.{true, false, _&&_}
 use lib.Dec.{eqb, ltb}
 use lib.ListN.{length, take, drop, replicate, length-append, length-take, length-drop, take-append-drop}
 use lib.Seq.{take-at, drop-at, drop-drop, take-all}
 use native.Mathlib.Omega.{arith}
 use borrow.Author.Tests.{eqb-true}
-use Rattle.files.proofs.Tests.{by-test, by-option, never}
+use Rattle.laws.specs.Tests.{by-test, by-option, never, and-left, and-right}
 use Rattle.columns.specs.declared.Field.{Field}
 use Rattle.columns.specs.Columns.{columnsOf, numberOf}
-use Rattle.columns.proofs.Laws.{number-is, number-columns}
+use Rattle.columns.proofs.Laws.{columns-length, field-cases, number-is, number-columns}
+use Rattle.columns.proofs.Rows.{flat-length}
 use Rattle.files.specs.declared.FileSet.{FileSet}
 use Rattle.files.specs.Sets.{noFiles}
 use Rattle.rules.specs.declared.Refusal.{Refusal}
-use Rattle.rules.specs.Lists.{all, same}
+use Rattle.laws.specs.Lists.{all, same}
+use Rattle.laws.specs.Laws.{same-eq}
 use Rattle.rules.specs.Calls.{Call, Enter, Open, Close, Drop, Leave, Cancel}
 use Rattle.rules.specs.declared.Verb.{Verb}
 use Rattle.request.specs.declared.Reading.{Reading}
 use Rattle.request.specs.declared.Request.{Request}
-use Rattle.request.specs.Requests.{refused, taken, requestCall, verbColumns, begins, numberAt, programAt, labelByte, labelPart}
+use Rattle.request.specs.Requests.{taken, requestCall, verbColumns, begins, numberAt, programAt, labelByte, labelPart}
 use Rattle.request.specs.Requests.{filesIn, rises, setOf, enterFiles, enterCounts, enterOf, fileOf, aloneOf, requestOf}
 use Rattle.request.specs.Requests.{isEntry, labelOf, filesOf, filesColumns, lineOf}
 use Rattle.request.specs.Law.{IsLabel, InRange, saying, TakenWith, AsksFor, LineLaw, SayingLaw, LabelLaw}
-use Rattle.request.proofs.Laws.{verb-length, field-cases, enter-good, counts-good, file-good, alone-good}
-use Rattle.request.proofs.Groups.{set-bits, files-files, files-rise, files-length, set-back, list-back, flat-length, columns-back, files-read}
+use Rattle.request.proofs.Laws.{verb-length, enter-good, counts-good, file-good, alone-good}
+use Rattle.request.proofs.Groups.{set-bits, files-files, files-rise, files-length, set-back, list-back, columns-back, files-read}
 
 -- ---- a line that asks for a call is read as this call
-
-columns-length : (n : ℕ) → length (columnsOf n) ≡ 3
-unfolding columnsOf
-columns-length n = refl
 
 -- what stands after n columns of a line begins with k columns
 past : (n k : ℕ) (l x y : List ℕ) → drop n l ≡ x ++ y → length x ≡ k → (take k (drop n l) ≡ x) × (drop (n + k) l ≡ y)
@@ -77,7 +75,9 @@ parts p v q label h =
     let b = past 9 8 l label _ (a .1) h in
     let c = past 17 3 l (columnsOf (length (filesOf v))) _ (b .1) (columns-length (length (filesOf v))) in
     let d = past 20 3 l (columnsOf (length (filesOf q))) _ (c .1) (columns-length (length (filesOf q))) in
-    let e = past 23 (3 * length (filesOf v)) l (filesColumns (filesOf v)) (filesColumns (filesOf q)) (d .1) (flat-length (filesOf v)) in
+    let nv = flat-length columnsOf 3 columns-length (filesOf v) in
+    let nq = flat-length columnsOf 3 columns-length (filesOf q) in
+    let e = past 23 (3 * length (filesOf v)) l (filesColumns (filesOf v)) (filesColumns (filesOf q)) (d .1) nv in
     let x = filesColumns (filesOf v) ++ filesColumns (filesOf q) in
     let y = columnsOf (length (filesOf q)) ++ x in
     let z = columnsOf (length (filesOf v)) ++ y in
@@ -91,8 +91,8 @@ parts p v q label h =
       columns-length p,
       columns-length (length (filesOf v)),
       columns-length (length (filesOf q)),
-      flat-length (filesOf v),
-      flat-length (filesOf q),
+      nv,
+      nq,
     ) in
     record { verb = refl; program = a .0; label = b .0; w = c .0; r = d .0; vs = d .1; qs = e .1; long = n }
 
@@ -139,16 +139,9 @@ label-read p v q label h k = rw (enter-read p v q label h k) (parts p v q label 
 not-taken : {P : Type 0} (r : Refusal) → Reading.Refused r ≡ Reading.Taken → P
 not-taken r h = absurd (let z : _≡_ {A = ℕ} 0 1 = cc in omega arith)
 
-same-true : (a b : List ℕ) → same a b ≡ true → a ≡ b
-unfolding same
-same-true [] [] h = refl
-same-true [] (y ∷ b) h = never h refl
-same-true (x ∷ a) [] h = never h refl
-same-true (x ∷ a) (y ∷ b) h = by-test (eqb x y) (λ e. ap₂ _∷_ (eqb-true x y e) (same-true a b (rw e at h))) (λ e. never (rw e at h) refl)
-
 verb-is : (v : Verb) (l : List ℕ) → begins v l ≡ true → take 6 l ≡ verbColumns v
 unfolding begins
-verb-is v l h = same-true (take 6 l) (verbColumns v) h
+verb-is v l h = same-eq (take 6 l) (verbColumns v) h
 
 -- a part of a line, and what stands after it
 cut : (n k : ℕ) (l x : List ℕ) → take k (drop n l) ≡ x → drop n l ≡ x ++ drop (n + k) l
@@ -254,9 +247,6 @@ record Entry (l : List ℕ) : Type 0 where
   qs-rise : rises qs ≡ true
   says : enterOf l ≡ taken Verb.Enter p 0 (setOf vs) (setOf qs)
 
-and-both : (a b : Bool) → (a && b) ≡ true → (a ≡ true) × (b ≡ true)
-and-both a b h = by-test a (λ e. (e, rw e at h)) (λ e. never (rw e at h) refl)
-
 entry : (l : List ℕ) → enterOf l .reading ≡ Reading.Taken → Entry l
 unfolding enterOf enterCounts enterFiles programAt numberAt labelPart
 entry l h =
@@ -282,8 +272,8 @@ entry l h =
       long = eqb-true (length l) (23 + 3 * (w + r)) k;
       at-vs = m;
       at-qs = n;
-      vs-rise = and-both (rises vs) (rises qs) o .0;
-      qs-rise = and-both (rises vs) (rises qs) o .1;
+      vs-rise = and-left (rises vs) (rises qs) o;
+      qs-rise = and-right (rises vs) (rises qs) o;
       says = rw (e, f, g, i, j, k, m, n, o);
     })
     (λ o. not-taken Refusal.NotRising (rw (e, f, g, i, j, k, m, n, o) at h)))))
@@ -346,14 +336,6 @@ read-line l h =
 
 -- ---- both ways in one
 
-pub taken-back : (c : Call) → saying c .reading ≡ Reading.Taken
-taken-back (Enter p v q) = refl
-taken-back (Open p f) = refl
-taken-back (Close p f) = refl
-taken-back (Drop p f) = refl
-taken-back (Leave p) = refl
-taken-back (Cancel p) = refl
-
 -- the label matters to ENTER only
 pub some-label : (c : Call) (l : List ℕ) → (isEntry (saying c) ≡ true → IsLabel l) → (label : List ℕ) × IsLabel label × (lineOf c l ≡ lineOf c label)
 unfolding all lineOf
@@ -374,7 +356,7 @@ asks-of-taken l c h =
 taken-of-asks : (l : List ℕ) (c : Call) → AsksFor l c → TakenWith l c
 taken-of-asks l c h =
     let e = ap requestOf (h .1 .2) ∙ line-read c (h .1 .0) (h .0) (h .1 .1) in
-    (ap (λ (q : Request). q .reading) e ∙ taken-back c, ap requestCall e ∙ call-back c)
+    (ap (λ (q : Request). q .reading) e, ap requestCall e ∙ call-back c)
 
 pub line-law : LineLaw
 line-law l c = (asks-of-taken l c, taken-of-asks l c)

@@ -8,12 +8,13 @@ use mathlib.Core.List.{List}
 use lib.ListN.{length}
 use Rattle.files.specs.declared.FileSet.{FileSet}
 use Rattle.files.specs.Sets.{noFiles, OfFiles}
-use Rattle.rules.specs.Lists.{all}
+use Rattle.laws.specs.Lists.{all}
 use Rattle.rules.specs.Calls.{Call, Enter, Open, Close, Drop, Leave, Cancel}
+use Rattle.rules.specs.declared.Asked.{Asked}
 use Rattle.rules.specs.declared.Verb.{Verb}
 use Rattle.request.specs.declared.Reading.{Reading}
 use Rattle.request.specs.declared.Request.{Request}
-use Rattle.request.specs.Requests.{taken, requestCall, labelByte, requestOf, labelOf, lineOf}
+use Rattle.request.specs.Requests.{asking, requestCall, labelByte, requestOf, labelOf, lineOf}
 
 -- a label: eight bytes from 32 to 126
 abbrev pub IsLabel : List ℕ → Type 0
@@ -28,14 +29,18 @@ InRange (Drop p f) = (1 ≤ p) × (p ≤ 32) × (1 ≤ f) × (f ≤ 64)
 InRange (Leave p) = (1 ≤ p) × (p ≤ 32)
 InRange (Cancel p) = (1 ≤ p) × (p ≤ 32)
 
+-- how a line asks for a call: all that does not apply is 0 or empty
+abbrev pub askedBy : Call → Asked
+askedBy (Enter p v q) = asking Verb.Enter p 0 v q
+askedBy (Open p f) = asking Verb.Open p f noFiles noFiles
+askedBy (Close p f) = asking Verb.Close p f noFiles noFiles
+askedBy (Drop p f) = asking Verb.Drop p f noFiles noFiles
+askedBy (Leave p) = asking Verb.Leave p 0 noFiles noFiles
+askedBy (Cancel p) = asking Verb.Cancel p 0 noFiles noFiles
+
 -- what a line that asks for a call says
 abbrev pub saying : Call → Request
-saying (Enter p v q) = taken Verb.Enter p 0 v q
-saying (Open p f) = taken Verb.Open p f noFiles noFiles
-saying (Close p f) = taken Verb.Close p f noFiles noFiles
-saying (Drop p f) = taken Verb.Drop p f noFiles noFiles
-saying (Leave p) = taken Verb.Leave p 0 noFiles noFiles
-saying (Cancel p) = taken Verb.Cancel p 0 noFiles noFiles
+saying c = record { reading = Reading.Taken; asked = askedBy c }
 
 -- the line is taken, and c is the call it asks for
 abbrev pub TakenWith : List ℕ → Call → Type 0
@@ -49,7 +54,7 @@ AsksFor l c = InRange c × ((label : List ℕ) × IsLabel label × (l ≡ lineOf
 abbrev pub LineLaw : Type 0
 LineLaw = (l : List ℕ) (c : Call) → TakenWith l c ↔ AsksFor l c
 
--- the line that asks for c says c and nothing else: all that does not apply is 0 or empty
+-- the line that asks for c says c and nothing else
 abbrev pub SayingLaw : Type 0
 SayingLaw = (c : Call) (label : List ℕ) → InRange c → IsLabel label → requestOf (lineOf c label) ≡ saying c
 

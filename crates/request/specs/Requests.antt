@@ -1,7 +1,7 @@
 -- Request lines: what a line says, and the line that says a call.
 -- Assumes nothing.
 use Prim.Native.Nat.{ℕ, zero, suc, _+_, _*_}
-use mathlib.Core.Bool.{Bool, true, false, not, cond, _&&_}
+use mathlib.Core.Bool.{Bool, true, false, cond, _&&_}
 use mathlib.Core.List.{List, [], _∷_, _++_}
 use mathlib.Core.Option.{Option, none, some}
 use lib.Dec.{eqb, leb, ltb}
@@ -10,35 +10,33 @@ use Rattle.columns.specs.declared.Field.{Field}
 use Rattle.columns.specs.Columns.{columnsOf, flat, numberOf, onNumber}
 use Rattle.files.specs.declared.FileSet.{FileSet}
 use Rattle.files.specs.Sets.{noFiles, member, adding}
+use Rattle.rules.specs.declared.Asked.{Asked}
 use Rattle.rules.specs.declared.Refusal.{Refusal}
-use Rattle.rules.specs.Lists.{all, keep, withFound, rising, same}
-use Rattle.rules.specs.Calls.{Call, Enter, Open, Close, Drop, Leave, Cancel, callWith}
+use Rattle.laws.specs.Lists.{all, keep, withFound, rising, same}
+use Rattle.rules.specs.Calls.{Call, Enter, Open, Close, Drop, Leave, Cancel, callOf}
 use Rattle.rules.specs.declared.Verb.{Verb}
 use Rattle.request.specs.declared.Reading.{Reading}
 use Rattle.request.specs.declared.Request.{Request}
+use Rattle.request.specs.declared.Beginning.{Beginning}
+use Rattle.request.specs.declared.Shape.{Shape}
 
 -- ---- what reading a line gives
 
+-- the call with this verb, program and file, and the claims V and Q
+abbrev pub asking : Verb → ℕ → ℕ → FileSet → FileSet → Asked
+asking v p f w r = record { verb = v; program = p; file = f; writable = w; readable = r }
+
 -- a refused line: no numbers and no claims
 abbrev pub refused : Refusal → Request
-refused r =
-    record {
-      reading = Reading.Refused r;
-      verb = Verb.Enter;
-      program = 0;
-      file = 0;
-      writable = noFiles;
-      readable = noFiles;
-    }
+refused r = record { reading = Reading.Refused r; asked = asking Verb.Enter 0 0 noFiles noFiles }
 
 -- a line that is taken: its verb, program and file, and its claims V and Q
 abbrev pub taken : Verb → ℕ → ℕ → FileSet → FileSet → Request
-taken v p f w r =
-    record { reading = Reading.Taken; verb = v; program = p; file = f; writable = w; readable = r }
+taken v p f w r = record { reading = Reading.Taken; asked = asking v p f w r }
 
 -- the direct call that a line asks for
 abbrev pub requestCall : Request → Call
-requestCall q = callWith (q .verb) (q .program) (q .file) (q .writable) (q .readable)
+requestCall q = callOf (q .asked)
 
 -- ---- columns
 
@@ -135,15 +133,38 @@ aloneOf v l =
     (onNumber (programAt l) (refused Refusal.BadNumber) (λ p. taken v p 0 noFiles noFiles))
     (refused Refusal.BadLength)
 
+-- the verb that a line begins with
+abbrev pub verbOf : List ℕ → Beginning
+verbOf l =
+    cond (begins Verb.Enter l) (Beginning.With Verb.Enter)
+    (cond (begins Verb.Open l) (Beginning.With Verb.Open)
+    (cond (begins Verb.Close l) (Beginning.With Verb.Close)
+    (cond (begins Verb.Drop l) (Beginning.With Verb.Drop)
+    (cond (begins Verb.Leave l) (Beginning.With Verb.Leave)
+    (cond (begins Verb.Cancel l) (Beginning.With Verb.Cancel) Beginning.Unknown)))))
+
+-- how a line with the verb goes on
+abbrev pub shapeOf : Verb → Shape
+shapeOf Verb.Enter = Shape.Entry
+shapeOf Verb.Open = Shape.File
+shapeOf Verb.Close = Shape.File
+shapeOf Verb.Drop = Shape.File
+shapeOf Verb.Leave = Shape.Alone
+shapeOf Verb.Cancel = Shape.Alone
+
+-- what a line of this shape says
+abbrev pub readAs : Shape → Verb → List ℕ → Request
+readAs Shape.Entry v l = enterOf l
+readAs Shape.File v l = fileOf v l
+readAs Shape.Alone v l = aloneOf v l
+
+abbrev pub readBy : Beginning → List ℕ → Request
+readBy (Beginning.With v) l = readAs (shapeOf v) v l
+readBy Beginning.Unknown l = refused Refusal.NoVerb
+
 -- what a line says, or the first of refusals 3 to 7 that applies
 unfoldable pub requestOf : List ℕ → Request
-requestOf l =
-    cond (begins Verb.Enter l) (enterOf l)
-    (cond (begins Verb.Open l) (fileOf Verb.Open l)
-    (cond (begins Verb.Close l) (fileOf Verb.Close l)
-    (cond (begins Verb.Drop l) (fileOf Verb.Drop l)
-    (cond (begins Verb.Leave l) (aloneOf Verb.Leave l)
-    (cond (begins Verb.Cancel l) (aloneOf Verb.Cancel l) (refused Refusal.NoVerb))))))
+requestOf l = readBy (verbOf l) l
 
 -- the line is taken, and its verb is ENTER
 abbrev pub isEntryBy : Reading → Verb → Bool
@@ -156,7 +177,7 @@ isEntryBy Reading.Taken Verb.Leave = false
 isEntryBy Reading.Taken Verb.Cancel = false
 
 abbrev pub isEntry : Request → Bool
-isEntry q = isEntryBy (q .reading) (q .verb)
+isEntry q = isEntryBy (q .reading) (q .asked .verb)
 
 -- "the label as a part of the caller's line"; "for another verb or a refused line that part is empty"
 unfoldable pub labelOf : List ℕ → List ℕ

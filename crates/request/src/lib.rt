@@ -1,16 +1,17 @@
 // Request lines: what a line says, and its label.
 use columns::Field;
 use files::FileSet;
+use rules::Asked;
 use rules::Refusal;
 use rules::Verb;
 ghost use mathlib.Core.Path.{_≡_};
 ghost use Prim.Native.Nat.{_+_, _*_, _≤_};
 ghost use lib.ListN.{length, drop};
 ghost use Rattle.columns.specs.Columns.{numberOf};
-ghost use Rattle.rules.specs.Lists.{all};
+ghost use Rattle.laws.specs.Lists.{all};
 ghost use Rattle.request.specs.Groups.{noGroup, joined, groupFrom};
 ghost use Rattle.request.specs.Requests.{refused, taken, verbColumns, begins, labelByte, enterFiles, enterCounts, enterOf, fileOf};
-ghost use Rattle.request.specs.Requests.{aloneOf, requestOf, isEntry, labelOf};
+ghost use Rattle.request.specs.Requests.{aloneOf, verbOf, shapeOf, readAs, requestOf, isEntry, labelOf};
 
 // Whether a line is taken.
 pub enum Reading {
@@ -18,14 +19,23 @@ pub enum Reading {
     Refused(Refusal),
 }
 
-// What a line says. The claims stand beside the verb; what does not apply is 0 or empty.
+// With which verb a line begins.
+pub enum Beginning {
+    With(Verb),
+    Unknown,
+}
+
+// How a line goes on after its verb: as ENTER, with program and file, or with the program alone.
+pub enum Shape {
+    Entry,
+    File,
+    Alone,
+}
+
+// What a line says: whether it is taken, and the call that it asks for. What does not apply is 0 or empty.
 pub struct Request {
     pub reading: Reading,
-    pub verb: Verb,
-    pub program: u8,
-    pub file: u8,
-    pub writable: FileSet,
-    pub readable: FileSet,
+    pub asked: Asked,
 }
 
 // The files of a group as far as they are read: whether all numbers were files, and rising, the last one, and the set.
@@ -40,13 +50,16 @@ pub struct Group {
 fn refusing(r: Refusal) -> Request
     ensures { λ q. ⌜ q ≡ refused r ⌝ }
 {
-    Request {
-        reading: Reading::Refused(r),
+    let asked = Asked {
         verb: Verb::Enter,
         program: 0,
         file: 0,
         writable: FileSet::EMPTY,
         readable: FileSet::EMPTY,
+    };
+    Request {
+        reading: Reading::Refused(r),
+        asked,
     }
 }
 
@@ -153,7 +166,7 @@ fn read_group(line: &[u8], start: usize, count: usize) -> Group
 }
 
 // ENTER, after columns 7 to 23 and the length.
-fn read_files(line: &[u8], program: u8, w: usize, r: usize) -> Request
+fn read_files(line: &[u8], program: u64, w: usize, r: usize) -> Request
     requires { ⌜ length (now line) ≡ 23 + 3 * (w + r) ⌝ }
     ensures { λ q. ⌜ q ≡ enterFiles (now (line .entry)) program w r ⌝ }
 {
@@ -173,18 +186,21 @@ fn read_files(line: &[u8], program: u8, w: usize, r: usize) -> Request
     }
     let writable = v.files;
     let readable = q.files;
-    Request {
-        reading: Reading::Taken,
+    let asked = Asked {
         verb: Verb::Enter,
         program,
         file: 0,
         writable,
         readable,
+    };
+    Request {
+        reading: Reading::Taken,
+        asked,
     }
 }
 
 // ENTER, after the label: the counts, then the length.
-fn read_counts(line: &[u8], program: u8) -> Request
+fn read_counts(line: &[u8], program: u64) -> Request
     requires { ⌜ 23 ≤ length (now line) ⌝ }
     ensures { λ q. ⌜ q ≡ enterCounts (now (line .entry)) program ⌝ }
 {
@@ -217,7 +233,7 @@ fn read_enter(line: &[u8]) -> Request
     if !is_label(&line[9..17]) {
         return refusing(Refusal::BadLabel);
     }
-    read_counts(line, p as u8)
+    read_counts(line, p)
 }
 
 // OPEN, CLOSE and DROP: program and file.
@@ -235,13 +251,16 @@ fn read_file(line: &[u8], verb: Verb) -> Request
     let Field::Number(f) = second else {
         return refusing(Refusal::BadNumber);
     };
-    Request {
-        reading: Reading::Taken,
+    let asked = Asked {
         verb,
-        program: p as u8,
-        file: f as u8,
+        program: p,
+        file: f,
         writable: FileSet::EMPTY,
         readable: FileSet::EMPTY,
+    };
+    Request {
+        reading: Reading::Taken,
+        asked,
     }
 }
 
@@ -256,13 +275,67 @@ fn read_alone(line: &[u8], verb: Verb) -> Request
     let Field::Number(p) = field else {
         return refusing(Refusal::BadNumber);
     };
-    Request {
-        reading: Reading::Taken,
+    let asked = Asked {
         verb,
-        program: p as u8,
+        program: p,
         file: 0,
         writable: FileSet::EMPTY,
         readable: FileSet::EMPTY,
+    };
+    Request {
+        reading: Reading::Taken,
+        asked,
+    }
+}
+
+// The verb that a line begins with, if any.
+fn verb_of(line: &[u8]) -> Beginning
+    ensures { λ r. ⌜ r ≡ verbOf (now (line .entry)) ⌝ }
+{
+    if is_verb(line, Verb::Enter) {
+        return Beginning::With(Verb::Enter);
+    }
+    if is_verb(line, Verb::Open) {
+        return Beginning::With(Verb::Open);
+    }
+    if is_verb(line, Verb::Close) {
+        return Beginning::With(Verb::Close);
+    }
+    if is_verb(line, Verb::Drop) {
+        return Beginning::With(Verb::Drop);
+    }
+    if is_verb(line, Verb::Leave) {
+        return Beginning::With(Verb::Leave);
+    }
+    if is_verb(line, Verb::Cancel) {
+        return Beginning::With(Verb::Cancel);
+    }
+    Beginning::Unknown
+}
+
+// How a line with the verb goes on.
+fn shape_of(verb: Verb) -> Shape
+    ensures { λ r. ⌜ r ≡ shapeOf verb ⌝ }
+{
+    match verb {
+        Verb::Enter => Shape::Entry,
+        Verb::Open => Shape::File,
+        Verb::Close => Shape::File,
+        Verb::Drop => Shape::File,
+        Verb::Leave => Shape::Alone,
+        Verb::Cancel => Shape::Alone,
+    }
+}
+
+// What a line says that begins with the verb.
+fn read_as(line: &[u8], verb: Verb) -> Request
+    ensures { λ q. ⌜ q ≡ readAs (shapeOf verb) verb (now (line .entry)) ⌝ }
+{
+    let shape = shape_of(verb);
+    match shape {
+        Shape::Entry => read_enter(line),
+        Shape::File => read_file(line, verb),
+        Shape::Alone => read_alone(line, verb),
     }
 }
 
@@ -270,25 +343,11 @@ fn read_alone(line: &[u8], verb: Verb) -> Request
 pub fn read(line: &[u8]) -> Request
     ensures { λ q. ⌜ q ≡ requestOf (now (line .entry)) ⌝ }
 {
-    if is_verb(line, Verb::Enter) {
-        return read_enter(line);
+    let beginning = verb_of(line);
+    match beginning {
+        Beginning::With(verb) => read_as(line, verb),
+        Beginning::Unknown => refusing(Refusal::NoVerb),
     }
-    if is_verb(line, Verb::Open) {
-        return read_file(line, Verb::Open);
-    }
-    if is_verb(line, Verb::Close) {
-        return read_file(line, Verb::Close);
-    }
-    if is_verb(line, Verb::Drop) {
-        return read_file(line, Verb::Drop);
-    }
-    if is_verb(line, Verb::Leave) {
-        return read_alone(line, Verb::Leave);
-    }
-    if is_verb(line, Verb::Cancel) {
-        return read_alone(line, Verb::Cancel);
-    }
-    refusing(Refusal::NoVerb)
 }
 
 // Whether a line is taken and its verb is ENTER.
@@ -299,7 +358,8 @@ fn is_entry(q: Request) -> bool
     let Reading::Taken = reading else {
         return false;
     };
-    let verb = q.verb;
+    let asked = q.asked;
+    let verb = asked.verb;
     match verb {
         Verb::Enter => true,
         Verb::Open => false,

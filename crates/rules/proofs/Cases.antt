@@ -14,10 +14,12 @@ use Rattle.rules.specs.declared.Answer.{Answer}
 use Rattle.rules.specs.declared.Word.{Word}
 use Rattle.rules.specs.declared.Line.{Line}
 use Rattle.rules.specs.declared.Reply.{Reply}
-use Rattle.rules.specs.Lists.{any, all, keep, first, padded, rising, listed, distinct, without, same, names}
+use Rattle.laws.specs.Lists.{any, all, keep, first, padded, rising, listed, distinct, without, same, names}
+use Rattle.rules.specs.Modes.{touching}
 use Rattle.rules.specs.Boards.{emptyBoard, everyone, admitted, tallied, opening, closing, dropping}
 use Rattle.rules.specs.Orders.{heldBack, carriedFrom, carried, withGiven, inUse, safe, canGive}
-use Rattle.rules.specs.Soundness.{setsSound, standingSound, programSound, noConflict, lineSound, waiterSound, noneFavoured, someFavoured, countSound, sound}
+use Rattle.rules.specs.Soundness.{setsSound, standingSound, programSound, noConflict, lineSound, waiterSound, noneFavoured}
+use Rattle.rules.specs.Soundness.{someFavoured, countSound, sound}
 use Rattle.rules.specs.Settling.{line, unfavour, resume, tryGive, pass, candidate, favour, overdue, admitHeld, runHeld, choose, settle}
 use Rattle.rules.specs.Replies.{reply, refuse, wordOf, linesOf, orderOf}
 use Rattle.rules.specs.Checks.{enterCheck, openCheck, closeCheck, leaveCheck, cancelCheck}
@@ -51,7 +53,7 @@ toldBy f b o (c ∷ cs) =
 -- by the rules, from the empty board
 pub outcome : List Call → Case
 unfolding any all keep first padded rising listed distinct without same names
-    everyone admitted tallied opening closing dropping
+    everyone admitted tallied touching opening closing dropping
     heldBack carriedFrom carried withGiven inUse safe canGive
     unfavour resume tryGive pass candidate favour overdue admitHeld runHeld choose settle
     reply refuse enterCheck openCheck closeCheck leaveCheck cancelCheck
@@ -693,7 +695,7 @@ computed = refl
 -- and the board after (ee) is sound: it has no count of one who is absent
 ee-sound : sound (worked (calls ee)) ≡ true
 unfolding any all keep first padded rising listed distinct without same names
-    everyone admitted tallied opening closing dropping
+    everyone admitted tallied touching opening closing dropping
     heldBack carriedFrom carried withGiven inUse safe canGive
     setsSound standingSound programSound noConflict lineSound waiterSound noneFavoured someFavoured countSound sound
     unfavour resume tryGive pass candidate favour overdue admitHeld runHeld choose settle

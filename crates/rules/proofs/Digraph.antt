@@ -8,7 +8,8 @@ use lib.ListN.{replicate}
 use Rattle.rules.specs.declared.Standing.{Standing}
 use Rattle.rules.specs.declared.Program.{Program}
 use Rattle.rules.specs.declared.Board.{Board}
-use Rattle.rules.specs.Lists.{any, all, keep, first, rising, listed, distinct}
+use Rattle.laws.specs.Lists.{any, all, keep, first, rising, listed, distinct}
+use Rattle.rules.specs.Modes.{touching}
 use Rattle.rules.specs.Boards.{noProgram, emptyBoard, everyone, admitted, opening}
 use Rattle.rules.specs.Orders.{withGiven}
 use Rattle.rules.specs.Digraph.{step, paths, reaches, leadsTo, closes, isLoop, isLoopWith}
@@ -85,7 +86,7 @@ rows =
 
 -- whom each of programs 1 to 4 reaches
 reachedOn : Board → List (List ℕ)
-unfolding any all keep first rising listed everyone admitted step paths reaches
+unfolding any all keep first rising listed everyone admitted touching step paths reaches
 reachedOn b = map (λ i. keep (reaches b i) (1 ∷ 2 ∷ 3 ∷ 4 ∷ [])) (1 ∷ 2 ∷ 3 ∷ 4 ∷ [])
 
 matrix-computed : map (λ (r : Row). reachedOn (r .board)) rows ≡ map (λ (r : Row). r .reached) rows
@@ -166,7 +167,7 @@ checks =
 
 -- the checker's answers to the lists of a row
 answers : Checked → List Bool
-unfolding any all keep listed distinct everyone admitted opening withGiven step leadsTo closes isLoop isLoopWith
+unfolding any all keep listed distinct everyone admitted touching opening withGiven step leadsTo closes isLoop isLoopWith
 answers c = map (isLoopWith (c .board) (c .program) (c .file)) (c .loops ++ c .others)
 
 expected : Checked → List Bool

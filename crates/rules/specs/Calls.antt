@@ -5,7 +5,6 @@ use mathlib.Core.Bool.{cond}
 use mathlib.Core.List.{[], _∷_, _++_}
 use lib.Dec.{eqb}
 use Rattle.files.specs.declared.FileSet.{FileSet}
-use Rattle.files.specs.Sets.{noFiles}
 use Rattle.rules.specs.declared.Standing.{Standing}
 use Rattle.rules.specs.declared.Program.{Program}
 use Rattle.rules.specs.declared.Board.{Board}
@@ -15,9 +14,10 @@ use Rattle.rules.specs.declared.Check.{Check}
 use Rattle.rules.specs.declared.Answer.{Answer}
 use Rattle.rules.specs.declared.Word.{Word}
 use Rattle.rules.specs.declared.Reply.{Reply}
-use Rattle.rules.specs.Lists.{withFound, names, without}
+use Rattle.laws.specs.Lists.{withFound, names, without}
+use Rattle.rules.specs.Modes.{byMode}
 use Rattle.rules.specs.Boards.{noProgram, at, setProgram, setWaiting, setEntry, setFavour, setStanding, uncount, tally, closing}
-use Rattle.rules.specs.Boards.{dropping}
+use Rattle.rules.specs.Boards.{dropping, setClaims}
 use Rattle.rules.specs.Orders.{withGiven, inUse, safe}
 use Rattle.rules.specs.Soundness.{sound}
 use Rattle.rules.specs.Settling.{line, overdue, favour, settle}
@@ -28,7 +28,7 @@ use Rattle.rules.specs.Checks.{enterCheck, openCheck, closeCheck, leaveC
 
 -- a program that enters, with nothing open
 abbrev pub newcomer : FileSet → FileSet → Standing → Program
-newcomer v q s = record { writable = v; readable = q; writing = noFiles; reading = noFiles; standing = s }
+newcomer v q s = setStanding (setClaims noProgram (byMode v q)) s
 
 -- p runs, and the count of each waiting program goes up by 1
 unfoldable pub admit : Board → ℕ → FileSet → FileSet → Board

@@ -3,11 +3,12 @@
 use Prim.Native.Nat.{ℕ}
 use mathlib.Core.Bool.{Bool, true, false, not, _&&_}
 use Rattle.files.specs.declared.FileSet.{FileSet}
-use Rattle.files.specs.Sets.{isFile, meets}
+use Rattle.files.specs.Sets.{isFile}
 use Rattle.rules.specs.declared.Standing.{Standing}
 use Rattle.rules.specs.declared.Board.{Board}
 use Rattle.rules.specs.declared.Refusal.{Refusal}
 use Rattle.rules.specs.declared.Check.{Check}
+use Rattle.rules.specs.Modes.{claimsMeet}
 use Rattle.rules.specs.Boards.{isProgram, at, claims, hasOpen, isAbsent}
 
 -- refused where the test passes; otherwise the next check
@@ -27,7 +28,7 @@ unfoldable pub enterCheck : Board → ℕ → FileSet → FileSet → Check
 enterCheck b p v q =
     refuseIf (not (isProgram p)) Refusal.OutOfRange
     (refuseIf (not (isAbsent (at b p .standing))) Refusal.NotAbsent
-    (refuseIf (meets v q) Refusal.ClaimsMeet Check.Passed))
+    (refuseIf (claimsMeet v q) Refusal.ClaimsMeet Check.Passed))
 
 -- 8, 11 to 13, 14, 15; for open and for drop
 unfoldable pub openCheck : Board → ℕ → ℕ → Check

@@ -7,7 +7,7 @@ use lib.Dec.{eqb, leb}
 use lib.ListN.{length}
 use Rattle.rules.specs.declared.Board.{Board}
 use Rattle.rules.specs.declared.Answer.{Answer}
-use Rattle.rules.specs.Lists.{distinct}
+use Rattle.laws.specs.Lists.{distinct}
 use Rattle.rules.specs.Boards.{isProgram, isAdmitted, at, admitted, claims}
 use Rattle.rules.specs.Orders.{holdsBack, withGiven}
 use Rattle.rules.specs.Calls.{Call, Enter, Open, Close, Drop, Leave, Cancel}

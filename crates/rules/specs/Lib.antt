@@ -1,5 +1,5 @@
 -- The rules of the lock board, as definitions that compute.
-pub mod Lists
+pub mod Modes
 pub mod Boards
 pub mod Orders
 pub mod Soundness

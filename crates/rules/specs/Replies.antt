@@ -11,7 +11,7 @@ use Rattle.rules.specs.declared.Answer.{Answer}
 use Rattle.rules.specs.declared.Word.{Word}
 use Rattle.rules.specs.declared.Line.{Line}
 use Rattle.rules.specs.declared.Reply.{Reply}
-use Rattle.rules.specs.Lists.{padded}
+use Rattle.laws.specs.Lists.{padded}
 use Rattle.rules.specs.Orders.{carried}
 use Rattle.rules.specs.Settling.{line}
 

@@ -8,8 +8,9 @@ use lib.ListN.{length}
 use Rattle.rules.specs.declared.Standing.{Standing}
 use Rattle.rules.specs.declared.Program.{Program}
 use Rattle.rules.specs.declared.Board.{Board}
-use Rattle.rules.specs.Lists.{any, all, found, listed, distinct, same, names, padded}
-use Rattle.files.specs.Sets.{meets, within, isEmpty}
+use Rattle.laws.specs.Lists.{any, all, found, listed, distinct, same, names, padded}
+use Rattle.files.specs.Sets.{within, isEmpty}
+use Rattle.rules.specs.Modes.{eachMode, claimOf, openOf, claimsMeet}
 use Rattle.rules.specs.Boards.{isProgram, everyone, at, awaited, passedBy, admitted, isWaiting, isHeld, claims, hasOpen}
 use Rattle.rules.specs.Orders.{conflict, carried, canGive}
 
@@ -17,18 +18,14 @@ use Rattle.rules.specs.Orders.{conflict, carried, canGive}
 
 -- W is within V, R within Q, V and Q share nothing
 unfoldable pub setsSound : Program → Bool
-setsSound q =
-    within (q .writing) (q .writable)
-    && within (q .reading) (q .readable)
-    && not (meets (q .writable) (q .readable))
+setsSound q = eachMode (λ m. within (openOf m q) (claimOf m q)) && not (claimsMeet (q .writable) (q .readable))
 
 -- absent programs have empty sets, held ones nothing open
 unfoldable pub standingSound : Standing → Program → Bool
-standingSound Standing.Absent q =
-    isEmpty (q .writable) && isEmpty (q .readable) && isEmpty (q .writing) && isEmpty (q .reading)
+standingSound Standing.Absent q = eachMode (λ m. isEmpty (claimOf m q)) && eachMode (λ m. isEmpty (openOf m q))
 standingSound Standing.Running q = true
 standingSound (Standing.Waiting f) q = true
-standingSound Standing.Held q = isEmpty (q .writing) && isEmpty (q .reading)
+standingSound Standing.Held q = eachMode (λ m. isEmpty (openOf m q))
 
 -- what is said of a program by itself
 unfoldable pub programSound : Program → Bool

@@ -1,19 +1,11 @@
 // The empty board.
 use crate::Board;
 use crate::Program;
-use crate::Standing;
-use files::FileSet;
 
 impl Board {
     // The empty board.
     pub const EMPTY: Board = Board {
-        programs: [Program {
-            writable: FileSet { bits: 0 },
-            readable: FileSet { bits: 0 },
-            writing: FileSet { bits: 0 },
-            reading: FileSet { bits: 0 },
-            standing: Standing::Absent,
-        }; 32],
+        programs: [Program::ABSENT; 32],
         waiting: [0; 32],
         entry: [0; 32],
         favoured: 0,

@@ -2,6 +2,7 @@
 use files::FileSet;
 
 mod boards;
+pub mod modes;
 mod programs;
 mod refusals;
 mod standings;

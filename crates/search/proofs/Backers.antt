@@ -9,18 +9,18 @@ use native.Mathlib.Omega.{arith}
 use lib.Dec.{ltb}
 use lib.ListN.{length}
 use borrow.Author.Tests.{ltb-true, ltb-false}
-use Rattle.files.proofs.Tests.{by-test, never, and-left, and-right, and-both, or-cases, or-left, or-right, no-true}
-use Rattle.rules.specs.Lists.{any, keep, rising, found}
+use Rattle.laws.specs.Tests.{by-test, never, and-left, and-right, and-both, or-cases, or-left, or-right, no-true}
+use Rattle.laws.specs.Lists.{any, keep, rising, found}
+use Rattle.rules.specs.Modes.{Mode}
 use Rattle.rules.specs.Boards.{everyone}
 use mathlib.Core.List.{List·Memᴰ·tail}
-use Rattle.theory.specs.Lists.{_∈_, by-mem, here, any-some, some-any, mem-rising, length-keep, length-rising}
+use Rattle.laws.specs.Laws.{_∈_, by-mem, here, any-some, some-any, mem-rising, length-keep, length-rising}
 use Rattle.tables.specs.declared.ProgramSet.{ProgramSet}
 use Rattle.tables.specs.ProgramSets.{hasProgram, withoutProgram}
-use Rattle.tables.specs.Tables.{holdsOne}
-use Rattle.tables.specs.Claims.{claimsAt}
+use Rattle.tables.specs.Sets.{modeAt, holdsOne, claimsAt}
 use Rattle.tables.proofs.Laws.{packed-has, none-has}
-use Rattle.search.specs.Rows.{admittedSet}
-use Rattle.search.specs.Gives.{writes, joins, backers, safeIn, SafeFor}
+use Rattle.tables.specs.Boards.{admittedSet}
+use Rattle.search.specs.Gives.{joins, backers, safeIn, SafeFor}
 use Rattle.search.proofs.Laws.{low, high}
 use Rattle.search.proofs.Closing.{Back, back-unsafe, back-safe}
 
@@ -157,27 +157,27 @@ module _ (sets : List ℕ) (a : ProgramSet) (p f : ℕ) where
   abbrev all : ProgramSet
   all = backers sets among p 32
 
-  abbrev both : Bool
-  both = writes sets p f
+  abbrev mode : Mode
+  mode = modeAt sets p f
 
   abbrev claimed : Bool
-  claimed = any (λ x. hasProgram all x && claimsAt sets f both x) everyone
+  claimed = any (λ x. hasProgram all x && claimsAt sets f mode x) everyone
 
-  is-claimed : (x : ℕ) → hasProgram all x ≡ true → claimsAt sets f both x ≡ true → claimed ≡ true
-  is-claimed x e d = some-any (λ z. hasProgram all z && claimsAt sets f both z) everyone x
-      (is-one sets among p x (low all x e) (high all x e)) (and-both (hasProgram all x) (claimsAt sets f both x) e d)
+  is-claimed : (x : ℕ) → hasProgram all x ≡ true → claimsAt sets f mode x ≡ true → claimed ≡ true
+  is-claimed x e d = some-any (λ z. hasProgram all z && claimsAt sets f mode z) everyone x
+      (is-one sets among p x (low all x e) (high all x e)) (and-both (hasProgram all x) (claimsAt sets f mode x) e d)
 
-  of-claimed : claimed ≡ true → (x : ℕ) × (hasProgram all x ≡ true) × (claimsAt sets f both x ≡ true)
-  of-claimed e = let (x, m, u) = any-some (λ z. hasProgram all z && claimsAt sets f both z) everyone e in
-      (x, and-left (hasProgram all x) (claimsAt sets f both x) u, and-right (hasProgram all x) (claimsAt sets f both x) u)
+  of-claimed : claimed ≡ true → (x : ℕ) × (hasProgram all x ≡ true) × (claimsAt sets f mode x ≡ true)
+  of-claimed e = let (x, m, u) = any-some (λ z. hasProgram all z && claimsAt sets f mode z) everyone e in
+      (x, and-left (hasProgram all x) (claimsAt sets f mode x) u, and-right (hasProgram all x) (claimsAt sets f mode x) u)
 
   -- one that holds p back claims f
-  pub unsafe-in : (x : ℕ) → Back sets among p x → claimsAt sets f both x ≡ true → safeIn sets a p f ≡ false
+  pub unsafe-in : (x : ℕ) → Back sets among p x → claimsAt sets f mode x ≡ true → safeIn sets a p f ≡ false
   unfolding safeIn
   unsafe-in x b d = ap not (is-claimed x (all-found sets among p x b) d)
 
   -- none does
-  pub safe-in : ((x : ℕ) → Back sets among p x → claimsAt sets f both x ≡ false) → safeIn sets a p f ≡ true
+  pub safe-in : ((x : ℕ) → Back sets among p x → claimsAt sets f mode x ≡ false) → safeIn sets a p f ≡ true
   unfolding safeIn
   safe-in n = ap not (no-true claimed (λ d. let (x, i, u) = of-claimed d in never u (n x (found-back sets among p 32 x i))))
 
@@ -189,7 +189,7 @@ module _ (sets : List ℕ) (a : ProgramSet) (p f : ℕ) where
       rw t (sym (back-unsafe b sets p f s h k ad o x (on-board x (found-back sets among p 32 x i)) d)))
       (λ t. rw t (sym (back-safe b sets p f s h k ad o all (λ x i. on-board x (found-back sets among p 32 x i))
       (λ x c. all-found sets among p x (off-board x c))
-      (λ x i. no-true (claimsAt sets f both x) (λ d. never (is-claimed x i d) t)))))
+      (λ x i. no-true (claimsAt sets f mode x) (λ d. never (is-claimed x i d) t)))))
     where
       z : among ≡ withoutProgram (admittedSet b) p
       z = ap (λ (y : ProgramSet). withoutProgram y p) e

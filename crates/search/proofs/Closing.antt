@@ -1,29 +1,29 @@
 -- A file given, decided from the sets alone: those that hold the program back are found one after another. Assumes nothing.
 use mathlib.Core.Path.{_≡_, sym, ap, ap₂, subst, _∙_}
 use mathlib.Core.Logic.{_≢_}
-use mathlib.Core.Bool.{Bool, true, false, not, cond, _&&_, _||_}
+use mathlib.Core.Bool.{Bool, true, false, not, _&&_, _||_}
 use mathlib.Core.List.{List}
-use Prim.Native.Nat.{ℕ, _-_, _≤_}
+use Prim.Native.Nat.{ℕ, _≤_}
 use native.Mathlib.Omega.{arith}
 use lib.Dec.{eqb}
-use lib.ListN.{getD}
 use borrow.Author.Tests.{eqb-true, eqb-false}
-use Rattle.files.proofs.Tests.{by-test, never, and-left, and-right, and-both, and-false, or-cases, or-left, or-right, not-true, true-not}
+use Rattle.laws.specs.Tests.{by-test, never, and-left, and-right, and-both, and-false, or-cases, or-left, or-right, not-true, true-not}
 use Rattle.files.specs.Sets.{member}
 use Rattle.files.proofs.Bits.{is-number, has-number, least, most, without-number-same, without-number-other}
 use Rattle.rules.specs.declared.Board.{Board}
-use Rattle.rules.specs.Lists.{found}
-use Rattle.rules.specs.Boards.{at, isProgram, claims}
+use Rattle.laws.specs.Lists.{found}
+use Rattle.rules.specs.Modes.{Mode, clashing, someMode, claimOf, modeOf}
+use Rattle.rules.specs.Boards.{at, isProgram}
 use Rattle.rules.specs.Orders.{holdsBack, carried, safe}
 use Rattle.theory.specs.Reach.{isOther, ReachesOn, no-back, reaches-direct, reaches-through, given-holds, safe-by-closed, unsafe-by-reach}
 use Rattle.tables.specs.declared.ProgramSet.{ProgramSet}
 use Rattle.tables.specs.ProgramSets.{hasProgram, withoutProgram, unionOf, lessOf}
-use Rattle.tables.specs.Tables.{packed, holdsOne, holdersOf, SetsOf}
-use Rattle.tables.specs.Claims.{claimsAt}
+use Rattle.tables.specs.Sets.{SetsOf, modeAt, holdsOne, claimsAt}
+use Rattle.tables.specs.Tables.{packed, holdersOf}
 use Rattle.tables.proofs.Laws.{packed-has, union-has, less-has}
 use Rattle.tables.proofs.Walk.{rest-more}
-use Rattle.tables.proofs.Whole.{holds-is}
-use Rattle.search.specs.Rows.{admits, admittedSet}
+use Rattle.tables.proofs.Whole.{holds-is, claims-is, mode-at}
+use Rattle.tables.specs.Boards.{admits, admittedSet}
 use Rattle.search.proofs.Laws.{low, high}
 
 -- x, among the others, holds p back, or one that does so in turn
@@ -33,12 +33,12 @@ pub data Back (sets : List ℕ) (among : ProgramSet) (p : ℕ) : ℕ → Type 0 
 
 -- Those not in the rest are found. Who holds back p, or one of them that is no longer in `found`, is found too; those no longer in `found`
 -- do not claim f.
-pub record Closing (sets : List ℕ) (among : ProgramSet) (p f : ℕ) (both : Bool) (found rest : ProgramSet) : Type 0 where
+pub record Closing (sets : List ℕ) (among : ProgramSet) (p f : ℕ) (mode : Mode) (found rest : ProgramSet) : Type 0 where
   pub backs : (x : ℕ) → hasProgram among x ≡ true → hasProgram rest x ≡ false → Back sets among p x
   pub base : (x : ℕ) → hasProgram among x ≡ true → holdsOne sets p x ≡ true → hasProgram rest x ≡ false
   pub step : (x y : ℕ) → hasProgram among x ≡ true → hasProgram among y ≡ true → hasProgram rest y ≡ false → hasProgram found y ≡ false
       → holdsOne sets y x ≡ true → hasProgram rest x ≡ false
-  pub clear : (y : ℕ) → hasProgram among y ≡ true → hasProgram rest y ≡ false → hasProgram found y ≡ false → claimsAt sets f both y ≡ false
+  pub clear : (y : ℕ) → hasProgram among y ≡ true → hasProgram rest y ≡ false → hasProgram found y ≡ false → claimsAt sets f mode y ≡ false
   pub inside : (x : ℕ) → hasProgram found x ≡ true → (hasProgram among x ≡ true) × (hasProgram rest x ≡ false)
   pub within : (x : ℕ) → hasProgram rest x ≡ true → hasProgram among x ≡ true
 
@@ -71,8 +71,8 @@ module _ (sets : List ℕ) (p : ℕ) (s : ProgramSet) where
   pub of-less : (x : ℕ) → hasProgram (lessOf s more) x ≡ true → hasProgram s x ≡ true
   of-less x e = and-left (hasProgram s x) (not (hasProgram more x)) (sym (less-has s more x) ∙ e)
 
-module _ (sets : List ℕ) (among : ProgramSet) (p f : ℕ) (both : Bool) where
-  pub closing-start : Closing sets among p f both (more sets p among) (lessOf among (more sets p among))
+module _ (sets : List ℕ) (among : ProgramSet) (p f : ℕ) (mode : Mode) where
+  pub closing-start : Closing sets among p f mode (more sets p among) (lessOf among (more sets p among))
   closing-start = record {
     backs = λ x m n. let (_, e) = of-more sets p among x (was-more sets p among x m n) in Back.nearest m e;
     base = λ x m e. gone sets p among x e;
@@ -82,9 +82,9 @@ module _ (sets : List ℕ) (among : ProgramSet) (p f : ℕ) (both : Bool) where
     within = λ x e. of-less sets p among x e;
   }
 
-  module _ (found rest : ProgramSet) (k : Closing sets among p f both found rest) where
+  module _ (found rest : ProgramSet) (k : Closing sets among p f mode found rest) where
     -- all were asked: who holds p back was found, and does not claim f
-    pub closing-done : ((x : ℕ) → hasProgram found x ≡ false) → (x : ℕ) → Back sets among p x → claimsAt sets f both x ≡ false
+    pub closing-done : ((x : ℕ) → hasProgram found x ≡ false) → (x : ℕ) → Back sets among p x → claimsAt sets f mode x ≡ false
     closing-done n x b = k .clear x (back-among b) (is-found x b) (n x)
       where
         back-among : {x : ℕ} → Back sets among p x → hasProgram among x ≡ true
@@ -96,7 +96,7 @@ module _ (sets : List ℕ) (among : ProgramSet) (p f : ℕ) (both : Bool) where
         is-found x (Back.further {y = y} m e c) = k .step x y m (back-among c) (is-found y c) (n y) e
 
     -- q is asked about
-    module _ (q : ℕ) (e : hasProgram found q ≡ true) (c : claimsAt sets f both q ≡ false) where
+    module _ (q : ℕ) (e : hasProgram found q ≡ true) (c : claimsAt sets f mode q ≡ false) where
       abbrev next : ProgramSet
       next = unionOf (withoutProgram found q) (more sets q rest)
 
@@ -112,7 +112,7 @@ module _ (sets : List ℕ) (among : ProgramSet) (p f : ℕ) (both : Bool) where
           (λ t. never (union-has (withoutProgram found q) (more sets q rest) y
           ∙ or-right (hasProgram (withoutProgram found q) y) (hasProgram (more sets q rest) y) (was-more sets q rest y t l)) n) (λ t. t)
 
-      closing-more : Closing sets among p f both next (lessOf rest (more sets q rest))
+      closing-more : Closing sets among p f mode next (lessOf rest (more sets q rest))
       closing-more = record {
         backs = λ x m n. by-test (hasProgram rest x)
             (λ t. let (i, r) = k .inside q e in
@@ -121,7 +121,7 @@ module _ (sets : List ℕ) (among : ProgramSet) (p f : ℕ) (both : Bool) where
         step = λ x y m l r n d. by-test (eqb y q)
             (λ t. gone sets q rest x (ap (λ (z : ℕ). holdsOne sets z x) (sym (eqb-true y q t)) ∙ d))
             (λ t. still-gone sets q rest x (k .step x y m l (rest-not y r n) (was-not y (eqb-false y q t) n) d));
-        clear = λ y l r n. by-test (eqb y q) (λ t. ap (claimsAt sets f both) (eqb-true y q t) ∙ c)
+        clear = λ y l r n. by-test (eqb y q) (λ t. ap (claimsAt sets f mode) (eqb-true y q t) ∙ c)
             (λ t. k .clear y l (rest-not y r n) (was-not y (eqb-false y q t) n));
         inside = λ x d. or-cases (hasProgram (withoutProgram found q) x) (hasProgram (more sets q rest) x)
             (sym (union-has (withoutProgram found q) (more sets q rest) x) ∙ d)
@@ -131,15 +131,15 @@ module _ (sets : List ℕ) (among : ProgramSet) (p f : ℕ) (both : Bool) where
       }
 
       -- by what was found then, and the rest then
-      pub closing-next : (l r : ProgramSet) → l ≡ next → r ≡ lessOf rest (more sets q rest) → Closing sets among p f both l r
+      pub closing-next : (l r : ProgramSet) → l ≡ next → r ≡ lessOf rest (more sets q rest) → Closing sets among p f mode l r
       closing-next l r i j = rw (i, j) closing-more
 
 module _ (b : Board) (sets : List ℕ) (p f : ℕ) (s : SetsOf b sets) (h : 1 ≤ p) (k : p ≤ 32) (a : admits b p ≡ true) (o : found (carried b) ≡ true) where
   abbrev among : ProgramSet
   among = withoutProgram (admittedSet b) p
 
-  abbrev both : Bool
-  both = member (record { bits = getD sets (p - 1) 0 }) f
+  abbrev mode : Mode
+  mode = modeAt sets p f
 
   is-program : isProgram p ≡ true
   is-program = is-number 32 p h k
@@ -167,32 +167,31 @@ module _ (b : Board) (sets : List ℕ) (p f : ℕ) (s : SetsOf b sets) (h : 1 �
   back-among x (Back.further m e c) = m
 
   back-reaches : (x : ℕ) → Back sets among p x → ReachesOn b p x
-  back-reaches x (Back.nearest m e) = reaches-direct b p x (of-among x m) (sym (holds-is b sets x p s (low among x m) (high among x m) h k) ∙ e)
+  back-reaches x (Back.nearest m e) = reaches-direct b p x (of-among x m) (sym (holds-is b sets s x p (low among x m) (high among x m) h k) ∙ e)
   back-reaches x (Back.further {y = y} m e c) =
       let n = back-among y c in let r = back-reaches y c in
       by-test (eqb x y) (λ t. subst (ReachesOn b p) (sym (eqb-true x y t)) r)
       (λ t. reaches-through b p x y (of-among x m) t
-      (sym (holds-is b sets x y s (low among x m) (high among x m) (low among y n) (high among y n)) ∙ e) r)
+      (sym (holds-is b sets s x y (low among x m) (high among x m) (low among y n) (high among y n)) ∙ e) r)
 
   -- who claims f is whom p would hold back by it
   claimed-is : (x : ℕ) → 1 ≤ x → x ≤ 32
-      → claimsAt sets f both x ≡ cond (member (at b p .writable) f) (claims (at b x) f) (member (at b x .writable) f)
-  claimed-is x l m = let c = s .1 (x - 1) (omega arith) in rw (c .0, c .1, s .1 (p - 1) (omega arith) .0)
-      (by-test (member (at b p .writable) f) (λ t. rw t) (λ t. rw t (by-test (member (at b x .writable) f) (λ u. rw u) (λ u. rw u))))
+      → claimsAt sets f mode x ≡ someMode (λ n. clashing (modeOf (at b p) f) n && member (claimOf n (at b x)) f)
+  claimed-is x l m = ap (λ (z : Mode). claimsAt sets f z x) (mode-at b sets s p f h k) ∙ claims-is b sets s f x (modeOf (at b p) f) l m
 
   -- one that holds p back claims f
-  pub back-unsafe : (x : ℕ) → Back sets among p x → claimsAt sets f both x ≡ true → safe b p f ≡ false
+  pub back-unsafe : (x : ℕ) → Back sets among p x → claimsAt sets f mode x ≡ true → safe b p f ≡ false
   back-unsafe x c d = let m = back-among x c in
       unsafe-by-reach b p f is-program a x (back-reaches x c)
       (given-holds (at b p) (at b x) f ∙ or-right (holdsBack (at b p) (at b x)) _ (sym (claimed-is x (low among x m) (high among x m)) ∙ d))
 
   -- those of `all` are all that hold p back, and none claims f
   pub back-safe : (all : ProgramSet) → ((x : ℕ) → hasProgram all x ≡ true → Back sets among p x) → ((x : ℕ) → Back sets among p x → hasProgram all x ≡ true)
-      → ((x : ℕ) → hasProgram all x ≡ true → claimsAt sets f both x ≡ false) → safe b p f ≡ true
+      → ((x : ℕ) → hasProgram all x ≡ true → claimsAt sets f mode x ≡ false) → safe b p f ≡ true
   back-safe all g c n = safe-by-closed b p f is-program a (hasProgram all) o (record {
-    base = λ x u w. let m = in-among x u in c x (Back.nearest m (holds-is b sets x p s (low among x m) (high among x m) h k ∙ w));
+    base = λ x u w. let m = in-among x u in c x (Back.nearest m (holds-is b sets s x p (low among x m) (high among x m) h k ∙ w));
     step = λ x y u i _ t w. let m = in-among x u in let l = in-among y i in
-        c x (Back.further m (holds-is b sets x y s (low among x m) (high among x m) (low among y l) (high among y l) ∙ w) (g y t));
+        c x (Back.further m (holds-is b sets s x y (low among x m) (high among x m) (low among y l) (high among y l) ∙ w) (g y t));
   }) (λ x u t. let m = in-among x u in
       given-holds (at b p) (at b x) f ∙ ap₂ (λ (i j : Bool). i || j)
       (no-back b p x is-program a o (back-reaches x (g x t)))

@@ -7,10 +7,10 @@ use native.Mathlib.Omega.{arith}
 use lib.Dec.{eqb}
 use lib.ListN.{length, getD, replicate, length-replicate, getD-replicate}
 use lib.Seq.{ext-getD}
-use Rattle.files.proofs.Tests.{by-test, never, and-left, and-right, and-true, and-false}
-use Rattle.rules.specs.Lists.{rising, keep, without}
+use Rattle.laws.specs.Tests.{by-test, never, and-left, and-right, and-true, and-false}
+use Rattle.laws.specs.Lists.{rising, keep, without}
 use Rattle.rules.specs.Boards.{everyone}
-use Rattle.theory.specs.Lists.{NoRepeat, keep-mem, mem-keep, length-keep, length-rising, Pairs-keep, Pairs-map, rising-pairs, length-without, without-absent}
+use Rattle.laws.specs.Laws.{NoRepeat, keep-mem, mem-keep, length-keep, length-rising, Pairs-keep, Pairs-map, rising-pairs, length-without, without-absent}
 use Rattle.theory.specs.Programs.{mem-everyone}
 use Rattle.tables.specs.declared.ProgramSet.{ProgramSet}
 use Rattle.tables.specs.ProgramSets.{hasProgram, withoutProgram, commonOf}
@@ -39,7 +39,7 @@ module _ (rows : List ℕ) (l : ProgramSet) (p : ℕ) (e : hasProgram l p ≡ tr
 
   swapped : length (without p (keep holds (those l))) ≡ heldCount rows (withoutProgram l p) q
   unfolding without
-  swapped = ap length (keep-swap holds (λ x. not (eqb x p)) (those l) ∙ ap (keep holds) (left-without l p (low l p e)))
+  swapped = ap length (keep-swap holds (λ x. not (eqb x p)) (those l) ∙ ap (keep holds) (left-without l p))
 
   -- it holds q back
   in-row : hasProgram (rowOf rows p) q ≡ true → heldCount rows l q ≡ suc (heldCount rows (withoutProgram l p) q)

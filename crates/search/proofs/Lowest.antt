@@ -8,7 +8,7 @@ use Prim.Native.Nat.{ℕ, _-_}
 use native.Mathlib.Omega.{arith}
 use lib.Dec.{eqb}
 use borrow.Author.Tests.{eqb-true, eqb-false}
-use Rattle.files.proofs.Tests.{by-test, never, no-true, and-left, and-right, and-both}
+use Rattle.laws.specs.Tests.{by-test, never, no-true, and-left, and-right, and-both}
 use Rattle.files.specs.Bits.{hasBit}
 use Rattle.files.proofs.Bits.{zero-has, has-bit, without-number-same, without-number-other}
 use Rattle.rules.specs.Boards.{everyone}

@@ -1,17 +1,18 @@
 -- From the arrays to boards: the carried order, and the one with a file given. Assumes nothing.
 use mathlib.Core.Path.{_≡_, refl, sym, ap, _∙_}
 use mathlib.Core.List.{List}
-use Prim.Native.Nat.{ℕ, _-_}
+use Prim.Native.Nat.{ℕ}
 use Rattle.rules.specs.declared.Board.{Board}
 use Rattle.rules.specs.Boards.{at, isAdmitted, opening}
 use Rattle.rules.specs.Orders.{carried, withGiven}
-use Rattle.theory.specs.Programs.{Is, Sized}
+use Rattle.theory.specs.Programs.{Is, Sized, same-sets}
 use Rattle.tables.specs.declared.ProgramSet.{ProgramSet}
-use Rattle.tables.specs.Tables.{setsOf, SetsOf, rowsOf}
-use Rattle.tables.specs.Claims.{givenAt}
-use Rattle.tables.proofs.Given.{packed-same, opening-given, sets-given, standing-kept}
+use Rattle.tables.specs.Sets.{setsOf, SetsOf, givenAt}
+use Rattle.tables.specs.Tables.{rowsOf}
+use Rattle.tables.proofs.Given.{packed-same, sets-given, standing-kept}
 use Rattle.tables.proofs.Whole.{sets-of, rows-for}
-use Rattle.search.specs.Rows.{admits, admittedSet, asOrder, orderIn}
+use Rattle.tables.specs.Boards.{admits, admittedSet}
+use Rattle.search.specs.Rows.{asOrder, orderIn}
 use Rattle.search.specs.Gives.{orderGiven, OrderGiven}
 use Rattle.search.proofs.Laws.{order-for}
 
@@ -27,11 +28,11 @@ unfolding admittedSet
 admitted-with b p f z i = packed-same (admits (withGiven b p f)) (admits b) 32
     (λ x h k. ap isAdmitted (standing-kept b p f x z i (record { least = h; most = k })))
 
-sets-with : (b : Board) (p f : ℕ) (sets : List ℕ) → Sized (b .programs) → Is p → SetsOf b sets → SetsOf (withGiven b p f) (givenAt sets (p - 1) f)
+sets-with : (b : Board) (p f : ℕ) (sets : List ℕ) → Sized (b .programs) → Is p → SetsOf b sets → SetsOf (withGiven b p f) (givenAt sets p f)
 unfolding withGiven
-sets-with b p f sets z i s = sets-given b (withGiven b p f) (opening (at b p) f) p f sets z i refl (opening-given (at b p) f) s
+sets-with b p f sets z i s = sets-given b (withGiven b p f) (opening (at b p) f) p f sets z i refl (same-sets (opening (at b p) f)) s
 
 pub given-for : (sets : List ℕ) (a : ProgramSet) (p f : ℕ) → Is p → OrderGiven sets a p f (orderGiven sets a p f)
 given-for sets a p f i b z s e =
-    order-for (rowsOf (givenAt sets (p - 1) f) a) a (withGiven b p f)
-    (rows-for (withGiven b p f) (givenAt sets (p - 1) f) a (sets-with b p f sets z i s)) (e ∙ sym (admitted-with b p f z i))
+    order-for (rowsOf (givenAt sets p f) a) a (withGiven b p f)
+    (rows-for (withGiven b p f) (givenAt sets p f) a (sets-with b p f sets z i s)) (e ∙ sym (admitted-with b p f z i))

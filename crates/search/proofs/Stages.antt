@@ -8,11 +8,11 @@ use native.Mathlib.Omega.{arith}
 use lib.Dec.{eqb, ltb}
 use lib.ListN.{length}
 use borrow.Author.Tests.{eqb-true, eqb-false, ltb-true, ltb-false}
-use Rattle.files.proofs.Tests.{by-test, never, no-true, and-left, and-right, or-cases, or-left, or-right}
+use Rattle.laws.specs.Tests.{by-test, never, no-true, and-left, and-right, or-cases, or-left, or-right}
 use lib.Bits.{or-zero-l}
 use Rattle.files.specs.Bits.{isNumber}
 use Rattle.files.proofs.Bits.{is-number, with-same, with-number-same, with-number-other, without-number-same}
-use Rattle.rules.specs.Lists.{keep}
+use Rattle.laws.specs.Lists.{keep}
 use Rattle.rules.specs.Boards.{everyone}
 use Rattle.theory.specs.Programs.{mem-everyone}
 use Rattle.tables.specs.declared.ProgramSet.{ProgramSet}

@@ -8,12 +8,13 @@ use mathlib.Core.Option.{Option·getD}
 use lib.Dec.{eqb}
 use lib.ListN.{length, getD}
 use Rattle.rules.specs.declared.Board.{Board}
-use Rattle.rules.specs.Lists.{keep, first}
+use Rattle.laws.specs.Lists.{keep, first}
 use Rattle.rules.specs.Boards.{everyone, at}
 use Rattle.rules.specs.Orders.{holdsBack}
 use Rattle.tables.specs.declared.ProgramSet.{ProgramSet}
 use Rattle.tables.specs.ProgramSets.{hasProgram}
-use Rattle.tables.specs.Tables.{places, rowOf, RowsOf}
+use Rattle.tables.specs.Sets.{places}
+use Rattle.tables.specs.Tables.{rowOf, RowsOf}
 
 -- the programs left
 abbrev pub those : ProgramSet → List ℕ

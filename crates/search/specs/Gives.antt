@@ -1,38 +1,37 @@
 -- Whether a file can be given, as the code decides it from the arrays of a board. The statements below, which proofs/ proves,
 -- lead from the arrays to every board that has them.
 -- Assumes nothing.
-use Prim.Native.Nat.{ℕ, zero, suc, _-_}
+use Prim.Native.Nat.{ℕ, zero, suc}
 use mathlib.Core.Path.{_≡_}
-use mathlib.Core.Bool.{Bool, true, false, not, _&&_, _||_}
+use mathlib.Core.Bool.{Bool, true, not, _&&_, _||_}
 use mathlib.Core.List.{List}
-use lib.ListN.{length, getD}
+use lib.ListN.{length}
 use Rattle.files.specs.Sets.{member}
 use Rattle.rules.specs.declared.Board.{Board}
-use Rattle.rules.specs.Lists.{any, found}
-use Rattle.rules.specs.Boards.{everyone, at, hasOpen}
+use Rattle.laws.specs.Lists.{any, found}
+use Rattle.rules.specs.Modes.{clashing, someMode}
+use Rattle.rules.specs.Boards.{everyone}
 use Rattle.rules.specs.Orders.{carried, withGiven, inUse, safe, canGive}
 use Rattle.rules.specs.Soundness.{noConflict}
 use Rattle.tables.specs.declared.ProgramSet.{ProgramSet}
 use Rattle.tables.specs.ProgramSets.{noPrograms, hasProgram, withoutProgram}
-use Rattle.tables.specs.Tables.{SetsOf, openedFrom, packed, holdsOne, rowsOf}
-use Rattle.tables.specs.Claims.{claimsAt, givenAt}
+use Rattle.tables.specs.Sets.{SetsOf, openAt, modeAt, holdsOne, claimsAt, givenAt}
+use Rattle.tables.specs.Shared.{sharedIn, openedIn, othersOf}
+use Rattle.tables.specs.Tables.{packed, rowsOf}
 use Rattle.search.specs.declared.Order.{Order}
 use Rattle.search.specs.declared.Uses.{Uses}
-use Rattle.search.specs.Rows.{admits, admittedSet, asOrder, orderIn}
+use Rattle.tables.specs.Boards.{admits, admittedSet}
+use Rattle.search.specs.Rows.{asOrder, orderIn}
 
 -- ---- by the arrays
 
 -- what is open, with these admitted
 abbrev pub usesIn : ProgramSet → List ℕ → Uses
-usesIn a sets = record { admitted = a; written = openedFrom sets 64; read = openedFrom sets 96 }
+usesIn a sets = record { admitted = a; files = openedIn sets }
 
--- p may write f
-abbrev pub writes : List ℕ → ℕ → ℕ → Bool
-writes sets p f = member (record { bits = getD sets (p - 1) 0 }) f
-
--- f is open for writing, or p wants it for writing and it is open for reading
+-- another than p has f open, in a mode that clashes with the one in which p would open it
 abbrev pub usedIn : List ℕ → Uses → ℕ → ℕ → Bool
-usedIn sets u p f = member (u .written) f || (writes sets p f && member (u .read) f)
+usedIn sets u p f = someMode (λ m. clashing (modeAt sets p f) m && member (othersOf (sharedIn m (u .files)) (openAt sets p m)) f)
 
 -- x was found before, or is among the others and holds back p or one that was found
 abbrev pub joins : List ℕ → ProgramSet → ℕ → ProgramSet → ℕ → Bool
@@ -44,11 +43,11 @@ unfoldable pub backers : List ℕ → ProgramSet → ℕ → ℕ → ProgramSet
 backers sets others p zero = noPrograms
 backers sets others p (suc n) = packed (joins sets others p (backers sets others p n)) 32
 
--- with f given to p, p would hold back none that holds it back: none of them may write f or, if p writes it, read it;
+-- with f given to p, p would hold back none that holds it back: none of them claims f in a mode that clashes with p's;
 -- after 32 rounds all of them are found
 unfoldable pub safeIn : List ℕ → ProgramSet → ℕ → ℕ → Bool
 safeIn sets a p f =
-    not (any (λ x. hasProgram (backers sets (withoutProgram a p) p 32) x && claimsAt sets f (writes sets p f) x) everyone)
+    not (any (λ x. hasProgram (backers sets (withoutProgram a p) p 32) x && claimsAt sets f (modeAt sets p f) x) everyone)
 
 -- f is in no conflicting use, and giving it to p is safe
 abbrev pub giveIn : List ℕ → Uses → ℕ → ℕ → Bool
@@ -56,7 +55,7 @@ giveIn sets u p f = not (usedIn sets u p f) && safeIn sets (u .admitted) p f
 
 -- the order of those admitted, with f given to p
 abbrev pub orderGiven : List ℕ → ProgramSet → ℕ → ℕ → Order
-orderGiven sets a p f = orderIn (rowsOf (givenAt sets (p - 1) f) a) a
+orderGiven sets a p f = orderIn (rowsOf (givenAt sets p f) a) a
 
 -- ---- from the arrays to boards
 
@@ -64,21 +63,20 @@ orderGiven sets a p f = orderIn (rowsOf (givenAt sets (p - 1) f) a) a
 abbrev pub usesOf : Board → List ℕ → Uses
 usesOf b sets = usesIn (admittedSet b) sets
 
--- on every board without conflict that has these sets: the test says whether f, which p has not open, is in conflicting use
+-- on every board without conflict that has these sets: the test says whether f is in conflicting use
 abbrev pub UsedFor : List ℕ → Uses → ℕ → ℕ → Bool → Type 0
-UsedFor sets u p f r = (b : Board) → SetsOf b sets → u ≡ usesOf b sets → noConflict b ≡ true → hasOpen (at b p) f ≡ false
-    → r ≡ inUse b p f
+UsedFor sets u p f r = (b : Board) → SetsOf b sets → u ≡ usesOf b sets → noConflict b ≡ true → r ≡ inUse b p f
 
 -- on every board with these sets and admitted programs that has an order: the test says whether an order comes back with f given to p
 abbrev pub SafeFor : List ℕ → ProgramSet → ℕ → ℕ → Bool → Type 0
 SafeFor sets a p f r = (b : Board) → SetsOf b sets → a ≡ admittedSet b → admits b p ≡ true → found (carried b) ≡ true
     → r ≡ safe b p f
 
--- on every board with an order and without conflict that has these sets: the test says whether an open would give f,
--- which p has not open, to the admitted program p
+-- on every board with an order and without conflict that has these sets: the test says whether an open would give f
+-- to the admitted program p
 abbrev pub GivenFor : List ℕ → Uses → ℕ → ℕ → Bool → Type 0
 GivenFor sets u p f r = (b : Board) → SetsOf b sets → u ≡ usesOf b sets → noConflict b ≡ true → found (carried b) ≡ true
-    → admits b p ≡ true → hasOpen (at b p) f ≡ false → r ≡ canGive b p f
+    → admits b p ≡ true → r ≡ canGive b p f
 
 -- of every board of 32 programs with these sets and admitted programs: the carried order with f given to p
 abbrev pub OrderGiven : List ℕ → ProgramSet → ℕ → ℕ → Order → Type 0

@@ -8,23 +8,16 @@ use mathlib.Core.Option.{Option, none, some}
 use lib.Dec.{eqb}
 use lib.ListN.{length, take, drop, replicate}
 use Rattle.rules.specs.declared.Board.{Board}
-use Rattle.rules.specs.Lists.{first, withFound, padded}
-use Rattle.rules.specs.Boards.{everyone, at, isAdmitted}
+use Rattle.laws.specs.Lists.{first, withFound, padded}
+use Rattle.rules.specs.Boards.{everyone}
 use Rattle.rules.specs.Orders.{carried}
 use Rattle.tables.specs.declared.ProgramSet.{ProgramSet}
 use Rattle.search.specs.declared.Search.{Search}
 use Rattle.search.specs.declared.Order.{Order}
 use Rattle.tables.specs.ProgramSets.{hasProgram, withoutProgram}
-use Rattle.tables.specs.Tables.{packed, RowsOf}
+use Rattle.tables.specs.Tables.{RowsOf}
+use Rattle.tables.specs.Boards.{admittedSet}
 use Rattle.search.specs.Counts.{those, heldCount}
-
--- p is admitted
-abbrev pub admits : Board → ℕ → Bool
-admits b p = isAdmitted (at b p .standing)
-
--- the admitted programs
-unfoldable pub admittedSet : Board → ProgramSet
-admittedSet b = packed (admits b) 32
 
 -- p is left, and none that is left holds it back
 abbrev pub free : List ℕ → ProgramSet → ℕ → Bool

@@ -1,52 +1,49 @@
 // Whether a file can be given, by the arrays of a board.
 use crate::Order;
 use crate::Uses;
-use files::FileSet;
 use rules::Board;
 use tables::ProgramSet;
 ghost use mathlib.Core.Path.{_≡_};
-ghost use Prim.Native.Nat.{_-_, _≤_};
+ghost use Prim.Native.Nat.{_≤_};
 ghost use lib.ListN.{length};
 ghost use Rattle.search.specs.Gives.{usesOf, usesIn, usedIn, safeIn, giveIn, orderGiven};
-ghost use Rattle.tables.specs.Claims.{givenAt};
+ghost use Rattle.tables.specs.Sets.{givenAt};
 
 // What is open, by the sets, with these admitted.
 pub fn uses_in(admitted: ProgramSet, sets: &[u64; 128]) -> Uses
     ensures { λ r. ⌜ r ≡ usesIn admitted (now (sets .entry)) ⌝ }
 {
-    let written = tables::opened(sets, 64);
-    let read = tables::opened(sets, 96);
-    Uses {
-        admitted,
-        written,
-        read,
-    }
+    let files = tables::shared::opened(sets);
+    Uses { admitted, files }
 }
 
 // Who is admitted, and what is open.
 pub fn uses_of(b: Board, sets: &[u64; 128]) -> Uses
     ensures { λ r. ⌜ r ≡ usesOf b (now (sets .entry)) ⌝ }
 {
-    let admitted = crate::admitted_set(b);
+    let admitted = tables::boards::admitted_set(b);
     uses_in(admitted, sets)
 }
 
-// Whether f is open for writing, or p wants it for writing and it is open for reading: on a board without conflict,
-// where p has not f open, that is conflicting use.
+// Whether another than p has f open for writing, or p wants it for writing and another has it open for reading: on a board
+// without conflict that is conflicting use.
 pub fn in_use(sets: &[u64; 128], u: Uses, p: u8, f: u8) -> bool
     requires { ⌜ (1 ≤ p) × (p ≤ 32) ⌝ }
     ensures { λ r. ⌜ r ≡ usedIn (now (sets .entry)) u p f ⌝ }
 {
-    let written = u.written;
+    let w = tables::sets::writing(sets, p);
+    let writing = u.files.writing;
+    let written = writing.by_others(w);
     if written.has(f) {
         return true;
     }
-    let i = (p - 1) as usize;
-    let v = FileSet { bits: sets[i] };
+    let v = tables::sets::writable(sets, p);
     if !v.has(f) {
         return false;
     }
-    let read = u.read;
+    let r = tables::sets::reading(sets, p);
+    let reading = u.files.reading;
+    let read = reading.by_others(r);
     read.has(f)
 }
 
@@ -57,15 +54,14 @@ pub fn is_safe(sets: &[u64; 128], admitted: ProgramSet, p: u8, f: u8) -> bool
     requires { ⌜ (1 ≤ p) × (p ≤ 32) ⌝ }
     ensures { λ r. ⌜ r ≡ safeIn (now (sets .entry)) admitted p f ⌝ }
 {
-    let i = (p - 1) as usize;
-    let own = FileSet { bits: sets[i] };
-    let both = own.has(f);
+    let own = tables::sets::writable(sets, p);
+    let write = own.has(f);
     let others = admitted.without(p);
     let mut found = tables::holders_of(sets, p, others);
     let mut rest = others.less(found);
     while found.bits != 0 {
         let q = found.lowest();
-        if tables::claims::has_claim(sets, q, f, both) {
+        if tables::sets::has_claim(sets, q, f, write) {
             return false;
         }
         let more = tables::holders_of(sets, q, rest);
@@ -92,10 +88,9 @@ pub fn can_give(sets: &[u64; 128], u: Uses, p: u8, f: u8) -> bool
 pub fn order_given(sets: &mut [u64; 128], admitted: ProgramSet, p: u8, f: u8) -> Order
     requires { ⌜ ((1 ≤ p) × (p ≤ 32)) × (length (now sets) ≡ 128) ⌝ }
     ensures { λ r. ⌜ r ≡ orderGiven (now (sets .entry)) admitted p f ⌝ }
-    ensures { λ r. ⌜ now (sets .exit) ≡ givenAt (now (sets .entry)) (p - 1) f ⌝ }
+    ensures { λ r. ⌜ now (sets .exit) ≡ givenAt (now (sets .entry)) p f ⌝ }
 {
-    let i = (p - 1) as usize;
-    tables::claims::give(sets, i, f);
+    tables::sets::give(sets, p, f);
     let mut rows = [0u32; 32];
     tables::rows::fill_rows(sets, admitted, &mut rows);
     crate::order_in(&rows, admitted)

@@ -1,23 +1,20 @@
 // The carried order of a board.
-use files::FileSet;
 use rules::Board;
-use rules::Program;
 use tables::ProgramSet;
+use tables::shared::OpenFiles;
 ghost use mathlib.Core.Path.{_≡_};
 ghost use Prim.Native.Nat.{_+_, _≤_};
 ghost use lib.ListN.{length, replicate};
-ghost use Rattle.rules.specs.Boards.{admitted, awaited, setProgram};
 ghost use Rattle.rules.specs.Orders.{carried};
 ghost use Rattle.search.specs.Counts.{countsOf, Counted, CanRaise, CanLower, raised, lowered, lowest};
-ghost use Rattle.search.specs.Rows.{admittedSet, orderFrom, placed, outcome, asOrder, orderIn, isFound};
+ghost use Rattle.search.specs.Rows.{orderFrom, placed, outcome, asOrder, orderIn, isFound};
 
 pub mod gives;
 
-// The admitted programs, and the files that are open for writing and for reading.
+// The admitted programs, and what all programs have open.
 pub struct Uses {
     pub admitted: ProgramSet,
-    pub written: FileSet,
-    pub read: FileSet,
+    pub files: OpenFiles,
 }
 
 // What a search comes back with: an order of so many programs, or none.
@@ -39,69 +36,6 @@ impl Order {
         at: [0u8; 32],
     };
 }
-
-// ---- programs by their numbers
-
-// The file that p waits for, and 0 unless it waits.
-pub fn awaited(b: Board, p: u8) -> u8
-    requires { ⌜ (1 ≤ p) × (p ≤ 32) ⌝ }
-    ensures { λ r. ⌜ r ≡ awaited b p ⌝ }
-{
-    let i = (p - 1) as usize;
-    let q = b.programs[i];
-    let s = q.standing;
-    s.awaited()
-}
-
-// The board with q as program p.
-pub fn put(b: Board, p: u8, q: Program) -> Board
-    requires { ⌜ (1 ≤ p) × (p ≤ 32) ⌝ }
-    ensures { λ r. ⌜ r ≡ setProgram b p q ⌝ }
-{
-    let i = (p - 1) as usize;
-    let mut c = b;
-    c.programs[i] = q;
-    c
-}
-
-// ---- who is admitted
-
-// The set of the admitted programs.
-pub fn admitted_set(b: Board) -> ProgramSet
-    ensures { λ r. ⌜ r ≡ admittedSet b ⌝ }
-{
-    let mut set = ProgramSet::EMPTY;
-    let mut p: u8 = 1;
-    while p <= 32 {
-        let i = (p - 1) as usize;
-        let q = b.programs[i];
-        let s = q.standing;
-        let yes = s.is_admitted();
-        set = tables::join(set, p, yes);
-        p += 1;
-    }
-    set
-}
-
-// How many programs are admitted.
-pub fn admitted_count(b: Board) -> u8
-    ensures { λ r. ⌜ (r ≡ length (admitted b)) × (r ≤ 32) ⌝ }
-{
-    let mut n: u8 = 0;
-    let mut p: u8 = 1;
-    while p <= 32 {
-        let i = (p - 1) as usize;
-        let q = b.programs[i];
-        let s = q.standing;
-        if s.is_admitted() {
-            n += 1;
-        }
-        p += 1;
-    }
-    n
-}
-
-// ---- the carried order
 
 // One more for each program of a set.
 fn raise(set: ProgramSet, counts: &mut [u8; 32])
@@ -215,7 +149,7 @@ pub fn carried_order(b: Board) -> Order
 {
     let mut sets = [0u64; 128];
     let mut rows = [0u32; 32];
-    let left = admitted_set(b);
+    let left = tables::boards::admitted_set(b);
     tables::fill(b, left, &mut sets, &mut rows);
     order_in(&rows, left)
 }

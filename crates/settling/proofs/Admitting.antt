@@ -9,10 +9,10 @@ use lib.Dec.{eqb}
 use lib.ListN.{length, getD, drop}
 use Rattle.rules.specs.declared.Board.{Board}
 use Rattle.rules.specs.declared.Word.{Word}
-use Rattle.rules.specs.Lists.{names, without}
+use Rattle.laws.specs.Lists.{names, without}
 use Rattle.rules.specs.Boards.{everyone, passedBy}
 use Rattle.rules.specs.Settling.{Step, line, andThen, favour, overdue, admitHeld, runHeld}
-use Rattle.theory.specs.Lists.{_∈_, NoRepeat, here, no-longer, length-rising, without-first}
+use Rattle.laws.specs.Laws.{_∈_, NoRepeat, here, no-longer, length-rising, without-first}
 use Rattle.theory.specs.Programs.{mem-everyone}
 use Rattle.theory.specs.Loose.{Loose, Counts}
 use Rattle.theory.specs.Settling.{Admitted, admit-held, run-one, run-stop}

@@ -9,12 +9,12 @@ use lib.ListN.{length, getD, set}
 use lib.Seq.{getD-set-same, getD-set-other, ext-getD}
 use lib.Dec.{eqb}
 use borrow.Author.Tests.{eqb-true, eqb-false}
-use Rattle.files.proofs.Tests.{by-test}
+use Rattle.laws.specs.Tests.{by-test}
 use Rattle.rules.specs.declared.Board.{Board}
 use Rattle.rules.specs.Boards.{at, isWaiting, passedBy, tallied}
 use Rattle.theory.specs.Counts.{tallied-at}
 use Rattle.theory.specs.Sizes.{tallied-32}
-use Rattle.tables.specs.Tables.{inPlace}
+use Rattle.tables.specs.Sets.{inPlace}
 use Rattle.settling.specs.Writing.{CountsFew}
 
 -- the count of p is 8

@@ -10,24 +10,24 @@ use lib.Dec.{eqb}
 use lib.ListN.{length, getD, set, drop}
 use lib.Seq.{getD-set-same, getD-set-other}
 use borrow.Author.Tests.{eqb-true, eqb-false}
-use Rattle.files.proofs.Tests.{by-test}
+use Rattle.laws.specs.Tests.{by-test}
+use Rattle.rules.specs.declared.Standing.{Standing}
 use Rattle.rules.specs.declared.Program.{Program}
 use Rattle.rules.specs.declared.Board.{Board}
 use Rattle.rules.specs.declared.Word.{Word}
 use Rattle.rules.specs.declared.Line.{Line}
-use Rattle.rules.specs.Lists.{all, names, padded, without}
-use Rattle.rules.specs.Boards.{noProgram, at, awaited, awaitedOf, isProgram, isAdmitted, opening}
+use Rattle.laws.specs.Lists.{all, names, without}
+use Rattle.rules.specs.Boards.{noProgram, at, awaited, awaitedOf, isProgram, isAdmitted, setProgram, setWaiting, setFavour, setStanding, uncount, opening}
 use Rattle.rules.specs.Orders.{withGiven, canGive}
 use Rattle.rules.specs.Settling.{line, unfavour, resume, tryGive, pass}
-use Rattle.theory.specs.Lists.{_∈_, Pairs, here, each-all}
-use Rattle.theory.specs.Programs.{Is, of-is, Sized}
+use Rattle.laws.specs.Laws.{_∈_, Pairs, here, each-all}
+use Rattle.theory.specs.Programs.{Is, of-is, Sized, standing-same}
 use Rattle.theory.specs.Loose.{Loose, waiting-in}
 use Rattle.tables.specs.declared.ProgramSet.{ProgramSet}
-use Rattle.tables.specs.Tables.{SetsOf}
-use Rattle.tables.specs.Claims.{givenAt}
-use Rattle.tables.proofs.Given.{packed-same, Given, opening-given, sets-given}
+use Rattle.tables.specs.Sets.{SetsOf, givenAt}
+use Rattle.tables.proofs.Given.{packed-same, sets-given}
 use Rattle.search.specs.declared.Uses.{Uses}
-use Rattle.search.specs.Rows.{admits, admittedSet}
+use Rattle.tables.specs.Boards.{admits, admittedSet}
 use Rattle.search.specs.Gives.{usesOf, usesIn}
 use Rattle.lines.proofs.Laws.{names-on, names-end}
 use Rattle.settling.specs.declared.Written.{Written}
@@ -36,15 +36,9 @@ use Rattle.settling.proofs.Laws.{PassAt, pass-to, pass-range, pass-next
 
 -- the board with the waiter p given f
 abbrev pub givenTo : Board → ℕ → ℕ → Board
-givenTo c p f = record {
-  programs = set (c .programs) (p - 1) (serve (at c p) f);
-  waiting = padded 0 (without p (names (c .waiting)));
-  entry = c .entry;
-  favoured = cond (eqb (c .favoured) p) 0 (c .favoured);
-  initial = cond (eqb (c .favoured) p) 0 (c .initial);
-  leaves = cond (eqb (c .favoured) p) 0 (c .leaves);
-  passed = set (c .passed) (p - 1) 0;
-}
+givenTo c p f = let n : ℕ → ℕ = (λ k. cond (eqb (c .favoured) p) 0 k) in
+    uncount (setFavour (setWaiting (setProgram c p (serve (at c p) f)) (without p (names (c .waiting))))
+    (n (c .favoured)) (n (c .initial)) (n (c .leaves))) p
 
 abbrev pub stateOf : Board → List Line → ℕ → Written
 stateOf c ls n = record { board = c; lines = ls; count = n }
@@ -71,7 +65,7 @@ module _ (c : Board) (p f : ℕ) (z : Sized (c .programs)) (i : Is p) where
   given-is = let h = place in
       rw (
         set-set (c .programs) (p - 1) (opening (at c p) f)
-            (record { writable = getD (set (c .programs) (p - 1) (opening (at c p) f)) (p - 1) noProgram .writable; readable = getD (set (c .programs) (p - 1) (opening (at c p) f)) (p - 1) noProgram .readable; writing = getD (set (c .programs) (p - 1) (opening (at c p) f)) (p - 1) noProgram .writing; reading = getD (set (c .programs) (p - 1) (opening (at c p) f)) (p - 1) noProgram .reading; standing = serve (at c p) f .standing }),
+            (setStanding (getD (set (c .programs) (p - 1) (opening (at c p) f)) (p - 1) noProgram) Standing.Running),
         getD-set-same (c .programs) (p - 1) (opening (at c p) f) noProgram (omega arith),
       )
       (by-test (eqb (c .favoured) p) (λ t. rw t) (λ t. rw t))
@@ -91,11 +85,8 @@ module _ (c : Board) (p f : ℕ) (z : Sized (c .programs)) (i : Is p) where
 
 -- ---- the sets, with a file given
 
-serve-given : (q : Program) (f : ℕ) → Given q (serve q f) f
-serve-given q f = let k = opening-given q f in record { v = k .v; q′ = k .q′; w = k .w; r = k .r }
-
-sets-served : (c : Board) (p f : ℕ) (sets : List ℕ) → Sized (c .programs) → Is p → SetsOf c sets → SetsOf (givenTo c p f) (givenAt sets (p - 1) f)
-sets-served c p f sets z i s = sets-given c (givenTo c p f) (serve (at c p) f) p f sets z i refl (serve-given (at c p) f) s
+sets-served : (c : Board) (p f : ℕ) (sets : List ℕ) → Sized (c .programs) → Is p → SetsOf c sets → SetsOf (givenTo c p f) (givenAt sets p f)
+sets-served c p f sets z i s = sets-given c (givenTo c p f) (serve (at c p) f) p f sets z i refl (standing-same (opening (at c p) f) Standing.Running) s
 
 -- ---- the pass, with the arrays
 
@@ -169,10 +160,10 @@ module _ (w s : Written) (l asked sets : List ℕ) (u : Uses) (j : ℕ) (a : Fou
   size = ready .0 .base .size
 
   -- the waiter is given its file
-  pub give-next : (v : Uses) → v ≡ usesIn (u .admitted) (givenAt sets (getD l j 0 - 1) (getD asked (getD l j 0 - 1) 0))
+  pub give-next : (v : Uses) → v ≡ usesIn (u .admitted) (givenAt sets (getD l j 0) (getD asked (getD l j 0 - 1) 0))
       → At w l asked (j + 1) (stateOf (givenTo (s .board) (getD l j 0) (getD asked (getD l j 0 - 1) 0))
       (set (s .lines) (s .count) (line Word.Given (getD l j 0) (getD asked (getD l j 0 - 1) 0))) (s .count + 1))
-      (givenAt sets (getD l j 0 - 1) (getD asked (getD l j 0 - 1) 0)) v
+      (givenAt sets (getD l j 0) (getD asked (getD l j 0 - 1) 0)) v
   give-next v e = record {
     passed = pass-next w s l j (omega arith) ne pass-at _
         (ap (λ (g : ℕ). stateOf (givenTo (s .board) (getD l j 0) g) (set (s .lines) (s .count) (line Word.Given (getD l j 0) g)) (s .count + 1))
@@ -181,7 +172,7 @@ module _ (w s : Written) (l asked sets : List ℕ) (u : Uses) (j : ℕ) (a : Fou
         (given-is (s .board) (getD l j 0) (awaited (s .board) (getD l j 0)) size is)
         ∙ give-some s (s .board) (getD l j 0) (awaited (s .board) (getD l j 0)) can);
     sets-are = sets-served (s .board) (getD l j 0) (getD asked (getD l j 0 - 1) 0) sets size is (a .here .sets-are);
-    uses-are = e ∙ ap (λ (y : ProgramSet). usesIn y (givenAt sets (getD l j 0 - 1) (getD asked (getD l j 0 - 1) 0)))
+    uses-are = e ∙ ap (λ (y : ProgramSet). usesIn y (givenAt sets (getD l j 0) (getD asked (getD l j 0 - 1) 0)))
         (ap (λ (y : Uses). y .admitted) (a .here .uses-are)
         ∙ sym (admitted-given (s .board) (getD l j 0) (getD asked (getD l j 0 - 1) 0) size is admitted));
     asks = rw (add-one j) (asks-given (s .board) (getD l j 0) (getD asked (getD l j 0 - 1) 0) size is (names (drop (suc j) l)) asked ready asks-here);

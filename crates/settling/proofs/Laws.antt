@@ -12,20 +12,20 @@ use lib.ListN.{length, getD, set, drop, length-append}
 use lib.Seq.{sets, getD-set-same, getD-set-other}
 use lib.Dec.{eqb}
 use borrow.Author.Tests.{eq-eqb, ne-eqb, eqb-true, eqb-false}
-use Rattle.files.proofs.Tests.{by-option, by-test}
+use Rattle.laws.specs.Tests.{by-option, by-test}
 use Rattle.rules.specs.declared.Program.{Program}
 use Rattle.rules.specs.declared.Board.{Board}
 use Rattle.rules.specs.declared.Word.{Word}
-use Rattle.rules.specs.Lists.{all, first, names}
-use Rattle.rules.specs.Boards.{at, awaited, awaitedOf, isProgram, isWaiting, hasOpen}
+use Rattle.laws.specs.Lists.{all, first, names}
+use Rattle.rules.specs.Boards.{at, awaited, awaitedOf, isProgram, isWaiting}
 use Rattle.rules.specs.Orders.{withGiven, inUse, canGive}
 use Rattle.rules.specs.Settling.{Step, line, still, andThen, unfavour, resume, tryGive, pass, candidate, favour, runHeld, choose, settle}
-use Rattle.theory.specs.Lists.{_∈_, Pairs, here, each-all, first-some}
+use Rattle.laws.specs.Laws.{_∈_, Pairs, here, each-all, first-some}
 use Rattle.theory.specs.Programs.{Is, of-is}
 use Rattle.theory.specs.Loose.{waitsIn, Loose, Counts}
 use Rattle.theory.specs.Settling.{pass-passed}
 use Rattle.theory.specs.Sound.{loose-apart, loose-order, loose-waiter}
-use Rattle.tables.specs.Tables.{inPlace, SetsOf}
+use Rattle.tables.specs.Sets.{inPlace, SetsOf}
 use Rattle.search.specs.declared.Uses.{Uses}
 use Rattle.search.specs.Gives.{usesOf, usedIn, giveIn}
 use Rattle.search.proofs.Used.{used-by, give-by}
@@ -176,8 +176,8 @@ module _ (b : Board) (l : List ℕ) (k : ℕ) (h : k < length l) (ne : getD l k 
       → t ≡ giveIn sets u (getD l k 0) (getD asked (getD l k 0 - 1) 0) → t ≡ canGive b (getD l k 0) (awaited b (getD l k 0))
   waiter-can sets asked u t x z a g =
       let m = loose-waiter b (getD l k 0) (ready-at .0) (waiter-at .0) (waiter-at .1) in let e = a (getD l k 0) waiter-in in
-      give-by sets u (getD l k 0) (getD asked (getD l k 0 - 1) 0) t (waiter-range .0) (waiter-range .1) g b x z (loose-apart b (ready-at .0)) (loose-order b (ready-at .0)) (m .0) (ap (hasOpen (at b (getD l k 0))) e ∙ m .1)
-      ∙ ap (canGive b (getD l k 0)) e
+      give-by sets u (getD l k 0) (getD asked (getD l k 0 - 1) 0) t (waiter-range .0) (waiter-range .1) g b x z
+      (loose-apart b (ready-at .0)) (loose-order b (ready-at .0)) (m .0) ∙ ap (canGive b (getD l k 0)) e
 
   pub asks-left : (asked : List ℕ) → Asks b (names (drop k l)) asked → Asks b (names (drop (k + 1) l)) asked
   asks-left asked a = rw (add-one k) (λ p m. a p (subst (λ (ps : List ℕ). p ∈ ps) (sym (names-on l k h ne)) (List·Memᴰ·tail m)))
@@ -185,8 +185,7 @@ module _ (b : Board) (l : List ℕ) (k : ℕ) (h : k < length l) (ne : getD l k 
   pub waiter-used : (sets : List ℕ) (u : Uses) (f : ℕ) (t : Bool) → SetsOf b sets → u ≡ usesOf b sets
       → f ≡ awaited b (getD l k 0) → t ≡ usedIn sets u (getD l k 0) f → t ≡ inUse b (getD l k 0) (awaited b (getD l k 0))
   waiter-used sets u f t x z e g =
-      let m = loose-waiter b (getD l k 0) (ready-at .0) (waiter-at .0) (waiter-at .1) in
-      used-by sets u (getD l k 0) f t (waiter-range .0) (waiter-range .1) g b x z (loose-apart b (ready-at .0)) (ap (hasOpen (at b (getD l k 0))) e ∙ m .1) ∙ ap (inUse b (getD l k 0)) e
+      used-by sets u (getD l k 0) f t (waiter-range .0) (waiter-range .1) g b x z (loose-apart b (ready-at .0)) ∙ ap (inUse b (getD l k 0)) e
 
   pub ready-left : Ready b (names (drop (k + 1) l))
   unfolding Pairs

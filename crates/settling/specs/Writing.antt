@@ -11,14 +11,14 @@ use Rattle.rules.specs.declared.Standing.{Standing}
 use Rattle.rules.specs.declared.Program.{Program}
 use Rattle.rules.specs.declared.Board.{Board}
 use Rattle.rules.specs.declared.Word.{Word}
-use Rattle.rules.specs.Lists.{names, without}
+use Rattle.laws.specs.Lists.{names, without}
 use Rattle.rules.specs.Boards.{awaited, awaitedOf, setStanding, opening}
 use Rattle.rules.specs.Orders.{inUse, canGive}
 use Rattle.rules.specs.Settling.{Step, line, pass, admitHeld}
-use Rattle.theory.specs.Lists.{_∈_, NoRepeat}
+use Rattle.laws.specs.Laws.{_∈_, NoRepeat}
 use Rattle.theory.specs.Programs.{Is}
 use Rattle.theory.specs.Loose.{Loose, waitsIn, countIn}
-use Rattle.tables.specs.Tables.{inPlace, SetsOf}
+use Rattle.tables.specs.Sets.{inPlace, SetsOf}
 use Rattle.search.specs.declared.Uses.{Uses}
 use Rattle.search.specs.Gives.{usesOf}
 use Rattle.settling.specs.declared.Written.{Written}

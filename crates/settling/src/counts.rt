@@ -5,7 +5,7 @@ ghost use mathlib.Core.Path.{_≡_};
 ghost use mathlib.Core.Bool.{true, cond};
 ghost use mathlib.Core.Option.{Option·getD};
 ghost use Prim.Native.Nat.{_+_, _<_};
-ghost use Rattle.rules.specs.Lists.{all, names};
+ghost use Rattle.laws.specs.Lists.{all, names};
 ghost use Rattle.rules.specs.Boards.{isProgram, isWaiting, tallied};
 ghost use Rattle.rules.specs.Settling.{overdue};
 ghost use Rattle.settling.specs.Writing.{CountsFew};
@@ -49,7 +49,7 @@ pub fn oldest_overdue(b: Board) -> u8
         if p == 0 {
             return 0;
         }
-        let i = (p - 1) as usize;
+        let i = tables::boards::place_of(p);
         if b.passed[i] == 8 {
             return p;
         }

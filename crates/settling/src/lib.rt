@@ -11,7 +11,7 @@ ghost use lib.Dec.{eqb};
 ghost use mathlib.Core.Option.{Option·getD};
 ghost use Prim.Native.Nat.{_+_, _≤_, _<_};
 ghost use lib.ListN.{length, getD, set, drop};
-ghost use Rattle.rules.specs.Lists.{all, names};
+ghost use Rattle.laws.specs.Lists.{all, names};
 ghost use Rattle.rules.specs.Boards.{isProgram};
 ghost use Rattle.rules.specs.Settling.{pass, candidate, favour, runHeld, choose, settle};
 ghost use Rattle.theory.specs.Loose.{Loose, Counts};
@@ -80,7 +80,7 @@ fn next_given(sets: &[u64; 128], asked: &[u8; 32], uses: Uses, line: [u8; 32], f
         if p == 0 {
             return 32;
         }
-        let i = (p - 1) as usize;
+        let i = tables::boards::place_of(p);
         if search::gives::can_give(sets, uses, p, asked[i]) {
             return k;
         }
@@ -98,7 +98,7 @@ fn pass_line(w: Written) -> Written
     let line = c.waiting;
     let mut sets = [0u64; 128];
     let mut asked = [0u8; 32];
-    tables::take_sets(c, &mut sets);
+    tables::sets::take_sets(c, &mut sets);
     fill_asked(c, &mut asked);
     let mut uses = search::gives::uses_of(c, &sets);
     let mut lines = w.lines;
@@ -126,7 +126,7 @@ fn pass_line(w: Written) -> Written
             refusal: 0,
         };
         n += 1;
-        tables::claims::give(&mut sets, i, f);
+        tables::sets::give(&mut sets, p, f);
         let admitted = uses.admitted;
         uses = search::gives::uses_in(admitted, &sets);
         j = next_given(&sets, &asked, uses, line, j + 1);
@@ -148,7 +148,7 @@ fn oldest_unused(b: Board) -> u8
         return 0;
     }
     let mut sets = [0u64; 128];
-    tables::take_sets(b, &mut sets);
+    tables::sets::take_sets(b, &mut sets);
     let uses = search::gives::uses_of(b, &sets);
     let mut k: usize = 0;
     while k < 32 {
@@ -156,7 +156,7 @@ fn oldest_unused(b: Board) -> u8
         if p == 0 {
             return 0;
         }
-        let i = (p - 1) as usize;
+        let i = tables::boards::place_of(p);
         let q = b.programs[i];
         let s = q.standing;
         let f = s.awaited();
@@ -174,8 +174,8 @@ pub fn favour_waiter(w: Written, p: u8) -> Written
     ensures { λ r. ⌜ r ≡ after w (favour (w .board) p) ⌝ }
 {
     let b = w.board;
-    let f = search::awaited(b, p);
-    let admitted = search::admitted_count(b);
+    let f = tables::boards::awaited(b, p);
+    let admitted = tables::boards::admitted_count(b);
     let mut c = b;
     c.favoured = p;
     c.initial = admitted;
@@ -210,7 +210,7 @@ fn admit_one(w: Written, p: u8) -> Written
     let runs = q.at_standing(Standing::Running);
     let line = b.entry;
     let rest = lines::remove(line, p);
-    let mut c = search::put(b, p, runs);
+    let mut c = tables::boards::put(b, p, runs);
     c.entry = rest;
     let passed = counts::tally(c);
     c.passed = passed;

@@ -10,18 +10,17 @@ use lib.Dec.{eqb}
 use lib.ListN.{length, getD, drop, replicate, drop-of-length-le}
 use lib.Seq.{drop-cons}
 use borrow.Author.Tests.{eq-eqb, eqb-true}
-use Rattle.files.proofs.Tests.{by-test, and-left, and-right, and-true, and-false}
+use Rattle.laws.specs.Tests.{by-test, and-left, and-right, and-true, and-false}
 use Rattle.files.specs.Bits.{covers}
 use Rattle.files.specs.Sets.{isEmpty}
 use Rattle.files.proofs.Bits.{or-none, zero-share}
 use Rattle.rules.specs.declared.Standing.{Standing}
 use Rattle.rules.specs.declared.Program.{Program}
-use Rattle.rules.specs.Lists.{all, names, same, padded}
+use Rattle.laws.specs.Lists.{all, names, same, padded}
 use Rattle.rules.specs.Soundness.{setsSound, standingSound, lineSound}
 use Rattle.tables.specs.declared.ProgramSet.{ProgramSet}
 use Rattle.tables.specs.ProgramSets.{hasProgram}
 use Rattle.sound.specs.Parts.{takes}
-use Rattle.sound.proofs.Laws.{four-first, four-last}
 use Rattle.sound.proofs.Taken.{takes-is}
 
 -- x is 0
@@ -95,13 +94,12 @@ module _ (q : Program) where
 
   pub absent-no : claimsNone ≡ false → false ≡ (setsSound q && standingSound Standing.Absent q)
   unfolding standingSound
-  absent-no e = sym (ap (λ (x : Bool). setsSound q && x)
-      (sym (four-first (isEmpty (q .writable)) (isEmpty (q .readable)) (isEmpty (q .writing)) (isEmpty (q .reading)) e)) ∙ and-false (setsSound q))
+  absent-no e = sym (ap (λ (x : Bool). setsSound q && (x && opensNone)) e ∙ and-false (setsSound q))
 
   pub absent-is : claimsNone ≡ true → opensNone ≡ (setsSound q && standingSound Standing.Absent q)
   unfolding standingSound
   absent-is e =
-      let f = four-last (isEmpty (q .writable)) (isEmpty (q .readable)) (isEmpty (q .writing)) (isEmpty (q .reading)) e in
+      let f = sym (ap (λ (x : Bool). x && opensNone) e) in
       by-test opensNone
       (λ d. sym (ap (λ (x : Bool). x && standingSound Standing.Absent q) (nothing-sound q e d) ∙ sym f))
       (λ d. d ∙ sym (ap (λ (x : Bool). setsSound q && x) (sym f ∙ d) ∙ and-false (setsSound q)))

@@ -1,141 +1,96 @@
--- Laws of conflict, by the sets of a board. Assumes nothing.
-use Prim.Native.Nat.{ℕ, suc, _+_, _-_, _<_}
+-- No conflict: what each program has open does not clash with what those before it have. Assumes nothing.
+use Prim.Native.Nat.{ℕ, _+_, _-_, _≤_, _<_}
 use native.Mathlib.Omega.{arith}
-use mathlib.Core.Path.{_≡_, sym, ap, _∙_}
+use mathlib.Core.Path.{_≡_, refl, sym, ap, _∙_}
 use mathlib.Core.Logic.{_≢_}
 use mathlib.Core.Bool.{Bool, true, false, not, _&&_, _||_}
 use mathlib.Core.List.{List}
-use lib.Bits.{bitAnd}
-use lib.Dec.{eqb}
-use lib.ListN.{getD}
-use borrow.Author.Tests.{eq-eqb, ne-eqb, eqb-true, eqb-false}
-use Rattle.files.specs.Bits.{hasBit, share}
-use Rattle.files.specs.Sets.{meets, within}
-use Rattle.files.proofs.Tests.{by-test, never, or-left, or-right, and-left, and-right, no-true, not-true, true-not, same-test}
-use Rattle.files.proofs.Bits.{share-of, of-share, of-covers}
-use Rattle.rules.specs.declared.Program.{Program}
+use lib.Dec.{eqb, leb, ltb}
+use borrow.Author.Tests.{eqb-true, eqb-false, ne-eqb, leb-true, le-leb}
+use Rattle.files.specs.declared.FileSet.{FileSet}
+use Rattle.files.specs.Bits.{hasBit}
+use Rattle.files.proofs.Bits.{share-of, of-share}
+use Rattle.laws.specs.Tests.{by-test, never, no-true, true-not, and-left, and-right, and-both, or-left, or-right}
+use Rattle.laws.specs.Lists.{all}
+use Rattle.laws.specs.Laws.{all-same, all-each, each-all}
 use Rattle.rules.specs.declared.Board.{Board}
-use Rattle.rules.specs.Lists.{all}
+use Rattle.rules.specs.Modes.{Mode, Write, Read, byMode, touching}
 use Rattle.rules.specs.Boards.{everyone, at}
 use Rattle.rules.specs.Orders.{conflict}
-use Rattle.rules.specs.Soundness.{setsSound, standingSound, programSound, noConflict}
-use Rattle.theory.specs.Lists.{_∈_, all-each, each-all}
+use Rattle.rules.specs.Soundness.{noConflict}
+use Rattle.theory.specs.Modes.{by-touching, touching-by, touching-turn, touching-same}
 use Rattle.theory.specs.Programs.{Is, mem-everyone, everyone-is}
-use Rattle.theory.specs.Used.{apart-of}
-use Rattle.tables.specs.Tables.{inPlace, SetsOf, gathered}
-use Rattle.tables.proofs.Laws.{at-place}
-use Rattle.tables.proofs.Gathered.{gathered-of, of-gathered}
-use Rattle.sound.specs.Parts.{isSoundAt, ConflictFree}
+use Rattle.tables.specs.Sets.{SetsOf, openAt}
+use Rattle.tables.specs.Shared.{sharedTo}
+use Rattle.tables.proofs.Whole.{open-is}
+use Rattle.tables.proofs.Sharing.{shared-to}
+use Rattle.sound.specs.Parts.{noConflictIn}
 
--- ---- by places
+-- by the sets or on the board
+pub no-conflict-is : (b : Board) (sets : List ℕ) → SetsOf b sets → noConflictIn sets ≡ noConflict b
+unfolding noConflict
+no-conflict-is b sets s = all-same _ _ everyone (λ i m. all-same _ _ everyone (λ j k. let c = everyone-is i m in let d = everyone-is j k in
+    ap (λ (t : Bool). eqb i j || not t) (touching-same _ _ _ _ (open-is b sets s i (c .least) (c .most)) (open-is b sets s j (d .least) (d .most)))))
 
-place-in : (i : ℕ) → i < 32 → suc i ∈ everyone
-place-in i h = mem-everyone (suc i) (record { least = omega arith; most = omega arith })
+module _ (sets : List ℕ) where
+  -- what 1 to n have open in a mode
+  abbrev pub before : Mode → ℕ → ℕ
+  before m n = sharedTo (λ p. openAt sets p m) n .once
 
--- the programs at places i and j conflict
-abbrev clash : List ℕ → ℕ → ℕ → Bool
-clash l i j = share (getD l (64 + i) 0) (getD l (64 + j) 0) || share (getD l (64 + i) 0) (getD l (96 + j) 0)
-    || share (getD l (64 + j) 0) (getD l (96 + i) 0)
+  -- programs i and j do not clash
+  abbrev Apart : ℕ → ℕ → Type 0
+  Apart i j = touching (openAt sets i) (openAt sets j) ≡ false
 
--- a sound program does not read what it writes
-apart-in : (q : Program) (x : ℕ) → programSound q ≡ true → hasBit (q .writing .bits) x ≡ true
-    → hasBit (q .reading .bits) x ≡ true → ⊥
-unfolding programSound setsSound
-apart-in q x e a d =
-    let w = within (q .writing) (q .writable) in let r = within (q .reading) (q .readable) in
-    let n = not (meets (q .writable) (q .readable)) in
-    let t = and-left (w && r && n) (standingSound (q .standing) q) e in
-    never (share-of (q .writable .bits) (q .readable .bits) x
-    (of-covers (q .writing .bits) (q .writable .bits) (and-left w r (and-left (w && r) n t)) x a)
-    (of-covers (q .reading .bits) (q .readable .bits) (and-right w r (and-left (w && r) n t)) x d))
-    (not-true (meets (q .writable) (q .readable)) (and-right (w && r) n t))
+  -- none of those before p clash
+  abbrev pub ApartTo : ℕ → Type 0
+  ApartTo p = (i j : ℕ) → 1 ≤ i → i < p → 1 ≤ j → j < p → i ≢ j → Apart i j
 
-module _ (b : Board) (l : List ℕ) (s : SetsOf b l) where
-  clash-is : (i j : ℕ) → i < 32 → j < 32 → clash l i j ≡ conflict (inPlace b i) (inPlace b j)
-  clash-is i j h k = rw (s .1 i h .2, s .1 i h .3, s .1 j k .2, s .1 j k .3)
+  module _ (p : ℕ) (v q : FileSet) (a : v .bits ≡ before Write (p - 1)) (b : q .bits ≡ before Read (p - 1)) where
+    is-before : (m : Mode) → byMode v q m .bits ≡ before m (p - 1)
+    is-before Write = a
+    is-before Read = b
 
-  -- no conflict is none by places
-  no-clash : noConflict b ≡ true → (i j : ℕ) → i < 32 → j < 32 → i ≢ j → clash l i j ≡ false
-  no-clash e i j h k n = clash-is i j h k ∙ rw (at-place b i, at-place b j) at
-      (apart-of b (suc i) (suc j) e (place-in i h) (place-in j k) (λ d. n (omega arith)))
+    -- p clashes with those before it exactly if it does with one of them
+    pub clash-some : touching (openAt sets p) (byMode v q) ≡ true → (j : ℕ) × (1 ≤ j) × (j < p) × (touching (openAt sets p) (openAt sets j) ≡ true)
+    clash-some e = by-touching (openAt sets p) (byMode v q) e (λ m n c u.
+        let (x, d, f) = of-share (openAt sets p m .bits) (byMode v q n .bits) u in
+        let (j, t, g) = shared-to (λ i. openAt sets i n) (p - 1) .once-is x .0
+        (ap (λ (y : ℕ). hasBit y x) (sym (is-before n)) ∙ f) in
+        let l = leb-true 1 j (and-left (leb 1 j) (leb j (p - 1)) t) in let h = leb-true j (p - 1) (and-right (leb 1 j) (leb j (p - 1)) t) in
+        (j, l, omega arith, touching-by _ _ m n c (share-of (openAt sets p m .bits) (openAt sets j n .bits) x d g)))
 
-  clash-none : ((i j : ℕ) → i < 32 → j < 32 → i ≢ j → clash l i j ≡ false) → noConflict b ≡ true
-  unfolding noConflict
-  clash-none f = each-all (λ i. all (λ j. eqb i j || not (conflict (at b i) (at b j))) everyone) everyone (λ i m.
-      each-all (λ j. eqb i j || not (conflict (at b i) (at b j))) everyone (λ j k. one i j (everyone-is i m) (everyone-is j k)))
-    where
-      one : (i j : ℕ) → Is i → Is j → eqb i j || not (conflict (at b i) (at b j)) ≡ true
-      one i j c d = let x = c .least in let y = c .most in let u = d .least in let v = d .most in by-test (eqb i j)
-          (λ t. or-left (eqb i j) (not (conflict (at b i) (at b j))) t)
-          (λ t. let n : i ≢ j = eqb-false i j t in
-          or-right (eqb i j) (not (conflict (at b i) (at b j))) (true-not (conflict (at b i) (at b j))
-          (sym (clash-is (i - 1) (j - 1) (omega arith) (omega arith)) ∙ f (i - 1) (j - 1) (omega arith) (omega arith) (omega arith))))
+    pub some-clash : (j : ℕ) → 1 ≤ j → j < p → touching (openAt sets p) (openAt sets j) ≡ true → touching (openAt sets p) (byMode v q) ≡ true
+    some-clash j l h e = by-touching (openAt sets p) (openAt sets j) e (λ m n c u.
+        let (x, d, f) = of-share (openAt sets p m .bits) (openAt sets j n .bits) u in
+        touching-by _ (byMode v q) m n c (share-of (openAt sets p m .bits) (byMode v q n .bits) x d
+        (ap (λ (y : ℕ). hasBit y x) (is-before n) ∙ shared-to (λ i. openAt sets i n) (p - 1) .once-is x .1
+        (j, and-both (leb 1 j) (leb j (p - 1)) (le-leb 1 j l) (le-leb j (p - 1) (omega arith)), f))))
 
-  own-apart : all (isSoundAt b) everyone ≡ true → (i x : ℕ) → i < 32 → hasBit (getD l (64 + i) 0) x ≡ true
-      → hasBit (getD l (96 + i) 0) x ≡ true → ⊥
-  own-apart e i x h a d = apart-in (inPlace b i) x (rw (at-place b i) at (all-each (isSoundAt b) everyone e (suc i) (place-in i h)))
-      (ap (λ (m : ℕ). hasBit m x) (sym (s .1 i h .2)) ∙ a) (ap (λ (m : ℕ). hasBit m x) (sym (s .1 i h .3)) ∙ d)
+    -- p clashes with none before it
+    pub apart-more : ApartTo p → touching (openAt sets p) (byMode v q) ≡ false → ApartTo (p + 1)
+    apart-more f e i j l h k n d = by-test (eqb i p)
+        (λ t. let z : i ≡ p = eqb-true i p t in rw z (apart-from j k (omega arith)))
+        (λ t. let u : i ≢ p = eqb-false i p t in by-test (eqb j p)
+        (λ t. let z : j ≡ p = eqb-true j p t in rw z (touching-turn (openAt sets i) (openAt sets p) ∙ apart-from i l (omega arith)))
+        (λ t. let x : j ≢ p = eqb-false j p t in f i j l (omega arith) k (omega arith) d))
+      where
+        apart-from : (j : ℕ) → 1 ≤ j → j < p → Apart p j
+        apart-from j l h = no-true _ (λ t. never (some-clash j l h t) e)
 
--- ---- one program after another
+    -- or with one: there is a conflict
+    pub apart-fails : 1 ≤ p → p ≤ 32 → touching (openAt sets p) (byMode v q) ≡ true → noConflictIn sets ≡ false
+    apart-fails l h e = no-true _ (λ t. let (j, k, n, u) = clash-some e in
+        let row = all-each (λ i. all (λ j. eqb i j || not (touching (openAt sets i) (openAt sets j))) everyone) everyone t p
+        (mem-everyone p (record { least = l; most = h })) in
+        let one = all-each (λ j. eqb p j || not (touching (openAt sets p) (openAt sets j))) everyone row j
+        (mem-everyone j (record { least = k; most = omega arith })) in
+        let d : p ≢ j = omega arith in
+        never {t = eqb p j || not (touching (openAt sets p) (openAt sets j))} one (rw (u, ne-eqb p j d)))
 
-shares : (a b : ℕ) → bitAnd a b ≢ 0 → share a b ≡ true
-shares a b n = rw (ne-eqb (bitAnd a b) 0 n)
-
-shares-not : (a b : ℕ) → bitAnd a b ≡ 0 → share a b ≡ false
-shares-not a b e = rw (eq-eqb (bitAnd a b) 0 e)
-
--- no two of the first n programs write a file
-abbrev pub ApartTo : List ℕ → ℕ → Type 0
-ApartTo l n = (i j x : ℕ) → i < n → j < n → i ≢ j → hasBit (getD l (64 + i) 0) x ≡ true → hasBit (getD l (64 + j) 0) x ≡ true → ⊥
-
-module _ (l : List ℕ) (n m : ℕ) (g : m ≡ gathered l 64 n) where
-  pub apart-more : ApartTo l n → bitAnd (getD l (64 + n) 0) m ≡ 0 → ApartTo l (n + 1)
-  apart-more f e i j x h k d u v = by-test (eqb i n)
-      (λ t. let z : i ≡ n = eqb-true i n t in meet j (omega arith) (ap (λ (y : ℕ). hasBit (getD l (64 + y) 0) x) (sym z) ∙ u) v)
-      (λ t. let w : i ≢ n = eqb-false i n t in by-test (eqb j n)
-      (λ t. let z : j ≡ n = eqb-true j n t in meet i (omega arith) (ap (λ (y : ℕ). hasBit (getD l (64 + y) 0) x) (sym z) ∙ v) u)
-      (λ t. let z : j ≢ n = eqb-false j n t in f i j x (omega arith) (omega arith) d u v))
-    where
-      meet : (j : ℕ) → j < n → hasBit (getD l (64 + n) 0) x ≡ true → hasBit (getD l (64 + j) 0) x ≡ true → ⊥
-      meet j h u v = never (share-of (getD l (64 + n) 0) m x u (ap (λ (y : ℕ). hasBit y x) g ∙ gathered-of l 64 n j x h v))
-          (shares-not (getD l (64 + n) 0) m e)
-
-  -- a file that the next one writes too
-  pub apart-fails : n < 32 → bitAnd (getD l (64 + n) 0) m ≢ 0 → ConflictFree l false
-  apart-fails h d b s e = sym (no-true (noConflict b) (λ t.
-      let (x, u, v) = of-share (getD l (64 + n) 0) m (shares (getD l (64 + n) 0) m d) in
-      let (j, k, w) = of-gathered l 64 n x (ap (λ (y : ℕ). hasBit y x) (sym g) ∙ v) in
-      never (or-left (share (getD l (64 + n) 0) (getD l (64 + j) 0) || share (getD l (64 + n) 0) (getD l (96 + j) 0))
-      (share (getD l (64 + j) 0) (getD l (96 + n) 0))
-      (or-left (share (getD l (64 + n) 0) (getD l (64 + j) 0)) (share (getD l (64 + n) 0) (getD l (96 + j) 0))
-      (share-of (getD l (64 + n) 0) (getD l (64 + j) 0) x u w)))
-      (no-clash b l s t n j h (omega arith) (omega arith))))
-
--- all programs: what is written and what is read
-pub apart-done : (l : List ℕ) (w r : ℕ) → w ≡ gathered l 64 32 → r ≡ gathered l 96 32 → ApartTo l 32
-    → ConflictFree l (eqb (bitAnd w r) 0)
-apart-done l w r g q f b s e = same-test (eqb (bitAnd w r) 0) (noConflict b)
-    (λ t. clash-none b l s (λ i j h k n. none (share (getD l (64 + i) 0) (getD l (64 + j) 0))
-    (share (getD l (64 + i) 0) (getD l (96 + j) 0)) (share (getD l (64 + j) 0) (getD l (96 + i) 0))
-    (no-true (share (getD l (64 + i) 0) (getD l (64 + j) 0)) (λ u.
-    let (x, a, d) = of-share (getD l (64 + i) 0) (getD l (64 + j) 0) u in f i j x h k n a d)) (apart t i j h k) (apart t j i k h)))
-    (λ t. by-test (eqb (bitAnd w r) 0) (λ u. u) (λ u.
-    let (x, a, d) = of-share w r (shares w r (eqb-false (bitAnd w r) 0 u)) in
-    let (i, h, y) = of-gathered l 64 32 x (ap (λ (m : ℕ). hasBit m x) (sym g) ∙ a) in
-    let (j, k, z) = of-gathered l 96 32 x (ap (λ (m : ℕ). hasBit m x) (sym q) ∙ d) in
-    by-test (eqb i j)
-    (λ o. absurd (own-apart b l s e i x h y (ap (λ (m : ℕ). hasBit (getD l (96 + m) 0) x) (eqb-true i j o) ∙ z)))
-    (λ o. never (or-left (share (getD l (64 + i) 0) (getD l (64 + j) 0) || share (getD l (64 + i) 0) (getD l (96 + j) 0))
-    (share (getD l (64 + j) 0) (getD l (96 + i) 0))
-    (or-right (share (getD l (64 + i) 0) (getD l (64 + j) 0)) (share (getD l (64 + i) 0) (getD l (96 + j) 0))
-    (share-of (getD l (64 + i) 0) (getD l (96 + j) 0) x y z)))
-    (no-clash b l s t i j h k (eqb-false i j o)))))
-  where
-    none : (a b c : Bool) → a ≡ false → b ≡ false → c ≡ false → a || b || c ≡ false
-    none a b c x y z = rw (x, y, z)
-
-    apart : eqb (bitAnd w r) 0 ≡ true → (i j : ℕ) → i < 32 → j < 32 → share (getD l (64 + i) 0) (getD l (96 + j) 0) ≡ false
-    apart t i j h k = no-true (share (getD l (64 + i) 0) (getD l (96 + j) 0)) (λ u.
-        let (x, a, d) = of-share (getD l (64 + i) 0) (getD l (96 + j) 0) u in
-        never (share-of w r x (ap (λ (m : ℕ). hasBit m x) g ∙ gathered-of l 64 32 i x h a)
-        (ap (λ (m : ℕ). hasBit m x) q ∙ gathered-of l 96 32 j x k d)) (shares-not w r (eqb-true (bitAnd w r) 0 t)))
+  -- all have been asked
+  pub apart-all : ApartTo 33 → noConflictIn sets ≡ true
+  apart-all f = each-all _ everyone (λ i m. each-all _ everyone (λ j k. let c = everyone-is i m in let d = everyone-is j k in
+      let a = c .least in let x = c .most in let y = d .least in let z = d .most in by-test (eqb i j)
+      (λ t. or-left (eqb i j) (not (touching (openAt sets i) (openAt sets j))) t)
+      (λ t. or-right (eqb i j) (not (touching (openAt sets i) (openAt sets j)))
+      (true-not (touching (openAt sets i) (openAt sets j)) (f i j a (omega arith) y (omega arith) (eqb-false i j t))))))

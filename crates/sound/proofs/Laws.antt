@@ -1,31 +1,21 @@
 -- Laws of the parts of soundness. Assumes nothing.
 use mathlib.Core.Path.{_≡_, refl, sym, _∙_}
 use mathlib.Core.Logic.{_≢_}
-use mathlib.Core.Bool.{Bool, true, false, not, _&&_, _||_}
+use mathlib.Core.Bool.{or-false, true, false, not, _&&_, _||_}
 use mathlib.Core.List.{List}
 use Prim.Native.Nat.{ℕ, suc, _≤_, _<_}
 use lib.ListN.{length, getD, drop}
 use borrow.Author.Tests.{lt-leb, le-leb, ne-eqb}
-use Rattle.files.proofs.Tests.{never, and-left, and-right, or-right}
+use Rattle.laws.specs.Tests.{and-left, and-right, or-right}
 use Rattle.rules.specs.declared.Standing.{Standing}
 use Rattle.rules.specs.declared.Board.{Board}
-use Rattle.rules.specs.Lists.{all, listed, distinct, same, names, padded}
+use Rattle.laws.specs.Lists.{all, listed, distinct, same, names, padded}
 use Rattle.rules.specs.Soundness.{lineSound}
 use Rattle.rules.specs.Boards.{isProgram, isWaiting, everyone, at}
 use Rattle.theory.specs.Loose.{waiting-in}
 use Rattle.lines.proofs.Laws.{all-names-on, program-range}
-use Rattle.search.specs.Rows.{admits}
+use Rattle.tables.specs.Boards.{admits}
 use Rattle.sound.specs.Parts.{standsAt, rightName, countFits}
-
-pub four-first : (s t u v : Bool) → (s && t) ≡ false → false ≡ (s && t && u && v)
-four-first true true u v e = sym (never refl e)
-four-first true false u v e = refl
-four-first false t u v e = refl
-
-pub four-last : (s t u v : Bool) → (s && t) ≡ true → (u && v) ≡ (s && t && u && v)
-four-last true true u v e = refl
-four-last true false u v e = never e refl
-four-last false t u v e = never e refl
 
 -- a name of a line of waiting programs is that of an admitted program
 pub waiter-named : (b : Board) (l : List ℕ) (k : ℕ) → k < length l → getD l k 0 ≢ 0 → all (rightName b false) (names (drop k l)) ≡ true
@@ -55,8 +45,4 @@ pub count-above : (s : Standing) (n : ℕ) → 8 < n → false ≡ countFits s n
 count-above s n h = rw (lt-leb n 8 h)
 
 pub count-waits : (s : Standing) (n : ℕ) → n ≢ 0 → n ≤ 8 → isWaiting s ≡ countFits s n
-count-waits s n ne h = rw (le-leb n 8 h, ne-eqb n 0 ne) (sym (or-none (isWaiting s)))
-  where
-    or-none : (t : Bool) → t || false ≡ t
-    or-none true = refl
-    or-none false = refl
+count-waits s n ne h = rw (le-leb n 8 h, ne-eqb n 0 ne) (sym (or-false (isWaiting s)))

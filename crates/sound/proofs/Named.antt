@@ -10,8 +10,8 @@ use lib.Dec.{eqb}
 use lib.ListN.{length, getD, drop, replicate}
 use lib.Seq.{drop-cons}
 use borrow.Author.Tests.{eq-eqb, ne-eqb, eqb-true, eqb-false}
-use Rattle.files.proofs.Tests.{by-test}
-use Rattle.rules.specs.Lists.{keep, names, same, padded}
+use Rattle.laws.specs.Tests.{by-test}
+use Rattle.laws.specs.Lists.{keep, names, same, padded}
 use Rattle.sound.specs.Parts.{isName}
 
 -- one place more
@@ -37,7 +37,8 @@ after-names : (l : List ℕ) → eqb (length (keep isName l)) (length (names l))
 unfolding keep names same
 after-names [] = refl
 after-names (x ∷ l) = by-test (eqb x 0)
-    (λ t. let z : suc (length l) - 0 ≡ suc (length l) = omega arith in rw (t, z) (none-named l ∙ ap (λ (y : Bool). y && same l (replicate (length l) 0)) (sym t)))
+    (λ t. let z : suc (length l) - 0 ≡ suc (length l) = omega arith in
+    rw (t, z) (none-named l ∙ ap (λ (y : Bool). y && same l (replicate (length l) 0)) (sym t)))
     (λ t. let z : suc (length l) - suc (length (names l)) ≡ length l - length (names l) = omega arith in
     rw (t, z, eq-eqb x x refl) (eqb-suc (length (keep isName l)) (length (names l)) ∙ after-names l))
 

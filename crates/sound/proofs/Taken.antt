@@ -11,14 +11,14 @@ use lib.Dec.{eqb}
 use lib.ListN.{length, getD, drop}
 use borrow.Author.Tests.{eq-eqb, eqb-true, eqb-false}
 use Rattle.files.specs.Bits.{hasBit, isNumber, hasNumber, withoutNumber}
-use Rattle.files.proofs.Tests.{by-test, never, or-cases, or-left, or-right, and-left, and-right, and-both, no-true, not-true, true-not}
-use Rattle.files.proofs.Tests.{same-test}
+use Rattle.laws.specs.Tests.{by-test, never, or-cases, or-left, or-right, and-left, and-right, and-both, no-true, not-true, true-not}
+use Rattle.laws.specs.Tests.{same-test}
 use Rattle.files.proofs.Bits.{zero-has, has-number, numbers-same, without-number-same, without-number-other}
-use Rattle.rules.specs.Lists.{any, all, keep, listed, distinct, same, names, padded}
+use Rattle.laws.specs.Lists.{any, all, keep, listed, distinct, same, names, padded}
 use Rattle.rules.specs.Boards.{isProgram, everyone}
 use Rattle.rules.specs.Soundness.{lineSound}
-use Rattle.theory.specs.Lists.{_∈_, Pairs, NoRepeat, by-mem, here, all-each, each-all, listed-mem, mem-listed, distinct-once, once-distinct}
-use Rattle.theory.specs.Lists.{keep-mem, mem-keep, no-longer, Pairs-keep, Pairs-map, rising-pairs}
+use Rattle.laws.specs.Laws.{_∈_, Pairs, NoRepeat, by-mem, here, all-each, each-all, listed-mem, mem-listed, distinct-once, once-distinct}
+use Rattle.laws.specs.Laws.{any-same, all-same, keep-mem, mem-keep, no-longer, Pairs-keep, Pairs-map, rising-pairs}
 use Rattle.theory.specs.Programs.{is-of, of-is, mem-everyone, everyone-is}
 use Rattle.tables.specs.declared.ProgramSet.{ProgramSet}
 use Rattle.tables.specs.ProgramSets.{hasProgram, withoutProgram}
@@ -132,15 +132,6 @@ packed-any t = any-same t (λ p. hasProgram (packed t 32) p && t p) everyone (λ
     twice : {a : Bool} (b : Bool) → a ≡ b → a && b ≡ b
     twice true e = rw e
     twice false e = rw e
-
-    any-same : (s t : ℕ → Bool) (l : List ℕ) → ((p : ℕ) → p ∈ l → s p ≡ t p) → any s l ≡ any t l
-    any-same s t [] f = refl
-    any-same s t (x ∷ l) f = ap₂ (λ (a b : Bool). a || b) (f x here) (any-same s t l (λ p m. f p (List·Memᴰ·tail m)))
-
-all-same : (s t : ℕ → Bool) (l : List ℕ) → ((p : ℕ) → p ∈ l → s p ≡ t p) → all s l ≡ all t l
-unfolding all
-all-same s t [] f = refl
-all-same s t (x ∷ l) f = ap₂ (λ (a b : Bool). a && b) (f x here) (all-same s t l (λ p m. f p (List·Memᴰ·tail m)))
 
 -- a line is sound with the set if it is with the test
 pub line-packed : (l : List ℕ) (t : ℕ → Bool) → lineSound l (hasProgram (packed t 32)) ≡ lineSound l t

@@ -1,7 +1,9 @@
 // The test of a sound board.
+use files::FileSet;
 use rules::Board;
 use rules::Program;
 use rules::Standing;
+use rules::modes;
 use search::Order;
 use search::Uses;
 use tables::ProgramSet;
@@ -11,16 +13,16 @@ ghost use Prim.Native.Nat.{_≤_};
 ghost use lib.Dec.{eqb};
 ghost use lib.ListN.{length};
 ghost use Rattle.files.specs.Sets.{isEmpty};
-ghost use Rattle.rules.specs.Lists.{all, found, keep, names};
+ghost use Rattle.laws.specs.Lists.{all, found, keep, names};
 ghost use Rattle.rules.specs.Boards.{everyone};
 ghost use Rattle.rules.specs.Orders.{carried};
-ghost use Rattle.rules.specs.Soundness.{setsSound, standingSound, programSound, lineSound, noneFavoured};
-ghost use Rattle.rules.specs.Soundness.{someFavoured, countSound, sound};
+ghost use Rattle.rules.specs.Soundness.{setsSound, standingSound, programSound, lineSound, noneFavoured, someFavoured, countSound, sound};
 ghost use Rattle.tables.specs.ProgramSets.{hasProgram};
-ghost use Rattle.tables.specs.Tables.{SetsOf};
-ghost use Rattle.search.specs.Rows.{asOrder, admittedSet};
-ghost use Rattle.search.specs.Gives.{usesOf};
-ghost use Rattle.sound.specs.Parts.{isName, stands, rightName, standSet, takes, isSoundAt, ConflictFree, waiterAt, Known, WaiterFor, countFits};
+ghost use Rattle.tables.specs.Sets.{SetsOf};
+ghost use Rattle.tables.specs.Boards.{admittedSet};
+ghost use Rattle.search.specs.Rows.{asOrder};
+ghost use Rattle.search.specs.Gives.{usesIn};
+ghost use Rattle.sound.specs.Parts.{isName, stands, rightName, standSet, takes, isSoundAt, noConflictIn, waiterAt, Known, WaiterFor, countFits};
 
 // Whether a board is sound, and its carried order.
 pub struct Judged {
@@ -115,23 +117,26 @@ fn programs_sound(b: Board) -> bool
     true
 }
 
-// No two different programs conflict: no file is written by two, and none is written and read.
+// No two different programs conflict: what each has open does not clash with what those before it have.
 fn no_conflict(sets: &[u64; 128]) -> bool
-    ensures { λ r. ⌜ ConflictFree (now (sets .entry)) r ⌝ }
+    ensures { λ r. ⌜ r ≡ noConflictIn (now (sets .entry)) ⌝ }
 {
     let mut written: u64 = 0;
     let mut read: u64 = 0;
-    let mut i: usize = 0;
-    while i < 32 {
-        let w = sets[64 + i];
-        if w & written != 0 {
+    let mut p: u8 = 1;
+    while p <= 32 {
+        let w = tables::sets::writing(sets, p);
+        let r = tables::sets::reading(sets, p);
+        let v = FileSet { bits: written };
+        let q = FileSet { bits: read };
+        if modes::touches(w, r, v, q) {
             return false;
         }
-        written = written | w;
-        read = read | sets[96 + i];
-        i += 1;
+        written = written | w.bits;
+        read = read | r.bits;
+        p += 1;
     }
-    written & read == 0
+    true
 }
 
 // Whether the standing is held, or else waiting.
@@ -257,7 +262,7 @@ fn waiters_sound(b: Board, sets: &[u64; 128], uses: Uses, line: [u8; 32]) -> boo
         if p == 0 {
             return true;
         }
-        let i = (p - 1) as usize;
+        let i = tables::boards::place_of(p);
         let q = b.programs[i];
         let s = q.standing;
         let f = s.awaited();
@@ -267,6 +272,18 @@ fn waiters_sound(b: Board, sets: &[u64; 128], uses: Uses, line: [u8; 32]) -> boo
         k += 1;
     }
     true
+}
+
+// The same by who is admitted; what is open is asked only where somebody waits.
+fn line_waiters(b: Board, sets: &[u64; 128], admitted: ProgramSet, line: [u8; 32]) -> bool
+    requires { ⌜ Known b (now sets) (usesIn admitted (now sets)) × (all (rightName b false) (names line) ≡ true) ⌝ }
+    ensures { λ r. ⌜ r ≡ all (waiterAt b) (names line) ⌝ }
+{
+    if line[0] == 0 {
+        return true;
+    }
+    let uses = search::gives::uses_in(admitted, sets);
+    waiters_sound(b, sets, uses, line)
 }
 
 // Nobody favoured: nobody held, and both numbers 0.
@@ -346,12 +363,12 @@ fn favour_sound(b: Board, waiters: ProgramSet, held: ProgramSet, admitted: Progr
 fn is_sound_by(
     b: Board,
     sets: &[u64; 128],
-    uses: Uses,
+    admitted: ProgramSet,
     ordered: bool,
     waiters: ProgramSet,
     held: ProgramSet,
 ) -> bool
-    requires { ⌜ SetsOf b (now sets) × (uses ≡ usesOf b (now sets)) × (ordered ≡ found (carried b)) × (waiters ≡ standSet b false) × (held ≡ standSet b true) ⌝ }
+    requires { ⌜ SetsOf b (now sets) × (admitted ≡ admittedSet b) × (ordered ≡ found (carried b)) × (waiters ≡ standSet b false) × (held ≡ standSet b true) ⌝ }
     ensures { λ r. ⌜ r ≡ sound b ⌝ }
 {
     if !programs_sound(b) {
@@ -371,10 +388,9 @@ fn is_sound_by(
     if !line_sound(entry, held) {
         return false;
     }
-    if !waiters_sound(b, sets, uses, waiting) {
+    if !line_waiters(b, sets, admitted, waiting) {
         return false;
     }
-    let admitted = uses.admitted;
     if !favour_sound(b, waiters, held, admitted) {
         return false;
     }
@@ -387,14 +403,13 @@ pub fn judge(b: Board) -> Judged
 {
     let mut sets = [0u64; 128];
     let mut rows = [0u32; 32];
-    let admitted = search::admitted_set(b);
+    let admitted = tables::boards::admitted_set(b);
     tables::fill(b, admitted, &mut sets, &mut rows);
-    let uses = search::gives::uses_in(admitted, &sets);
     let order = search::order_in(&rows, admitted);
     let ordered = search::is_found(order);
     let waiters = standing_set(b, false);
     let held = standing_set(b, true);
-    let sound = is_sound_by(b, &sets, uses, ordered, waiters, held);
+    let sound = is_sound_by(b, &sets, admitted, ordered, waiters, held);
     Judged { sound, order }
 }
 

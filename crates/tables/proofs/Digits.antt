@@ -11,10 +11,10 @@ use lib.Count.{ones, ones-step, trailingZeros, under}
 use lib.Dec.{eqb}
 use lib.ListN.{length}
 use borrow.Author.Tests.{eqb-true, eqb-false}
-use Rattle.files.proofs.Tests.{by-test, no-true, never, and-both}
+use Rattle.laws.specs.Tests.{by-test, no-true, never, and-both}
 use Rattle.files.specs.Bits.{hasBit, hasNumber, isNumber, withoutNumber}
 use Rattle.files.proofs.Bits.{is-number, least, has-number, has-bit}
-use Rattle.rules.specs.Lists.{keep, rising}
+use Rattle.laws.specs.Lists.{keep, rising}
 use Rattle.rules.specs.Boards.{everyone}
 use Rattle.tables.specs.declared.ProgramSet.{ProgramSet}
 use Rattle.tables.specs.ProgramSets.{hasProgram, lowestOf, IsLowest}

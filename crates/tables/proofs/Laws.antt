@@ -10,79 +10,23 @@ use native.Mathlib.Omega.{arith}
 use lib.Bits.{or-lt}
 use lib.Pow.{pow-lt}
 use lib.Dec.{eqb}
-use lib.ListN.{length, getD, set, length-set}
-use lib.Seq.{getD-set-same, getD-set-other}
+use lib.ListN.{length, getD, set}
 use borrow.Author.Tests.{eqb-true, eqb-false}
-use Rattle.files.proofs.Tests.{by-test, never, no-true}
+use Rattle.laws.specs.Tests.{by-test, never, no-true}
 use Rattle.files.specs.Bits.{hasBit, isNumber}
 use Rattle.files.proofs.Bits.{less-has as bit-less}
-use Rattle.files.proofs.Bits.{or-has, and-has, zero-has, with-only, is-number, has-bit, with-number-same, with-number-other, numbers-same}
-use Rattle.rules.specs.declared.Program.{Program}
+use Rattle.files.proofs.Bits.{or-has, and-has, zero-has, with-only, is-number, has-bit, has-number, least, most}
+use Rattle.files.proofs.Bits.{with-number-same, with-number-other, numbers-same}
 use Rattle.rules.specs.declared.Board.{Board}
-use Rattle.rules.specs.Lists.{rising, all, keep, first}
-use Rattle.rules.specs.Boards.{noProgram, at}
+use Rattle.laws.specs.Lists.{rising, all, keep, first}
+use Rattle.rules.specs.Boards.{noProgram, at, everyone, admitted}
+use Rattle.laws.specs.Laws.{keep-same, rising-mem}
+use Rattle.theory.specs.Programs.{Is}
 use Rattle.tables.specs.declared.ProgramSet.{ProgramSet}
 use Rattle.tables.specs.ProgramSets.{noPrograms, hasProgram, unionOf, commonOf, lessOf}
-use Rattle.tables.specs.Tables.{inPlace, places, SetsTo, joined, packed}
-
--- ---- the sets, one program after another
-
--- four columns of 32 places with one more place of each written
-abbrev pub putSets : List ℕ → ℕ → Program → List ℕ
-putSets l i q = set (set (set (set l i (q .writable .bits)) (32 + i) (q .readable .bits)) (64 + i) (q .writing .bits)) (96 + i)
-    (q .reading .bits)
-
-module _ (b : Board) (i : ℕ) (l : List ℕ) (q : Program) (h : i < 32) (n : length l ≡ 128) (e : q ≡ inPlace b i) where
-  abbrev l₁ : List ℕ
-  l₁ = set l i (q .writable .bits)
-
-  abbrev l₂ : List ℕ
-  l₂ = set l₁ (32 + i) (q .readable .bits)
-
-  abbrev l₃ : List ℕ
-  l₃ = set l₂ (64 + i) (q .writing .bits)
-
-  n₁ : length l₁ ≡ 128
-  n₁ = length-set l i (q .writable .bits) ∙ n
-
-  n₂ : length l₂ ≡ 128
-  n₂ = length-set l₁ (32 + i) (q .readable .bits) ∙ n₁
-
-  n₃ : length l₃ ≡ 128
-  n₃ = length-set l₂ (64 + i) (q .writing .bits) ∙ n₂
-
-  last : (k : ℕ) → k ≢ 96 + i → getD (putSets l i q) k 0 ≡ getD l₃ k 0
-  last k d = getD-set-other l₃ (96 + i) k (q .reading .bits) 0 d
-
-  third : (k : ℕ) → k ≢ 64 + i → getD l₃ k 0 ≡ getD l₂ k 0
-  third k d = getD-set-other l₂ (64 + i) k (q .writing .bits) 0 d
-
-  second : (k : ℕ) → k ≢ 32 + i → getD l₂ k 0 ≡ getD l₁ k 0
-  second k d = getD-set-other l₁ (32 + i) k (q .readable .bits) 0 d
-
-  one : (k : ℕ) → k ≢ i → getD l₁ k 0 ≡ getD l k 0
-  one k d = getD-set-other l i k (q .writable .bits) 0 d
-
-  pub sets-more : SetsTo b i l → SetsTo b (i + 1) (putSets l i q)
-  sets-more f k m = by-test (eqb k i)
-      (λ t. let z : k ≡ i = eqb-true k i t in rw z (
-        last i (omega arith) ∙ third i (omega arith) ∙ second i (omega arith) ∙ getD-set-same l i (q .writable .bits) 0 (omega arith)
-            ∙ ap (λ (x : Program). x .writable .bits) e,
-        last (32 + i) (omega arith) ∙ third (32 + i) (omega arith) ∙ getD-set-same l₁ (32 + i) (q .readable .bits) 0 (omega (arith, n₁))
-            ∙ ap (λ (x : Program). x .readable .bits) e,
-        last (64 + i) (omega arith) ∙ getD-set-same l₂ (64 + i) (q .writing .bits) 0 (omega (arith, n₂))
-            ∙ ap (λ (x : Program). x .writing .bits) e,
-        getD-set-same l₃ (96 + i) (q .reading .bits) 0 (omega (arith, n₃)) ∙ ap (λ (x : Program). x .reading .bits) e,
-      ))
-      (λ t. let z : k ≢ i = eqb-false k i t in let r = f k (omega arith) in (
-        last k (omega arith) ∙ third k (omega arith) ∙ second k (omega arith) ∙ one k z ∙ r .0,
-        last (32 + k) (omega arith) ∙ third (32 + k) (omega arith) ∙ second (32 + k) (omega arith) ∙ one (32 + k) (omega arith) ∙ r .1,
-        last (64 + k) (omega arith) ∙ third (64 + k) (omega arith) ∙ second (64 + k) (omega arith) ∙ one (64 + k) (omega arith) ∙ r .2,
-        last (96 + k) (omega arith) ∙ third (96 + k) (omega arith) ∙ second (96 + k) (omega arith) ∙ one (96 + k) (omega arith) ∙ r .3,
-      ))
-
-  pub sets-length : length (putSets l i q) ≡ 128
-  sets-length = length-set l₃ (96 + i) (q .reading .bits) ∙ n₃
+use Rattle.tables.specs.Sets.{inPlace, places}
+use Rattle.tables.specs.Tables.{joined, packed}
+use Rattle.tables.specs.Boards.{admits, admittedSet}
 
 -- ---- programs by their places
 
@@ -163,6 +107,12 @@ packed-has t (suc n) i m l h =
         (λ y. rw y (no-true (hasProgram (packed t n) (suc n)) (λ d. let k : suc n - 1 ≡ n = omega arith in
         let r = packed-bit t n n (omega arith) (rw k at (has-bit 32 (packed t n .bits) (suc n) d)) .0 in omega arith)))
 
+-- the set of the admitted names them
+pub admitted-those : (b : Board) → keep (hasProgram (admittedSet b)) everyone ≡ admitted b
+unfolding admitted admittedSet everyone
+admitted-those b = keep-same _ _ (rising 32 1) (λ p m. let r = rising-mem 32 1 p m in
+    packed-has (admits b) 32 p (omega arith) (r .0) (omega (arith, r .1)))
+
 -- a packed set is a number of 32 bits
 pub packed-lt : (t : ℕ → Bool) (n : ℕ) → n ≤ 32 → packed t n .bits < 2 ^ 32
 unfolding packed
@@ -175,6 +125,10 @@ packed-lt t (suc n) h = let r = packed-lt t n (omega arith) in by-test (t (suc n
 -- two sets with the same programs are the same
 pub set-same : (s r : ProgramSet) → s .bits < 2 ^ 32 → r .bits < 2 ^ 32 → ((x : ℕ) → hasProgram s x ≡ hasProgram r x) → s ≡ r
 set-same s r h k f = ap {B = ProgramSet} (λ x. record { bits = x }) (numbers-same 32 (s .bits) (r .bits) h k f)
+
+-- who is of a set is a program
+pub set-is : (s : ProgramSet) (x : ℕ) → hasProgram s x ≡ true → Is x
+set-is s x e = let n = has-number 32 (s .bits) x e in record { least = least 32 x n; most = most 32 x n }
 
 -- ---- members of sets of two sets
 

@@ -1,4 +1,6 @@
 -- The definitions that the contracts of tables cite.
-pub mod Claims
 pub mod ProgramSets
+pub mod Sets
+pub mod Shared
 pub mod Tables
+pub mod Boards

@@ -6,7 +6,7 @@ use mathlib.Core.Bool.{Bool, true, false}
 use mathlib.Core.Option.{Option·getD}
 use lib.Bits.{bitAnd, bitOr, bitXor}
 use Rattle.files.specs.Bits.{hasNumber, withNumber, withoutNumber, share}
-use Rattle.rules.specs.Lists.{first}
+use Rattle.laws.specs.Lists.{first}
 use Rattle.rules.specs.Boards.{everyone}
 use Rattle.tables.specs.declared.ProgramSet.{ProgramSet}
 

@@ -1,54 +1,17 @@
--- The arrays of a board: the sets of its programs, and for each admitted program the set of those that it holds back.
+-- For each admitted program the set of those that it holds back, by the sets of the board's programs.
 -- Assumes nothing.
-use Prim.Native.Nat.{ℕ, zero, suc, _+_, _-_, _≤_, _<_}
+use Prim.Native.Nat.{ℕ, zero, suc, _-_, _≤_}
 use mathlib.Core.Path.{_≡_}
-use mathlib.Core.Bool.{Bool, not, cond, _&&_, _||_}
-use mathlib.Core.List.{List, [], _∷_, _++_}
+use mathlib.Core.Bool.{Bool, not, cond, _&&_}
+use mathlib.Core.List.{List}
 use lib.Dec.{eqb}
-use lib.Bits.{bitOr}
-use lib.ListN.{length, getD}
-use Rattle.files.specs.declared.FileSet.{FileSet}
-use Rattle.files.specs.Bits.{share}
-use Rattle.rules.specs.declared.Program.{Program}
+use lib.ListN.{getD}
 use Rattle.rules.specs.declared.Board.{Board}
-use Rattle.rules.specs.Boards.{noProgram, at}
+use Rattle.rules.specs.Boards.{at}
 use Rattle.rules.specs.Orders.{holdsBack}
 use Rattle.tables.specs.declared.ProgramSet.{ProgramSet}
 use Rattle.tables.specs.ProgramSets.{noPrograms, hasProgram, withProgram, withoutProgram}
-
--- the program at place i
-abbrev pub inPlace : Board → ℕ → Program
-inPlace b i = getD (b .programs) i noProgram
-
--- f k, f (k + 1) and so on, in n places
-unfoldable pub places : (ℕ → ℕ) → ℕ → ℕ → List ℕ
-places f zero k = []
-places f (suc n) k = f k ∷ places f n (suc k)
-
--- the sets of the board's programs, in 128 places: V of each, then Q, then W, then R
-unfoldable pub setsOf : Board → List ℕ
-setsOf b =
-    places (λ i. inPlace b i .writable .bits) 32 0
-    ++ (places (λ i. inPlace b i .readable .bits) 32 0
-    ++ (places (λ i. inPlace b i .writing .bits) 32 0 ++ places (λ i. inPlace b i .reading .bits) 32 0))
-
--- the sets of the first n programs stand in their places
-abbrev pub SetsTo : Board → ℕ → List ℕ → Type 0
-SetsTo b n l = (i : ℕ) → i < n → (getD l i 0 ≡ inPlace b i .writable .bits) × (getD l (32 + i) 0 ≡ inPlace b i .readable .bits)
-    × (getD l (64 + i) 0 ≡ inPlace b i .writing .bits) × (getD l (96 + i) 0 ≡ inPlace b i .reading .bits)
-
--- the sets of all programs, in 128 places
-abbrev pub SetsOf : Board → List ℕ → Type 0
-SetsOf b l = (length l ≡ 128) × SetsTo b 32 l
-
--- the bits of the n sets from place k on
-unfoldable pub gathered : List ℕ → ℕ → ℕ → ℕ
-gathered l k zero = 0
-gathered l k (suc n) = bitOr (gathered l k n) (getD l (k + n) 0)
-
--- the files of the 32 sets from place k on
-abbrev pub openedFrom : List ℕ → ℕ → FileSet
-openedFrom l k = record { bits = gathered l k 32 }
+use Rattle.tables.specs.Sets.{places, holdsOne}
 
 -- s, and n where the test passes
 abbrev pub joined : ProgramSet → ℕ → Bool → ProgramSet
@@ -62,14 +25,6 @@ packed t (suc n) = joined (packed t n) (suc n) (t (suc n))
 -- i is another program than p, and holds it back
 abbrev pub stops : Board → ℕ → ℕ → Bool
 stops b p i = not (eqb i p) && holdsBack (at b i) (at b p)
-
--- W and R hold back a program with claims V and Q
-abbrev pub holdsBits : ℕ → ℕ → ℕ → ℕ → Bool
-holdsBits w r v q = share w v || share w q || share r v
-
--- by the sets: program x holds back program y
-abbrev pub holdsOne : List ℕ → ℕ → ℕ → Bool
-holdsOne sets y x = holdsBits (getD sets (64 + (x - 1)) 0) (getD sets (96 + (x - 1)) 0) (getD sets (y - 1) 0) (getD sets (32 + (y - 1)) 0)
 
 -- x is of the set, and p holds it back
 abbrev pub heldBy : List ℕ → ℕ → ProgramSet → ℕ → Bool

@@ -1,50 +1,23 @@
 // The sets of a board's programs and which admitted program holds back which, in plain arrays that are lent and not copied.
-// In `sets` V of program p stands in place p - 1, Q in place p + 31, W in place p + 63 and R in place p + 95;
-// in `rows` the set of the admitted programs that the admitted program p holds back stands in place p - 1.
-use files::FileSet;
+// In `sets` stand the sets of all programs, as `sets` says; in `rows` the set of the admitted programs that the admitted
+// program p holds back stands in place p - 1.
 use rules::Board;
+use rules::modes;
 ghost use mathlib.Core.Path.{_≡_};
-ghost use Prim.Native.Nat.{_+_, _≤_};
+ghost use Prim.Native.Nat.{_≤_};
 ghost use lib.ListN.{length, replicate};
-ghost use Rattle.tables.specs.Tables.{setsOf, holdsOne, holdersOf, rowsOf, openedFrom, joined, packed};
+ghost use Rattle.tables.specs.Sets.{setsOf, holdsOne};
+ghost use Rattle.tables.specs.Tables.{holdersOf, rowsOf, joined, packed};
 
-pub mod claims;
+pub mod boards;
+mod programs;
 pub mod rows;
-mod sets;
+pub mod sets;
+pub mod shared;
 
 // A set of the programs 1 to 32: bit p - 1 says whether program p is in it.
 pub struct ProgramSet {
     pub bits: u32,
-}
-
-// The sets of the board's programs.
-pub fn take_sets(b: Board, sets: &mut [u64; 128])
-    requires { ⌜ length (now sets) ≡ 128 ⌝ }
-    ensures { λ _. ⌜ now (sets .exit) ≡ setsOf b ⌝ }
-{
-    let mut i: usize = 0;
-    while i < 32 {
-        let q = b.programs[i];
-        sets[i] = q.writable.bits;
-        sets[32 + i] = q.readable.bits;
-        sets[64 + i] = q.writing.bits;
-        sets[96 + i] = q.reading.bits;
-        i += 1;
-    }
-}
-
-// The files of the 32 sets from place k on: those that are open for writing from 64 on, for reading from 96 on.
-pub fn opened(sets: &[u64; 128], k: usize) -> FileSet
-    requires { ⌜ k + 32 ≤ 128 ⌝ }
-    ensures { λ r. ⌜ r ≡ openedFrom (now (sets .entry)) k ⌝ }
-{
-    let mut files: u64 = 0;
-    let mut i: usize = 0;
-    while i < 32 {
-        files = files | sets[k + i];
-        i += 1;
-    }
-    FileSet { bits: files }
 }
 
 // The set, and p where the test passed.
@@ -62,13 +35,11 @@ pub fn holds_back(sets: &[u64; 128], p: u8, q: u8) -> bool
     requires { ⌜ ((1 ≤ p) × (p ≤ 32)) × ((1 ≤ q) × (q ≤ 32)) ⌝ }
     ensures { λ r. ⌜ r ≡ holdsOne (now (sets .entry)) q p ⌝ }
 {
-    let i = (p - 1) as usize;
-    let j = (q - 1) as usize;
-    let w = sets[64 + i];
-    let r = sets[96 + i];
-    let v = sets[j];
-    let c = sets[32 + j];
-    (w & v) | (w & c) | (r & v) != 0
+    let w = sets::writing(sets, p);
+    let r = sets::reading(sets, p);
+    let v = sets::writable(sets, q);
+    let c = sets::readable(sets, q);
+    modes::touches(w, r, v, c)
 }
 
 // Those of a set that hold p back: one test for each of them.
@@ -92,6 +63,6 @@ pub fn fill(b: Board, admitted: ProgramSet, sets: &mut [u64; 128], rows: &mut [u
     requires { ⌜ (length (now sets) ≡ 128) × (now rows ≡ replicate 32 0) ⌝ }
     ensures { λ _. ⌜ (now (sets .exit) ≡ setsOf b) × (now (rows .exit) ≡ rowsOf (setsOf b) admitted) ⌝ }
 {
-    take_sets(b, sets);
+    sets::take_sets(b, sets);
     rows::fill_rows(sets, admitted, rows);
 }

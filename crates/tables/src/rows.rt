@@ -1,35 +1,40 @@
 // Which admitted program holds back which: in the row of a program stand the others that it holds back.
 use crate::ProgramSet;
+use crate::shared::Shared;
+use files::FileSet;
 ghost use mathlib.Core.Path.{_≡_};
 ghost use mathlib.Core.Bool.{true};
 ghost use Prim.Native.Nat.{_≤_};
 ghost use lib.ListN.{replicate};
 ghost use Rattle.tables.specs.ProgramSets.{hasProgram, withoutProgram};
 ghost use Rattle.tables.specs.Tables.{heldBy, rowsOf, packed};
-ghost use Rattle.tables.specs.Claims.{ClaimedBy};
+ghost use Rattle.tables.specs.Shared.{claimedAt, SharedBy};
 
-// The files that some of a set of programs claim, and those that two of them claim.
-struct Claimed {
-    once: u64,
-    twice: u64,
+// What p claims.
+fn claims_of(sets: &[u64; 128], p: u8) -> FileSet
+    requires { ⌜ (1 ≤ p) × (p ≤ 32) ⌝ }
+    ensures { λ r. ⌜ r ≡ claimedAt (now (sets .entry)) p ⌝ }
+{
+    let v = crate::sets::writable(sets, p);
+    let q = crate::sets::readable(sets, p);
+    FileSet {
+        bits: v.bits | q.bits,
+    }
 }
 
 // What the programs of a set claim.
-fn claimed_by(sets: &[u64; 128], set: ProgramSet) -> Claimed
-    ensures { λ r. ⌜ ClaimedBy (now (sets .entry)) set r ⌝ }
+fn claimed_by(sets: &[u64; 128], set: ProgramSet) -> Shared
+    ensures { λ r. ⌜ SharedBy (claimedAt (now (sets .entry))) (hasProgram set) r ⌝ }
 {
-    let mut once: u64 = 0;
-    let mut twice: u64 = 0;
+    let mut claimed = Shared::NONE;
     let mut rest = set;
     while rest.bits != 0 {
         let p = rest.lowest();
-        let i = (p - 1) as usize;
-        let claims = sets[i] | sets[32 + i];
-        twice = twice | (once & claims);
-        once = once | claims;
+        let files = claims_of(sets, p);
+        claimed = claimed.with(files);
         rest = rest.but_lowest();
     }
-    Claimed { once, twice }
+    claimed
 }
 
 // Those of a set that p holds back: one test for each of them.
@@ -49,15 +54,15 @@ fn held_by(sets: &[u64; 128], p: u8, set: ProgramSet) -> ProgramSet
 }
 
 // The row of p, one of the admitted: the others of them that it holds back. Nobody is tested if none of them claims a file that p has open.
-fn row_of(sets: &[u64; 128], admitted: ProgramSet, claimed: Claimed, p: u8) -> ProgramSet
-    requires { ⌜ ((1 ≤ p) × (p ≤ 32)) × (hasProgram admitted p ≡ true) × ClaimedBy (now sets) admitted claimed ⌝ }
+fn row_of(sets: &[u64; 128], admitted: ProgramSet, claimed: Shared, p: u8) -> ProgramSet
+    requires { ⌜ ((1 ≤ p) × (p ≤ 32)) × (hasProgram admitted p ≡ true) × SharedBy (claimedAt (now sets)) (hasProgram admitted) claimed ⌝ }
     ensures { λ r. ⌜ r ≡ packed (heldBy (now (sets .entry)) p (withoutProgram admitted p)) 32 ⌝ }
 {
-    let i = (p - 1) as usize;
-    let once = claimed.once;
-    let own = sets[i] | sets[32 + i];
-    let by_others = claimed.twice | (once ^ (once & own));
-    if (sets[64 + i] | sets[96 + i]) & by_others == 0 {
+    let own = claims_of(sets, p);
+    let by_others = claimed.by_others(own);
+    let w = crate::sets::writing(sets, p);
+    let r = crate::sets::reading(sets, p);
+    if (w.bits | r.bits) & by_others.bits == 0 {
         return ProgramSet::EMPTY;
     }
     let others = admitted.without(p);

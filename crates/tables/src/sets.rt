@@ -1,117 +1,108 @@
-// Sets of programs, by value.
-use crate::ProgramSet;
+// The sets of a board's programs in an array of 128 places that is lent and not copied. Which place has which set is said here alone:
+// V of program p stands in place p - 1, and Q, W and R stand 32, 64 and 96 places further.
+use files::FileSet;
+use rules::Board;
 ghost use mathlib.Core.Path.{_≡_};
-ghost use mathlib.Core.Logic.{_≢_};
+ghost use mathlib.Core.Bool.{cond};
 ghost use Prim.Native.Nat.{_≤_};
 ghost use lib.ListN.{length};
-ghost use Rattle.rules.specs.Lists.{keep};
-ghost use Rattle.rules.specs.Boards.{everyone};
-ghost use Rattle.tables.specs.ProgramSets.{hasProgram, withProgram, withoutProgram, programsMeet, unionOf, commonOf, lessOf, lowestOf, IsLowest};
+ghost use Rattle.rules.specs.Modes.{Write, Read};
+ghost use Rattle.tables.specs.Sets.{setsOf, claimAt, openAt, claimsAt, givenAt};
 
-impl ProgramSet {
-    // No program.
-    pub const EMPTY: ProgramSet = ProgramSet { bits: 0 };
+const READABLE: usize = 32;
 
-    // Whether p is a program of the set.
-    pub fn has(self, p: u8) -> bool
-        ensures { λ r. ⌜ r ≡ hasProgram self p ⌝ }
-    {
-        if p == 0 {
-            return false;
-        }
-        if 32 < p {
-            return false;
-        }
-        (self.bits >> (p - 1)) % 2 == 1
+const WRITING: usize = 64;
+
+const READING: usize = 96;
+
+// V of p: what it may write.
+pub fn writable(sets: &[u64; 128], p: u8) -> FileSet
+    requires { ⌜ (1 ≤ p) × (p ≤ 32) ⌝ }
+    ensures { λ r. ⌜ r ≡ claimAt (now (sets .entry)) p Write ⌝ }
+{
+    let i = (p - 1) as usize;
+    FileSet { bits: sets[i] }
+}
+
+// Q of p: what it may read.
+pub fn readable(sets: &[u64; 128], p: u8) -> FileSet
+    requires { ⌜ (1 ≤ p) × (p ≤ 32) ⌝ }
+    ensures { λ r. ⌜ r ≡ claimAt (now (sets .entry)) p Read ⌝ }
+{
+    let i = (p - 1) as usize;
+    FileSet {
+        bits: sets[READABLE + i],
     }
+}
 
-    // The set and p; the set itself if p is no program.
-    pub fn with(self, p: u8) -> ProgramSet
-        ensures { λ r. ⌜ r ≡ withProgram self p ⌝ }
-    {
-        if p == 0 {
-            return self;
-        }
-        if 32 < p {
-            return self;
-        }
-        ProgramSet {
-            bits: self.bits | (1u32 << (p - 1)),
-        }
+// W of p: what it has open for writing.
+pub fn writing(sets: &[u64; 128], p: u8) -> FileSet
+    requires { ⌜ (1 ≤ p) × (p ≤ 32) ⌝ }
+    ensures { λ r. ⌜ r ≡ openAt (now (sets .entry)) p Write ⌝ }
+{
+    let i = (p - 1) as usize;
+    FileSet {
+        bits: sets[WRITING + i],
     }
+}
 
-    // The set but p.
-    pub fn without(self, p: u8) -> ProgramSet
-        ensures { λ r. ⌜ r ≡ withoutProgram self p ⌝ }
-    {
-        if p == 0 {
-            return self;
-        }
-        if 32 < p {
-            return self;
-        }
-        let m = 1u32 << (p - 1);
-        ProgramSet {
-            bits: (self.bits | m) - m,
-        }
+// R of p: what it has open for reading.
+pub fn reading(sets: &[u64; 128], p: u8) -> FileSet
+    requires { ⌜ (1 ≤ p) × (p ≤ 32) ⌝ }
+    ensures { λ r. ⌜ r ≡ openAt (now (sets .entry)) p Read ⌝ }
+{
+    let i = (p - 1) as usize;
+    FileSet {
+        bits: sets[READING + i],
     }
+}
 
-    // The lowest program of the set, which has some.
-    pub fn lowest(self) -> u8
-        requires { ⌜ self .bits ≢ 0 ⌝ }
-        ensures { λ r. ⌜ (r ≡ lowestOf self) × IsLowest self r ⌝ }
-    {
-        u32::trailing_zeros(self.bits) as u8 + 1
+// The sets of the board's programs.
+pub fn take_sets(b: Board, sets: &mut [u64; 128])
+    requires { ⌜ length (now sets) ≡ 128 ⌝ }
+    ensures { λ _. ⌜ now (sets .exit) ≡ setsOf b ⌝ }
+{
+    let mut i: usize = 0;
+    while i < 32 {
+        let q = b.programs[i];
+        sets[i] = q.writable.bits;
+        sets[READABLE + i] = q.readable.bits;
+        sets[WRITING + i] = q.writing.bits;
+        sets[READING + i] = q.reading.bits;
+        i += 1;
     }
+}
 
-    // The set, which has some, but its lowest program.
-    pub fn but_lowest(self) -> ProgramSet
-        requires { ⌜ self .bits ≢ 0 ⌝ }
-        ensures { λ r. ⌜ r ≡ withoutProgram self (lowestOf self) ⌝ }
-    {
-        ProgramSet {
-            bits: self.bits & (self.bits - 1),
-        }
+// Whether p claims f in a way that clashes with writing it, or with reading it.
+pub fn has_claim(sets: &[u64; 128], p: u8, f: u8, write: bool) -> bool
+    requires { ⌜ (1 ≤ p) × (p ≤ 32) ⌝ }
+    ensures { λ r. ⌜ r ≡ claimsAt (now (sets .entry)) f (cond write Write Read) p ⌝ }
+{
+    let v = writable(sets, p);
+    if v.has(f) {
+        return true;
     }
+    if !write {
+        return false;
+    }
+    let q = readable(sets, p);
+    q.has(f)
+}
 
-    // Whether the sets have a program in common.
-    pub fn meets(self, other: ProgramSet) -> bool
-        ensures { λ r. ⌜ r ≡ programsMeet self other ⌝ }
-    {
-        self.bits & other.bits != 0
+// p is given f: it joins W if it is in V, and R otherwise.
+pub fn give(sets: &mut [u64; 128], p: u8, f: u8)
+    requires { ⌜ ((1 ≤ p) × (p ≤ 32)) × (length (now sets) ≡ 128) ⌝ }
+    ensures { λ _. ⌜ now (sets .exit) ≡ givenAt (now (sets .entry)) p f ⌝ }
+{
+    let i = (p - 1) as usize;
+    let v = writable(sets, p);
+    if v.has(f) {
+        let w = writing(sets, p);
+        let more = w.with(f);
+        sets[WRITING + i] = more.bits;
+        return;
     }
-
-    // The programs of both.
-    pub fn or(self, other: ProgramSet) -> ProgramSet
-        ensures { λ r. ⌜ r ≡ unionOf self other ⌝ }
-    {
-        ProgramSet {
-            bits: self.bits | other.bits,
-        }
-    }
-
-    // The programs that they have in common.
-    pub fn and(self, other: ProgramSet) -> ProgramSet
-        ensures { λ r. ⌜ r ≡ commonOf self other ⌝ }
-    {
-        ProgramSet {
-            bits: self.bits & other.bits,
-        }
-    }
-
-    // The programs of the set that are not in the other.
-    pub fn less(self, other: ProgramSet) -> ProgramSet
-        ensures { λ r. ⌜ r ≡ lessOf self other ⌝ }
-    {
-        ProgramSet {
-            bits: self.bits ^ (self.bits & other.bits),
-        }
-    }
-
-    // How many programs the set has.
-    pub fn count(self) -> u8
-        ensures { λ r. ⌜ (r ≡ length (keep (hasProgram self) everyone)) × (r ≤ 32) ⌝ }
-    {
-        u32::count_ones(self.bits) as u8
-    }
+    let r = reading(sets, p);
+    let more = r.with(f);
+    sets[READING + i] = more.bits;
 }

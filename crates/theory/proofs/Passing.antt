@@ -4,7 +4,8 @@ use Prim.Native.Nat.{ℕ, _+_}
 use mathlib.Core.Path.{_≡_, refl}
 use mathlib.Core.List.{List, [], _∷_, _++_, map}
 use Rattle.files.specs.Sets.{noFiles}
-use Rattle.rules.specs.Lists.{any, all, keep, first, padded, rising, without, names}
+use Rattle.laws.specs.Lists.{any, all, keep, first, padded, rising, without, names}
+use Rattle.rules.specs.Modes.{touching}
 use Rattle.rules.specs.Boards.{everyone, admitted, tallied, opening, closing}
 use Rattle.rules.specs.Orders.{heldBack, carriedFrom, carried, withGiven, inUse, safe, canGive}
 use Rattle.rules.specs.Settling.{unfavour, resume, tryGive, pass, candidate, favour, overdue, admitHeld, runHeld, choose, settle}
@@ -36,7 +37,7 @@ during = map reads (3 ∷ 4 ∷ 5 ∷ 6 ∷ 7 ∷ 8 ∷ 9 ∷ 10 ∷ []) ++ (Ope
 passed-by-eight : admissionsIn start during ≡ 8
 unfolding start during reads set admits admissionsIn
     any all keep first padded rising without names
-    everyone admitted tallied opening closing
+    everyone admitted tallied touching opening closing
     heldBack carriedFrom carried withGiven inUse safe canGive
     unfavour resume tryGive pass candidate favour overdue admitHeld runHeld choose settle
     reply refuse enterCheck openCheck closeCheck leaveCheck
@@ -48,7 +49,7 @@ passed-by-eight = refl
 nine-leave : leavesIn 1 start (during ++ (Leave 10 ∷ [])) ≡ 8 + othersAfter start 1
 unfolding during start reads set leavesIn
     any all keep first padded rising without names
-    everyone admitted tallied opening closing
+    everyone admitted tallied touching opening closing
     heldBack carriedFrom carried withGiven inUse safe canGive
     unfavour resume tryGive pass candidate favour overdue admitHeld runHeld choose settle
     reply refuse enterCheck openCheck closeCheck leaveCheck

@@ -8,7 +8,8 @@ use Rattle.rules.specs.declared.Board.{Board}
 use Rattle.rules.specs.declared.Answer.{Answer}
 use Rattle.rules.specs.declared.Word.{Word}
 use Rattle.rules.specs.declared.Line.{Line}
-use Rattle.rules.specs.Lists.{any, all, keep, first, padded, rising, without, names}
+use Rattle.laws.specs.Lists.{any, all, keep, first, padded, rising, without, names}
+use Rattle.rules.specs.Modes.{touching}
 use Rattle.rules.specs.Boards.{emptyBoard, everyone, admitted, tallied, opening, closing, dropping}
 use Rattle.rules.specs.Orders.{heldBack, carriedFrom, carried, withGiven, inUse, safe, canGive}
 use Rattle.rules.specs.Settling.{line, unfavour, resume, tryGive, pass, candidate, favour, overdue, admitHeld, runHeld, choose, settle}
@@ -28,7 +29,7 @@ record Told : Type 0 where
 
 toldFrom : Board → List Call → List Told
 unfolding any all keep first padded rising without names
-    everyone admitted tallied opening closing dropping
+    everyone admitted tallied touching opening closing dropping
     heldBack carriedFrom carried withGiven inUse safe canGive
     unfavour resume tryGive pass candidate favour overdue admitHeld runHeld choose settle
     reply refuse enterCheck openCheck closeCheck leaveCheck cancelCheck

@@ -1,12 +1,11 @@
 -- The answer comes first: the lines of a direct call begin with that of its answer, and a refused call has none.
 -- Assumes nothing.
-use Prim.Native.Nat.{ℕ}
 use mathlib.Core.Path.{_≡_, refl, sym, _∙_, ap}
 use mathlib.Core.Bool.{true, false}
 use mathlib.Core.List.{List, [], _∷_}
 use lib.Dec.{eqb}
 use lib.ListN.{drop}
-use Rattle.files.proofs.Tests.{by-test, by-option, never}
+use Rattle.laws.specs.Tests.{by-test, by-option, never}
 use Rattle.rules.specs.declared.Board.{Board}
 use Rattle.rules.specs.declared.Answer.{Answer}
 use Rattle.rules.specs.declared.Line.{Line}

@@ -10,10 +10,10 @@ use mathlib.Core.List.{List, [], _∷_, _++_, List·Memᴰ·not-nil, List·Mem�
 use lib.Dec.{eqb}
 use lib.ListN.{length, take, drop, replicate, length-append}
 use borrow.Author.Tests.{eqb-true, eqb-false, eq-eqb, ne-eqb}
-use Rattle.files.proofs.Tests.{by-test, by-option, never, or-cases, or-left, or-right, and-left, and-both, not-of}
+use Rattle.laws.specs.Tests.{by-test, by-option, never, and-left, and-both, not-of}
 use Rattle.files.proofs.Laws.{member-file}
 use Rattle.files.specs.declared.FileSet.{FileSet}
-use Rattle.files.specs.Sets.{isFile, member, meets}
+use Rattle.files.specs.Sets.{isFile, member}
 use Rattle.rules.specs.declared.Standing.{Standing}
 use Rattle.rules.specs.declared.Program.{Program}
 use Rattle.rules.specs.declared.Board.{Board}
@@ -23,7 +23,8 @@ use Rattle.rules.specs.declared.Answer.{Answer}
 use Rattle.rules.specs.declared.Word.{Word}
 use Rattle.rules.specs.declared.Line.{Line}
 use Rattle.rules.specs.declared.Reply.{Reply}
-use Rattle.rules.specs.Lists.{without, names, padded}
+use Rattle.laws.specs.Lists.{without, names, padded}
+use Rattle.rules.specs.Modes.{claimOf, claimsMeet}
 use Rattle.rules.specs.Boards.{noProgram, isAbsent, isHeld, isWaiting, isAdmitted, isProgram, awaitedOf, everyone, at, awaited, claims}
 use Rattle.rules.specs.Boards.{hasOpen, passedBy, setProgram, setWaiting, setFavour, setStanding, uncount, tally, closing, dropping}
 use Rattle.rules.specs.Orders.{withGiven, inUse, safe, canGive}
@@ -33,8 +34,9 @@ use Rattle.rules.specs.Checks.{refuseIf, unlessRunning, unlessStopped, enterChe
 use Rattle.rules.specs.Calls.{newcomer, admit, hold, holdFor}
 use Rattle.rules.specs.Calls.{enter, wait, openFile, done, closeFile, dropFile, countLeave, leave, Call, Enter, Open, Close, Drop}
 use Rattle.rules.specs.Calls.{Leave, Cancel, countCancel, withdrawn, cancel, checked, accepted, unless, apply}
-use Rattle.theory.specs.Lists.{_∈_, Pairs, NoRepeat, by-mem, here, first-some, Pairs-append, no-longer, length-rising, length-without}
-use Rattle.theory.specs.Programs.{Is, is-of, of-is, Claims, mem-everyone, Progs, Sized, prog, put, put-same, put-other, put-case, give, can}
+use Rattle.laws.specs.Laws.{_∈_, Pairs, NoRepeat, by-mem, here, first-some, Pairs-append, no-longer, length-rising, length-without}
+use Rattle.theory.specs.Modes.{by-mode}
+use Rattle.theory.specs.Programs.{Is, is-of, of-is, mem-everyone, Progs, Sized, prog, put, put-same, put-other, put-case, give, can}
 use Rattle.theory.specs.Programs.{canGive-is, isIn, ins, mem-ins, ins-once, ins-same, ins-out, ins-give}
 use Rattle.theory.specs.Loose.{stands, waitsIn, heldAt, absent-is, held-is, waiting-file, Asked, LooseIn, Loose, Stuck, Free}
 use Rattle.theory.specs.Loose.{countIn, Counted, Counts, Good, test-put, test-other, test-same}
@@ -138,7 +140,7 @@ running-passed Standing.Running k e = (refl, e)
 pub record EnterMay (b : Board) (p : ℕ) (v q : FileSet) : Type 0 where
   pub is : Is p
   pub absent : stands (b .programs) p ≡ Standing.Absent
-  pub claims-apart : meets v q ≡ false
+  pub claims-apart : claimsMeet v q ≡ false
 
 pub record OpenMay (b : Board) (p f : ℕ) : Type 0 where
   pub is : Is p
@@ -154,7 +156,7 @@ unfolding enterCheck
 enter-may b p v q e =
     let (a, e₁) = if-passed (not (isProgram p)) Refusal.OutOfRange _ e in
     let (s, e₂) = if-passed (not (isAbsent (at b p .standing))) Refusal.NotAbsent _ e₁ in
-    let (m, _) = if-passed (meets v q) Refusal.ClaimsMeet Check.Passed e₂ in
+    let (m, _) = if-passed (claimsMeet v q) Refusal.ClaimsMeet Check.Passed e₂ in
     record {
       is = is-of p (not-of (isProgram p) a);
       absent = absent-is (at b p .standing)
@@ -162,15 +164,9 @@ enter-may b p v q e =
       claims-apart = m;
     }
 
--- A file that is claimed, by the test and as one of two cases.
-pub claims-of : (x : Program) (f : ℕ) → claims x f ≡ true → Claims x f
-claims-of x f e = or-cases (member (x .writable) f) (member (x .readable) f) e inl inr
-
-pub claims-true : (x : Program) (f : ℕ) → Claims x f → claims x f ≡ true
-claims-true x f = ⊎-elim (or-left (member (x .writable) f) (member (x .readable) f)) (or-right (member (x .writable) f) (member (x .readable) f))
-
-pub claims-file : (x : Program) (f : ℕ) → Claims x f → isFile f ≡ true
-claims-file x f = ⊎-elim (member-file (x .writable) f) (member-file (x .readable) f)
+-- A file that is claimed is a file.
+pub claims-file : (x : Program) (f : ℕ) → claims x f ≡ true → isFile f ≡ true
+claims-file x f e = by-mode (λ m. member (claimOf m x) f) e (λ m. member-file (claimOf m x) f)
 
 pub open-may : (b : Board) (p f : ℕ) → openCheck b p f ≡ Check.Passed → OpenMay b p f
 unfolding openCheck
@@ -183,7 +179,7 @@ open-may b p f e =
       is = is-of p (and-left (isProgram p) (isFile f) (not-of (isProgram p && isFile f) a));
       runs = s;
       asked = record {
-        claimed = claims-of (at b p) f (not-of (claims (at b p) f) c);
+        claimed = not-of (claims (at b p) f) c;
         shut = o;
       };
     }
@@ -205,7 +201,7 @@ may-open b p f m =
     let c = m .asked .claimed in
     if-so (isProgram p && isFile f) Refusal.OutOfRange _ (and-both (isProgram p) (isFile f) (of-is p (m .is)) (claims-file x f c))
     ∙ if-runs (x .standing) _ (m .runs)
-    ∙ if-so (claims x f) Refusal.NotClaimed _ (claims-true x f c)
+    ∙ if-so (claims x f) Refusal.NotClaimed _ c
     ∙ if-not (hasOpen x f) Refusal.IsOpen Check.Passed (m .asked .shut)
 
 pub close-may : (b : Board) (p f : ℕ) → closeCheck b p f ≡ Check.Passed → RunsMay b p

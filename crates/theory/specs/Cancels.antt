@@ -7,14 +7,14 @@ use mathlib.Core.Bool.{true, false}
 use mathlib.Core.List.{List, [], _∷_, List·Memᴰ·tail}
 use lib.Dec.{eqb}
 use borrow.Author.Tests.{eqb-true, eqb-false}
-use Rattle.files.proofs.Tests.{by-test, never, no-true}
+use Rattle.laws.specs.Tests.{by-test, never, no-true}
 use Rattle.rules.specs.declared.Standing.{Standing}
 use Rattle.rules.specs.declared.Program.{Program}
 use Rattle.rules.specs.declared.Board.{Board}
 use Rattle.rules.specs.declared.Check.{Check}
 use Rattle.rules.specs.declared.Answer.{Answer}
 use Rattle.rules.specs.declared.Word.{Word}
-use Rattle.rules.specs.Lists.{without, names}
+use Rattle.laws.specs.Lists.{without, names}
 use Rattle.rules.specs.Boards.{noProgram, isHeld, isWaiting, isAdmitted, isProgram, awaitedOf, at, awaited, setProgram, setEntry, opening}
 use Rattle.rules.specs.Orders.{conflict, holdsBack, canGive}
 use Rattle.rules.specs.Soundness.{sound}
@@ -22,7 +22,7 @@ use Rattle.rules.specs.Settling.{line, still, pass, settle}
 use Rattle.rules.specs.Replies.{refused, reply}
 use Rattle.rules.specs.Checks.{cancelCheck}
 use Rattle.rules.specs.Calls.{done, withdrawn, cancel, Cancel, checked, direct}
-use Rattle.theory.specs.Lists.{_∈_, here}
+use Rattle.laws.specs.Laws.{_∈_, here}
 use Rattle.theory.specs.Order.{IsOrder, order-below}
 use Rattle.theory.specs.Programs.{Progs, Is, is-of, prog, put, Sized, sized-put, put-same, put-other, holds, ins, give, can, canGive-is}
 use Rattle.theory.specs.Programs.{ins-mem, ins-same, ins-give, idle-conflict, used, used-by, by-used, can-unused, can-order}
@@ -117,8 +117,8 @@ module _ (P : Progs) (p y g : ℕ) (b : Base P) (c : Is p) (s : stands P p ≡ S
 
   unused-too : used less y g ≡ false → used P y g ≡ false
   unused-too u = no-true _ (λ t. let (j, d, m, k) = used-by P y g t in by-test (eqb j p)
-      (λ e. let q = b .own p c .idle (ap isAdmitted s) in
-      never k (ap (λ h. conflict (prog P h) (opening (prog P y) g)) (eqb-true j p e) ∙ idle-conflict (prog P p) (opening (prog P y) g) (q .0) (q .1)))
+      (λ e. never k (ap (λ h. conflict (prog P h) (opening (prog P y) g)) (eqb-true j p e)
+      ∙ idle-conflict (prog P p) (opening (prog P y) g) (b .own p c .idle (ap isAdmitted s))))
       (λ e. never (by-used less y g j d m (ap₂ (λ (x z : Program). conflict x (opening z g)) (same j d (eqb-false j p e)) (same y i n) ∙ k)) u))
 
   can-too : can less y g ≡ true → can P y g ≡ true

@@ -11,16 +11,16 @@ use lib.Dec.{eqb}
 use lib.ListN.{length, getD, set}
 use lib.Seq.{getD-set-other}
 use borrow.Author.Tests.{eqb-true, eqb-false}
-use Rattle.files.proofs.Tests.{by-test, never, no-true}
+use Rattle.laws.specs.Tests.{by-test, never, no-true}
 use Rattle.rules.specs.declared.Board.{Board}
 use Rattle.rules.specs.declared.Program.{Program}
 use Rattle.rules.specs.declared.Word.{Word}
 use Rattle.rules.specs.declared.Line.{Line}
-use Rattle.rules.specs.Lists.{rising, names}
+use Rattle.laws.specs.Lists.{rising, names}
 use Rattle.rules.specs.Boards.{isWaiting, isAdmitted, everyone, at, passedBy, tallied}
 use Rattle.rules.specs.Settling.{overdue}
 use Rattle.rules.specs.Replies.{isAdmit, admits}
-use Rattle.theory.specs.Lists.{_∈_, here, first-none, length-without}
+use Rattle.laws.specs.Laws.{_∈_, here, first-none, length-without}
 use Rattle.theory.specs.Programs.{Is, Progs, Sized, put, put-same, isIn, ins, mem-ins, ins-once, ins-before}
 use Rattle.theory.specs.Loose.{waitsIn, OnLine, countIn, Counted, Counts}
 

@@ -17,7 +17,7 @@ use Rattle.rules.specs.Settling.{line}
 use Rattle.rules.specs.Replies.{settlingLines, refused, linesOf, orderOf}
 use Rattle.rules.specs.Calls.{Call, Enter, Open, Close, Drop, Leave, Cancel, apply}
 use Rattle.rules.specs.Worked.{worked, repliesFrom, directFrom}
-use Rattle.theory.specs.Lists.{_∈_}
+use Rattle.laws.specs.Laws.{_∈_}
 use Rattle.theory.specs.Order.{Names}
 use Rattle.theory.specs.Programs.{Is}
 use Rattle.theory.specs.Carried.{EveryOrderHeld}

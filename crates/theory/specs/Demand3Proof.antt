@@ -7,7 +7,7 @@ use mathlib.Core.Logic.{_↔_, _≢_, _⊎_, inl, inr, ⊎-elim}
 use mathlib.Core.Bool.{true, false}
 use mathlib.Core.List.{List, [], _∷_, _++_, append-nil, append-assoc}
 use lib.ListN.{length}
-use Rattle.files.proofs.Tests.{by-test, never}
+use Rattle.laws.specs.Tests.{by-test, never}
 use Rattle.rules.specs.declared.Board.{Board}
 use Rattle.rules.specs.declared.Check.{Check}
 use Rattle.rules.specs.declared.Answer.{Answer}
@@ -20,7 +20,7 @@ use Rattle.rules.specs.Settling.{line}
 use Rattle.rules.specs.Replies.{settlingLines, refused, reply, orderOf}
 use Rattle.rules.specs.Calls.{openFile, done, leave, cancel, Call, Enter, Open, Close, Drop, Leave, Cancel, checked, apply}
 use Rattle.rules.specs.Worked.{workedFrom, worked, repliesFrom, directFrom}
-use Rattle.theory.specs.Lists.{_∈_, Pairs, Pairs-split}
+use Rattle.laws.specs.Laws.{_∈_, Pairs, Pairs-split}
 use Rattle.theory.specs.Order.{Names, IsOrder}
 use Rattle.theory.specs.Programs.{admitted-is, inUse-is, used-by, by-used}
 use Rattle.theory.specs.Loose.{stands}

@@ -10,14 +10,13 @@ use mathlib.Core.List.{List, [], _∷_, List·Memᴰ·not-nil, Memᴰ·cast}
 use lib.Dec.{eqb}
 use lib.ListN.{getD}
 use borrow.Author.Tests.{eqb-false}
-use Rattle.files.proofs.Tests.{by-test, never, and-left, and-right, and-both, no-true, not-true, true-not, not-of, by-option}
+use Rattle.laws.specs.Tests.{by-test, never, and-left, and-right, and-both, no-true, not-true, true-not, not-of, by-option}
 use Rattle.files.specs.declared.FileSet.{FileSet}
-use Rattle.files.proofs.Laws.{within-⊑}
 use Rattle.rules.specs.declared.Board.{Board}
 use Rattle.rules.specs.declared.Check.{Check}
 use Rattle.rules.specs.declared.Word.{Word}
 use Rattle.rules.specs.declared.Reply.{Reply}
-use Rattle.rules.specs.Lists.{any, found, padded, listed}
+use Rattle.laws.specs.Lists.{any, found, padded, listed}
 use Rattle.rules.specs.Boards.{isAdmitted, isWaiting, isProgram, everyone, at, admitted, claims, awaited, awaitedOf, opening}
 use Rattle.rules.specs.Orders.{conflict, holdsBack, carried, withGiven, inUse, safe, canGive}
 use Rattle.rules.specs.Soundness.{sound}
@@ -26,14 +25,14 @@ use Rattle.rules.specs.Replies.{blank, reply, refuse, refuseUnsound}
 use Rattle.rules.specs.Calls.{holdFor, enter, openFile, done, closeFile, dropFile, leave, cancel, checked, accepted, unless, apply, direct}
 use Rattle.rules.specs.Calls.{Call, Enter, Open, Close, Drop, Leave, Cancel}
 use Rattle.rules.specs.Digraph.{isIn, step, isLoop, isLoopWith, loopFor, isUnsafe, mayCarry}
-use Rattle.theory.specs.Lists.{_∈_, Pairs, by-mem, any-some, listed-mem, mem-listed}
-use Rattle.theory.specs.Programs.{Is, is-of, of-is, everyone-is, Own, Claims, opening-own, conflict-holds, conflict-sym, idle-conflict}
+use Rattle.laws.specs.Laws.{_∈_, Pairs, by-mem, any-some, listed-mem, mem-listed}
+use Rattle.theory.specs.Programs.{Is, is-of, of-is, everyone-is, Own, opening-own, conflict-holds, conflict-sym, idle-conflict}
 use Rattle.theory.specs.Carried.{holdsOn, order-of}
 use Rattle.theory.specs.Loose.{waiting-in, waiting-file}
 use Rattle.theory.specs.Reach.{mem-admitted, admitted-mem, given-same, given-other, given-admitted, given-grown}
 use Rattle.theory.specs.Loops.{LeadsTo, Closes, IsLoop, isLoop-iff, loop-test, loop-on, loop-no-order, unordered-loop}
-use Rattle.theory.specs.Matrix.{step-iff, in-mem, mem-in, itself-iff, admitted-once, carried-in}
-use Rattle.theory.specs.Calls.{claims-true, open-may}
+use Rattle.theory.specs.Matrix.{step-iff, in-mem, mem-in, admitted-once, carried-in}
+use Rattle.theory.specs.Calls.{open-may}
 use Rattle.theory.specs.Sound.{Sound, sound-iff, own-of}
 
 -- ── The checker ──
@@ -110,7 +109,7 @@ loop-has-program b p f L e t = by-test (listed p L) (listed-mem p L) (λ u. let 
 -- ── Waiters ──
 
 -- one in conflicting use and p, with the file given, hold back each other
-used-unsafe : (b : Board) (p f i : ℕ) → Sound b → (c : isProgram p ≡ true) (a : isAdmitted (at b p .standing) ≡ true) → Claims (at b p) f
+used-unsafe : (b : Board) (p f i : ℕ) → Sound b → (c : isProgram p ≡ true) (a : isAdmitted (at b p .standing) ≡ true) → claims (at b p) f ≡ true
     → Is i → i ≢ p → conflict (at b i) (opening (at b p) f) ≡ true → safe b p f ≡ false
 unfolding safe Closes LeadsTo Pairs
 used-unsafe b p f i s c a k j n e = loop-exists (withGiven b p f) .0 (
@@ -122,10 +121,10 @@ used-unsafe b p f i s c a k j n e = loop-exists (withGiven b p f) .0 (
         (λ r. absurd (List·Memᴰ·not-nil r)));
     closed = (
       ap₂ holdsBack (given-same b p f c a) (given-other b p f c a i j n)
-          ∙ conflict-holds (opening (at b p) f) (at b i) (within-⊑ _ _ (s .sets i j .w-in-v)) (within-⊑ _ _ (s .sets i j .r-in-q))
+          ∙ conflict-holds (opening (at b p) f) (at b i) (own-of b i s j .inside)
           (conflict-sym (at b i) (opening (at b p) f) e),
       ap₂ holdsBack (given-other b p f c a i j n) (given-same b p f c a)
-          ∙ conflict-holds (at b i) (opening (at b p) f) (own .wv) (own .rq) e,
+          ∙ conflict-holds (at b i) (opening (at b p) f) (own .inside) e,
     );
   }),
 )
@@ -137,8 +136,8 @@ used-unsafe b p f i s c a k j n e = loop-exists (withGiven b p f) .0 (
     own = opening-own (at b p) f k a (own-of b p s (is-of p c))
 
     in-i : i ∈ admitted b
-    in-i = mem-admitted b i (of-is i j) (not-of _ (no-true (not (isAdmitted (at b i .standing))) (λ t. let o = own-of b i s j .idle (not-true _ t) in
-        never e (idle-conflict (at b i) (opening (at b p) f) (o .0) (o .1)))))
+    in-i = mem-admitted b i (of-is i j) (not-of _ (no-true (not (isAdmitted (at b i .standing))) (λ t. never e
+        (idle-conflict (at b i) (opening (at b p) f) (own-of b i s j .idle (not-true _ t))))))
 
 -- No waiter of a sound board can be given its file without closing a loop: its file is in conflicting use, or no order comes back.
 pub waiter-unsafe : (b : Board) (p : ℕ) → sound b ≡ true → Is p → isWaiting (at b p .standing) ≡ true → safe b p (awaited b p) ≡ false
@@ -159,7 +158,7 @@ WaiterLoop = (b : Board) (p : ℕ) → sound b ≡ true → Is p → isWaiting (
 
 pub waiter-claims : (b : Board) (p : ℕ) → sound b ≡ true → Is p → isWaiting (at b p .standing) ≡ true → claims (at b p) (awaited b p) ≡ true
 waiter-claims b p e c w = let s = sound-iff b .0 e in let (f, d) = waiting-file (at b p .standing) w in
-    ap (λ g. claims (at b p) (awaitedOf g)) d ∙ claims-true (at b p) f (s .waiter-asked p f c d .claimed)
+    ap (λ g. claims (at b p) (awaitedOf g)) d ∙ s .waiter-asked p f c d .claimed
 
 pub waiter-loop : WaiterLoop
 waiter-loop b p e c w =
@@ -216,7 +215,7 @@ unsafe-open b (Open p f) e =
       call = refl;
       told = ap (λ (r : Reply). getD (r .lines) 0 blank) d ∙ x;
       is-in = and-both (isProgram p) (isAdmitted (at b p .standing)) (of-is p (m .is)) (ap isAdmitted (m .runs));
-      claimed = claims-true (at b p) f (m .asked .claimed);
+      claimed = m .asked .claimed;
       unsafe = n;
     }
 unsafe-open b (Close p f) e = never {t = false} (direct-unsafe b (Close p f) e .2) refl

@@ -10,11 +10,11 @@ use mathlib.Core.List.{List, [], _∷_, List·Memᴰ·head, List·Memᴰ·tail, 
 use lib.Dec.{eqb, leb}
 use lib.ListN.{length}
 use borrow.Author.Tests.{eqb-true, eqb-false, leb-true, le-leb}
-use Rattle.files.proofs.Tests.{by-test, by-option, never, and-left, and-right, and-both, not-true, not-of}
-use Rattle.rules.specs.Lists.{any, first, withFound, without, listed, distinct}
+use Rattle.laws.specs.Tests.{by-test, by-option, never, and-left, and-right, and-both, not-true, not-of}
+use Rattle.laws.specs.Lists.{any, first, withFound, without, listed, distinct}
 use Rattle.rules.specs.Digraph.{leadsTo, closes, isLoop}
-use Rattle.theory.specs.Lists.{_∈_, Pairs, NoRepeat, by-mem, here, no-some, any-some, first-some, first-none}
-use Rattle.theory.specs.Lists.{without-mem, Pairs-without, length-without, no-longer, listed-mem, mem-listed, distinct-once, once-distinct}
+use Rattle.laws.specs.Laws.{_∈_, Pairs, NoRepeat, by-mem, here, no-some, any-some, first-some, first-none}
+use Rattle.laws.specs.Laws.{without-mem, Pairs-without, length-without, no-longer, listed-mem, mem-listed, distinct-once, once-distinct}
 use Rattle.theory.specs.Order.{IsOrder, heldIn, search, orderIn}
 use Rattle.theory.specs.Reach.{Reaches, direct, through, no-order-by-round}
 

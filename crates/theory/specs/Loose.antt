@@ -4,27 +4,33 @@ use Prim.Native.Nat.{ℕ, _≤_, _+_, _-_}
 use native.Mathlib.Omega.{arith}
 use mathlib.Core.Path.{_≡_, refl, sym, _∙_, ap, ap₂, subst}
 use mathlib.Core.Logic.{_≢_}
-use mathlib.Core.Bool.{Bool, true, false, _||_}
+use mathlib.Core.Bool.{Bool, true, false}
 use mathlib.Core.List.{List, [], _∷_, _++_, List·Memᴰ·head, Memᴰ·append-left, Memᴰ·append-right}
 use lib.Dec.{eqb}
 use lib.ListN.{length, getD}
 use borrow.Author.Tests.{eqb-true, eqb-false}
-use Rattle.files.proofs.Tests.{by-test, never, no-true}
+use Rattle.laws.specs.Tests.{by-test, never, no-true}
 use Rattle.files.specs.declared.FileSet.{FileSet}
-use Rattle.files.specs.Sets.{isFile, noFiles, member, meets, removing}
-use Rattle.files.proofs.Laws.{_⊑_, none-⊑, meets-mono, removing-⊑, ⊑-removing}
+use Rattle.files.specs.Sets.{member}
+use Rattle.files.proofs.Laws.{_⊑_, none-⊑, removing-⊑, ⊑-removing}
 use Rattle.rules.specs.declared.Standing.{Standing}
 use Rattle.rules.specs.declared.Program.{Program}
 use Rattle.rules.specs.declared.Board.{Board}
-use Rattle.rules.specs.Lists.{without, names, padded}
-use Rattle.rules.specs.Boards.{noProgram, isAbsent, isHeld, isWaiting, isAdmitted, awaitedOf, hasOpen, setStanding, opening, closing, dropping}
+use Rattle.laws.specs.Lists.{without, names, padded}
+use Rattle.rules.specs.Boards.{noProgram, isAbsent, isHeld, isWaiting, isAdmitted, awaitedOf, claims, hasOpen, setStanding, opening, closing}
+use Rattle.rules.specs.Boards.{dropping}
+use Rattle.rules.specs.Modes.{Mode, Write, Read, claimOf, openOf, claimsMeet}
 use Rattle.rules.specs.Orders.{conflict, holdsBack}
-use Rattle.theory.specs.Lists.{_∈_, NoRepeat, names-padded, without-mem, mem-without, Pairs-without, once-snoc, by-snoc, length-without}
+use Rattle.rules.specs.Calls.{newcomer}
+use Rattle.laws.specs.Laws.{_∈_, NoRepeat, names-padded, without-mem, mem-without, Pairs-without, once-snoc, by-snoc, length-without}
 use Rattle.theory.specs.Order.{IsOrder, order-below, order-without}
 use Rattle.theory.specs.Programs.{Is, Within, idle-conflict, conflict-idle, Progs, prog, put, Sized, sized-put, put-same, put-other}
 use Rattle.theory.specs.Programs.{put-case, holds, isIn, ins, give, can, mem-ins, ins-mem, ins-once, ins-same, ins-out, ins-before}
-use Rattle.theory.specs.Programs.{Own, Base, put-less, base-shrink, base-leave, base-enter, opening-standing, opening-v, opening-more}
-use Rattle.theory.specs.Programs.{Claims, base-give, ins-give, can-mono}
+use Rattle.theory.specs.Modes.{closing-claim, closing-open, dropping-claim, dropping-open, none-claim, none-open, newcomer-open, claims-less}
+use Rattle.theory.specs.Modes.{no-mode, SameClaims}
+use Rattle.theory.specs.Programs.{Idle, Own, standing-same, same-turn, within-same, own-same, Base, put-less, base-shrink, base-leave}
+use Rattle.theory.specs.Programs.{base-enter, opening-standing, opening-claims, opening-more}
+use Rattle.theory.specs.Programs.{base-give, ins-give, can-mono}
 
 -- ── Standings ──
 
@@ -112,7 +118,7 @@ line-less l t t′ p a f k = line-make (without p (names l)) t′
 
 -- A waiter's file is a file, claimed, and not open by it.
 pub record Asked (x : Program) (f : ℕ) : Type 0 where
-  pub claimed : Claims x f
+  pub claimed : claims x f ≡ true
   pub shut : hasOpen x f ≡ false
 
 pub record LooseIn (P : Progs) (w e : List ℕ) (fav n l : ℕ) : Type 0 where
@@ -168,18 +174,24 @@ test-other T P p x c i k n = ap (λ (y : Program). T (y .standing)) (put-other P
 pub test-same : (T : Standing → Bool) (P : Progs) (p : ℕ) (x : Program) → Sized P → Is p → T (stands (put P p x) p) ≡ T (x .standing)
 test-same T P p x z c = ap (λ (y : Program). T (y .standing)) (put-same P p x z c)
 
--- p is put anew, and doesn't wait: whoever waits then is another ..
+-- p is put anew, and doesn't wait: whoever waits then is another.
 pub other-waits : (P : Progs) (p : ℕ) (x : Program) → Sized P → Is p → isWaiting (x .standing) ≡ false
     → (y g : ℕ) → stands (put P p x) y ≡ Standing.Waiting g → y ≢ p
 other-waits P p x z c n y g u q = never {t = false} (sym n ∙ sym (test-same isWaiting P p x z c)
     ∙ ap (λ j. isWaiting (stands (put P p x) j)) (sym q) ∙ ap isWaiting u) refl
 
--- .. with its file as before.
+-- p waits no longer, and the others are as they were: whoever waits has its file as before.
+asked-kept : (P P′ : Progs) (p : ℕ) → ((i : ℕ) → Is i → i ≢ p → prog P′ i ≡ prog P i) → waitsIn P′ p ≡ false
+    → ((y g : ℕ) → Is y → stands P y ≡ Standing.Waiting g → Asked (prog P y) g)
+    → (y g : ℕ) → Is y → stands P′ y ≡ Standing.Waiting g → Asked (prog P′ y) g
+asked-kept P P′ p same n f y g i u =
+    let m : y ≢ p = (λ q. never {t = false} (sym n ∙ ap (waitsIn P′) (sym q) ∙ ap isWaiting u) refl) in
+    let e = same y i m in subst (λ q. Asked q g) (sym e) (f y g i (ap (λ (q : Program). q .standing) (sym e) ∙ u))
+
 asked-put : (P : Progs) (p : ℕ) (x : Program) → Sized P → Is p → isWaiting (x .standing) ≡ false
     → ((y g : ℕ) → Is y → stands P y ≡ Standing.Waiting g → Asked (prog P y) g)
     → (y g : ℕ) → Is y → stands (put P p x) y ≡ Standing.Waiting g → Asked (prog (put P p x) y) g
-asked-put P p x z c n f y g i u = let e = put-other P p y x c i (other-waits P p x z c n y g u) in
-    subst (λ q. Asked q g) (sym e) (f y g i (ap (λ (q : Program). q .standing) (sym e) ∙ u))
+asked-put P p x z c n = asked-kept P (put P p x) p (λ i k m. put-other P p i x c k m) (test-same isWaiting P p x z c ∙ n)
 
 -- A running program is put anew, running, with no more than it had: close and drop.
 pub loose-shrink : (P : Progs) (w e : List ℕ) (fav n l p : ℕ) (x : Program) → Is p → stands P p ≡ Standing.Running
@@ -208,56 +220,61 @@ pub loose-close : (P : Progs) (w e : List ℕ) (fav n l p f : ℕ) → Is p → 
 unfolding closing
 loose-close P w e fav n l p f c r k = let x = prog P p in let o = k .base .own p c in
     loose-shrink P w e fav n l p (closing x f) c r r (record {
-      in-v = λ g z. z;
-      in-q = λ g z. z;
-      in-w = removing-⊑ (x .writing) f;
-      in-r = removing-⊑ (x .reading) f;
+      in-claim = λ m. subst (λ s. s ⊑ claimOf m x) (sym (closing-claim m x f)) (λ g z. z);
+      in-open = less x;
     })
     (record {
-      wv = λ g z. o .wv g (removing-⊑ (x .writing) f g z);
-      rq = λ g z. o .rq g (removing-⊑ (x .reading) f g z);
-      vq = o .vq;
+      inside = λ m. subst (λ s. openOf m (closing x f) ⊑ s) (sym (closing-claim m x f)) (λ g z. o .inside m g (less x m g z));
+      apart = o .apart;
       idle = λ z. never {t = true} refl (sym (ap isAdmitted r) ∙ z);
-      gone = o .gone;
+      gone = λ z m. closing-claim m x f ∙ o .gone z m;
     }) k
+  where
+    less : (x : Program) (m : Mode) → openOf m (closing x f) ⊑ openOf m x
+    less x m = subst (λ s. s ⊑ openOf m x) (sym (closing-open m x f)) (removing-⊑ (openOf m x) f)
 
 -- ── Drop, of a file that is not open ──
-
-or-false-left : (a b : Bool) → a || b ≡ false → a ≡ false
-or-false-left true b e = e
-or-false-left false b e = refl
-
-or-false-right : (a b : Bool) → a || b ≡ false → b ≡ false
-or-false-right true b e = never {t = true} refl e
-or-false-right false b e = e
 
 pub loose-drop : (P : Progs) (w e : List ℕ) (fav n l p f : ℕ) → Is p → stands P p ≡ Standing.Running
     → hasOpen (prog P p) f ≡ false → LooseIn P w e fav n l → LooseIn (put P p (dropping (prog P p) f)) w e fav n l
 unfolding dropping
 loose-drop P w e fav n l p f c r h k = let x = prog P p in let o = k .base .own p c in
     loose-shrink P w e fav n l p (dropping x f) c r r (record {
-      in-v = removing-⊑ (x .writable) f;
-      in-q = removing-⊑ (x .readable) f;
-      in-w = λ g z. z;
-      in-r = λ g z. z;
+      in-claim = less x;
+      in-open = λ m. subst (λ s. s ⊑ openOf m x) (sym (dropping-open m x f)) (λ g z. z);
     })
     (record {
-      wv = ⊑-removing (x .writing) (x .writable) f (o .wv) (or-false-left (member (x .writing) f) (member (x .reading) f) h);
-      rq = ⊑-removing (x .reading) (x .readable) f (o .rq) (or-false-right (member (x .writing) f) (member (x .reading) f) h);
-      vq = no-true _ (λ u. never (meets-mono _ _ _ _ (removing-⊑ (x .writable) f) (removing-⊑ (x .readable) f) u) (o .vq));
+      inside = λ m. subst (λ s. s ⊑ claimOf m (dropping x f)) (sym (dropping-open m x f))
+          (subst (λ s. openOf m x ⊑ s) (sym (dropping-claim m x f)) (⊑-removing (openOf m x) (claimOf m x) f (o .inside m)
+          (no-mode (λ m. member (openOf m x) f) h m)));
+      apart = claims-less _ _ _ _ (less x Write) (less x Read) (o .apart);
       idle = λ z. never {t = true} refl (sym (ap isAdmitted r) ∙ z);
       gone = λ z. never {t = false} (sym (ap isAbsent r) ∙ ap isAbsent z) refl;
     }) k
+  where
+    less : (x : Program) (m : Mode) → claimOf m (dropping x f) ⊑ claimOf m x
+    less x m = subst (λ s. s ⊑ claimOf m x) (sym (dropping-claim m x f)) (removing-⊑ (claimOf m x) f)
 
 -- ── Leave ──
 
+pub none-within : (x : Program) → Within noProgram x
+none-within x = record {
+  in-claim = λ m. subst (λ s. s ⊑ claimOf m x) (sym (none-claim m)) (none-⊑ _);
+  in-open = λ m. subst (λ s. s ⊑ openOf m x) (sym (none-open m)) (none-⊑ _);
+}
+
 pub none-own : Own noProgram
-none-own = record { wv = λ g z. z; rq = λ g z. z; vq = refl; idle = λ z. (refl, refl); gone = λ z. (refl, refl) }
+none-own = record {
+  inside = λ m. subst (λ s. s ⊑ claimOf m noProgram) (sym (none-open m)) (none-⊑ _);
+  apart = refl;
+  idle = λ z. none-open;
+  gone = λ z. none-claim;
+}
 
 pub loose-leave : (P : Progs) (w e : List ℕ) (fav n l l′ p : ℕ) → Is p → stands P p ≡ Standing.Running
     → (fav ≢ 0 → l′ ≡ l + 1) → (fav ≡ 0 → l′ ≡ l) → LooseIn P w e fav n l → LooseIn (put P p noProgram) w e fav n l′
 loose-leave P w e fav n l l′ p c r up stay k = record {
-  base = base-leave P p noProgram c (record { in-v = none-⊑ _; in-q = none-⊑ _; in-w = none-⊑ _; in-r = none-⊑ _ }) none-own refl (k .base);
+  base = base-leave P p noProgram c (none-within (prog P p)) none-own refl (k .base);
   waits = line-same w _ _ (test-put isWaiting P p noProgram z c (sym (ap isWaiting r))) (k .waits);
   helds = line-same e _ _ (test-put isHeld P p noProgram z c (sym (ap isHeld r))) (k .helds);
   asked = asked-put P p noProgram z c refl (k .asked);
@@ -277,7 +294,7 @@ pub loose-withdraw : (P : Progs) (w e : List ℕ) (fav n l fav′ n′ l′ p f 
     → (fav′ ≢ 0 → (fav′ ≡ fav) × (fav ≢ p) × (n′ ≡ n) × (l′ ≡ l + 1)) → (fav′ ≡ 0 → (n′ ≡ 0) × (l′ ≡ 0))
     → LooseIn P w e fav n l → LooseIn (put P p noProgram) (padded 0 (without p (names w))) e fav′ n′ l′
 loose-withdraw P w e fav n l fav′ n′ l′ p f c s keep stop k = record {
-  base = base-leave P p noProgram c (record { in-v = none-⊑ _; in-q = none-⊑ _; in-w = none-⊑ _; in-r = none-⊑ _ }) none-own refl (k .base);
+  base = base-leave P p noProgram c (none-within (prog P p)) none-own refl (k .base);
   waits = line-less w _ _ p (test-same isWaiting P p noProgram z c) (test-other isWaiting P p noProgram c) (k .waits);
   helds = line-same e _ _ (test-put isHeld P p noProgram z c (sym (ap isHeld s))) (k .helds);
   asked = asked-put P p noProgram z c refl (k .asked);
@@ -295,7 +312,7 @@ loose-withdraw P w e fav n l fav′ n′ l′ p f c s keep stop k = record {
 pub loose-unhold : (P : Progs) (w e : List ℕ) (fav n l p : ℕ) → Is p → stands P p ≡ Standing.Held → LooseIn P w e fav n l → LooseIn
     (put P p noProgram) w (padded 0 (without p (names e))) fav n l
 loose-unhold P w e fav n l p c s k = record {
-  base = base-shrink P p noProgram c (record { in-v = none-⊑ _; in-q = none-⊑ _; in-w = none-⊑ _; in-r = none-⊑ _ }) none-own (sym
+  base = base-shrink P p noProgram c (none-within (prog P p)) none-own (sym
       (ap isAdmitted s)) (k .base);
   waits = line-same w _ _ (test-put isWaiting P p noProgram z c (sym (ap isWaiting s))) (k .waits);
   helds = line-less e _ _ p (test-same isHeld P p noProgram z c) (test-other isHeld P p noProgram c) (k .helds);
@@ -312,16 +329,16 @@ loose-unhold P w e fav n l p c s k = record {
 
 -- A program is put anew with no fewer files, admitted as before.
 pub stuck-put : (P : Progs) (p : ℕ) (x : Program) → Sized P → Is p → Within (prog P p) x → isAdmitted (x .standing) ≡ isIn P p
-    → (y g : ℕ) → Is y → (y ≡ p → prog P p .writable ≡ x .writable) → can P y g ≡ false → can (put P p x) y g ≡ false
+    → (y g : ℕ) → Is y → (y ≡ p → SameClaims (prog P p) x) → can P y g ≡ false → can (put P p x) y g ≡ false
 stuck-put P p x z c d e y g i v n = no-true _ (λ t. never (can-mono P (put P p x) y g z (sized-put P p x z) i (put-less P p x z c d)
-    (put-case (λ q. prog P y .writable ≡ q .writable) P p x z c y i (λ k. ap (λ j. prog P j .writable) k ∙ v k) (λ _. refl))
+    (put-case (λ q. SameClaims (prog P y) q) P p x z c y i (λ k. subst (λ j. SameClaims (prog P j) x) (sym k) (v k)) (λ _ m. refl))
     (λ h o k. (o, subst (λ m. IsOrder h m o) (ins-same P p x z c e) k)) t) n)
 
 -- One more program is admitted.
 stuck-admit : (P : Progs) (p : ℕ) (x : Program) → Sized P → Is p → isIn P p ≡ false → Within (prog P p) x
     → (y g : ℕ) → Is y → y ≢ p → can P y g ≡ false → can (put P p x) y g ≡ false
 stuck-admit P p x z c out d y g i m n = no-true _ (λ t. never (can-mono P (put P p x) y g z (sized-put P p x z) i (put-less P p x z c d)
-    (ap (λ (q : Program). q .writable) (sym (put-other P p y x c i m)))
+    (λ q. ap (claimOf q) (sym (put-other P p y x c i m)))
     (λ h o k. (
       without p o,
       subst (λ q. IsOrder h q (without p o)) (sym (ins-before P p x c out))
@@ -365,22 +382,15 @@ module _ (P : Progs) (p f : ℕ) (z : Sized P) (c : Is p) where
   pub served-stuck : isIn P p ≡ true → (y g : ℕ) → Is y → can P y g ≡ false → can (served P p f) y g ≡ false
   unfolding give
   served-stuck a y g i n = stuck-put (give P p f) p (setStanding (prog (give P p f) p) Standing.Running) given-size c
-      (record { in-v = λ _ u. u; in-q = λ _ u. u; in-w = λ _ u. u; in-r = λ _ u. u }) (sym (ap isAdmitted given-stands
-      ∙ a)) y g i (λ _. refl)
+      (within-same _ _ (standing-same _ Standing.Running)) (sym (ap isAdmitted given-stands
+      ∙ a)) y g i (λ _. standing-same (prog (give P p f) p) Standing.Running .same-claim)
       (stuck-put P p (opening (prog P p) f) z c (opening-more (prog P p) f)
-      (ap isAdmitted (opening-standing (prog P p) f)) y g i (λ _. sym (opening-v (prog P p) f)) n)
+      (ap isAdmitted (opening-standing (prog P p) f)) y g i (λ _. opening-claims (prog P p) f) n)
 
-  pub served-base : Claims (prog P p) f → isIn P p ≡ true → can P p f ≡ true → Base P → Base (served P p f)
+  pub served-base : claims (prog P p) f ≡ true → isIn P p ≡ true → can P p f ≡ true → Base P → Base (served P p f)
   served-base m a e b = base-shrink (give P p f) p (setStanding (prog (give P p f) p) Standing.Running) c
-      (record { in-v = λ _ u. u; in-q = λ _ u. u; in-w = λ _ u. u; in-r = λ _ u. u })
-      (record {
-        wv = o .wv;
-        rq = o .rq;
-        vq = o .vq;
-        idle = λ u. never {t = true} refl u;
-        gone = λ u. never {t = false}
-            (ap isAbsent u) refl;
-      }) (sym (ap isAdmitted given-stands ∙ a)) g
+      (within-same _ _ (same-turn _ _ (standing-same _ Standing.Running)))
+      (own-same _ _ (standing-same _ Standing.Running) refl o) (sym (ap isAdmitted given-stands ∙ a)) g
     where
       g : Base (give P p f)
       g = base-give P p f c m a e b
@@ -397,10 +407,7 @@ loose-serve P w e fav n l fav′ n′ l′ p f c s u keep stop k = record {
   waits = line-less w _ _ p (ap isWaiting (served-runs P p f z c))
       (λ i j m. ap (λ (q : Program). isWaiting (q .standing)) (served-other P p f z c i j m)) (k .waits);
   helds = line-same e _ _ still (k .helds);
-  asked = λ y g i v. let m : y ≢ p = (λ q. never {t = false} (sym (ap isWaiting (served-runs P p f z c))
-      ∙ ap (λ j. isWaiting (stands (served P p f) j)) (sym q) ∙ ap isWaiting v) refl) in
-      subst (λ q. Asked q g) (sym (served-other P p f z c y i m)) (k .asked y g i (ap (λ (q : Program). q .standing)
-      (sym (served-other P p f z c y i m)) ∙ v));
+  asked = asked-kept P (served P p f) p (served-other P p f z c) (ap isWaiting (served-runs P p f z c)) (k .asked);
   fav-waits = λ m. let (d, x, _, _) = keep m in let (i, v) = k .fav-waits (λ q. m (d ∙ q)) in
       subst (λ j. Is j × (waitsIn (served P p f) j ≡ true)) (sym d) (
         i,
@@ -427,7 +434,7 @@ loose-serve P w e fav n l fav′ n′ l′ p f c s u keep stop k = record {
 -- ── Open: the file is given ──
 
 pub loose-open : (P : Progs) (w e : List ℕ) (fav n l p f : ℕ) → Is p → stands P p ≡ Standing.Running
-    → Claims (prog P p) f → can P p f ≡ true → LooseIn P w e fav n l → LooseIn (give P p f) w e fav n l
+    → claims (prog P p) f ≡ true → can P p f ≡ true → LooseIn P w e fav n l → LooseIn (give P p f) w e fav n l
 unfolding give
 loose-open P w e fav n l p f c r m u k = record {
   base = base-give P p f c m (ap isAdmitted r) u (k .base);
@@ -452,7 +459,7 @@ pub stuck-open : (P : Progs) (p f : ℕ) → Sized P → Is p → stands P p ≡
 unfolding give
 stuck-open P p f z c r s y g i v =
     stuck-put P p x z c (opening-more (prog P p) f) (ap isAdmitted (opening-standing (prog P p) f)) y g i
-    (λ _. sym (opening-v (prog P p) f)) (s y g i (sym same ∙ v))
+    (λ _. opening-claims (prog P p) f) (s y g i (sym same ∙ v))
   where
     x : Program
     x = opening (prog P p) f
@@ -466,15 +473,8 @@ pub loose-wait : (P : Progs) (w e : List ℕ) (fav n l p f : ℕ) → Is p → s
     → Asked (prog P p) f → LooseIn P w e fav n l
     → LooseIn (put P p (setStanding (prog P p) (Standing.Waiting f))) (padded 0 (names w ++ (p ∷ []))) e fav n l
 loose-wait P w e fav n l p f c r m k = record {
-  base = base-shrink P p x c (record { in-v = λ _ u. u; in-q = λ _ u. u; in-w = λ _ u. u; in-r = λ _ u. u })
-      (record {
-        wv = o .wv;
-        rq = o .rq;
-        vq = o .vq;
-        idle = λ u. never {t = true} refl u;
-        gone = λ u. never {t = false}
-            (ap isAbsent u) refl;
-      }) (sym (ap isAdmitted r)) (k .base);
+  base = base-shrink P p x c (within-same _ _ (same-turn _ _ (standing-same _ (Standing.Waiting f))))
+      (own-same _ _ (standing-same _ (Standing.Waiting f)) refl o) (sym (ap isAdmitted r)) (k .base);
   waits = line-more w _ _ p c (ap isWaiting r) (test-same isWaiting P p x z c) (test-other isWaiting P p x c) (k .waits);
   helds = line-same e _ _ (test-put isHeld P p x z c (sym (ap isHeld r))) (k .helds);
   asked = λ y g i u. by-test (eqb y p)
@@ -504,12 +504,8 @@ loose-wait P w e fav n l p f c r m k = record {
 
 pub stuck-wait : (P : Progs) (p f : ℕ) → Sized P → Is p → stands P p ≡ Standing.Running → can P p f ≡ false → Stuck P
     → Stuck (put P p (setStanding (prog P p) (Standing.Waiting f)))
-stuck-wait P p f z c r n s y g i u = stuck-put P p x z c (record {
-  in-v = λ _ v. v;
-  in-q = λ _ v. v;
-  in-w = λ _ v. v;
-  in-r = λ _ v. v;
-}) (sym (ap isAdmitted r)) y g i (λ _. refl)
+stuck-wait P p f z c r n s y g i u = stuck-put P p x z c (within-same _ _ (standing-same _ (Standing.Waiting f))) (sym (ap isAdmitted r)) y g i
+    (λ _. standing-same (prog P p) (Standing.Waiting f) .same-claim)
     (by-test (eqb y p)
     (λ t. let d = eqb-true y p t in let q : f ≡ g = same-file f g
     (sym (ap (λ (q : Program). q .standing) (put-same P p x z c)) ∙ ap (stands (put P p x)) (sym d) ∙ u) in ap₂ (can P) d (sym q) ∙ n)
@@ -521,23 +517,17 @@ stuck-wait P p f z c r n s y g i u = stuck-put P p x z c (record {
 -- ── Enter ──
 
 absent-within : (x y : Program) → Own x → x .standing ≡ Standing.Absent → Within x y
-absent-within x y o e = let (a, b) = o .gone e in let (c, d) = o .idle (ap isAdmitted e) in
-    record {
-      in-v = sub (x .writable) (y .writable) a;
-      in-q = sub (x .readable) (y .readable) b;
-      in-w = sub (x .writing) (y .writing) c;
-      in-r = sub (x .reading) (y .reading) d;
-    }
-  where
-    sub : (s t : FileSet) → s ≡ noFiles → s ⊑ t
-    sub s t k = rw k (none-⊑ t)
+absent-within x y o e = record {
+  in-claim = λ m. subst (λ s. s ⊑ claimOf m y) (sym (o .gone e m)) (none-⊑ _);
+  in-open = λ m. subst (λ s. s ⊑ openOf m y) (sym (o .idle (ap isAdmitted e) m)) (none-⊑ _);
+}
 
 -- A program with nothing open runs that was not admitted: one that enters, or one that was held.
 pub loose-admit : (P : Progs) (w e e′ : List ℕ) (n l p : ℕ) (x : Program) → Is p → isIn P p ≡ false
-    → x .writing ≡ noFiles → x .reading ≡ noFiles → x .standing ≡ Standing.Running → Own x
+    → Idle x → x .standing ≡ Standing.Running → Own x
     → OnLine e′ (heldAt (put P p x)) → LooseIn P w e 0 n l → LooseIn (put P p x) w e′ 0 n l
-loose-admit P w e e′ n l p x c out a b s o h k = record {
-  base = base-enter P p x c out a b o (ap isAdmitted s) (k .base);
+loose-admit P w e e′ n l p x c out a s o h k = record {
+  base = base-enter P p x c out a o (ap isAdmitted s) (k .base);
   waits = line-same w _ _ (test-put isWaiting P p x z c (ap isWaiting s ∙ sym idle)) (k .waits);
   helds = h;
   asked = asked-put P p x z c (ap isWaiting s) (k .asked);
@@ -559,19 +549,23 @@ stuck-in P p x z c out d s k y g i u =
     stuck-admit P p x z c out d y g i m (k y g i (ap (λ (q : Program). q .standing) (sym (put-other P p y x c i m)) ∙ u))
 
 -- A newcomer's sets.
-pub newcomer-own : (s : Standing) (v q : FileSet) → meets v q ≡ false → isAbsent s ≡ false
-    → Own (record { writable = v; readable = q; writing = noFiles; reading = noFiles; standing = s })
-newcomer-own s v q m n = record { wv = none-⊑ v; rq = none-⊑ q; vq = m; idle = λ _. (refl, refl); gone = λ d. never (ap isAbsent d) n }
+pub newcomer-own : (s : Standing) (v q : FileSet) → claimsMeet v q ≡ false → isAbsent s ≡ false → Own (newcomer v q s)
+newcomer-own s v q m n = record {
+  inside = λ k. subst (λ t. t ⊑ claimOf k (newcomer v q s)) (sym (newcomer-open k v q s)) (none-⊑ _);
+  apart = m;
+  idle = λ _ k. newcomer-open k v q s;
+  gone = λ d. never (ap isAbsent d) n;
+}
 
 -- Enter, with nobody favoured: the program runs.
 pub loose-enter : (P : Progs) (w e : List ℕ) (n l p : ℕ) (v q : FileSet) → Is p → stands P p ≡ Standing.Absent
-    → meets v q ≡ false → LooseIn P w e 0 n l
-    → LooseIn (put P p (record { writable = v; readable = q; writing = noFiles; reading = noFiles; standing = Standing.Running })) w e 0 n l
-loose-enter P w e n l p v q c s m k = loose-admit P w e e n l p x c (ap isAdmitted s) refl refl refl
+    → claimsMeet v q ≡ false → LooseIn P w e 0 n l
+    → LooseIn (put P p (newcomer v q Standing.Running)) w e 0 n l
+loose-enter P w e n l p v q c s m k = loose-admit P w e e n l p x c (ap isAdmitted s) (λ m. newcomer-open m v q Standing.Running) refl
     (newcomer-own Standing.Running v q m refl) (line-same e _ _ (test-put isHeld P p x (k .base .size) c (sym (ap isHeld s))) (k .helds)) k
   where
     x : Program
-    x = record { writable = v; readable = q; writing = noFiles; reading = noFiles; standing = Standing.Running }
+    x = newcomer v q Standing.Running
 
 pub stuck-enter : (P : Progs) (p : ℕ) (x : Program) → Base P → Is p → stands P p ≡ Standing.Absent
     → x .standing ≡ Standing.Running → Stuck P → Stuck (put P p x)
@@ -579,21 +573,15 @@ stuck-enter P p x b c s r k = stuck-in P p x (b .size) c (ap isAdmitted s) (abse
 
 -- Enter, with somebody favoured, or to be: the program is held.
 pub loose-hold : (P : Progs) (w e : List ℕ) (fav n l p : ℕ) (v q : FileSet) → Is p → stands P p ≡ Standing.Absent
-    → meets v q ≡ false → LooseIn P w e fav n l
-    → LooseIn (put P p (record {
-      writable = v;
-      readable = q;
-      writing = noFiles;
-      reading = noFiles;
-      standing = Standing.Held;
-    })) w (padded 0 (names e ++ (p ∷ []))) fav n l
+    → claimsMeet v q ≡ false → LooseIn P w e fav n l
+    → LooseIn (put P p (newcomer v q Standing.Held)) w (padded 0 (names e ++ (p ∷ []))) fav n l
 loose-hold P w e fav n l p v q c s m k = record {
   base = record {
     size = sized-put P p x z;
     own = λ i j. put-case Own P p x z c i j (λ _. newcomer-own Standing.Held v q m refl) (λ _. k .base .own i j);
     apart = λ i j a b d. put-case (λ y. conflict y (prog (put P p x) j) ≡ false) P p x z c i a
-        (λ _. idle-conflict x (prog (put P p x) j) refl refl)
-        (λ _. put-case (λ y. conflict (prog P i) y ≡ false) P p x z c j b (λ _. conflict-idle (prog P i) x refl refl)
+        (λ _. idle-conflict x (prog (put P p x) j) (λ m. newcomer-open m v q Standing.Held))
+        (λ _. put-case (λ y. conflict (prog P i) y ≡ false) P p x z c j b (λ _. conflict-idle (prog P i) x (λ m. newcomer-open m v q Standing.Held))
         (λ _. k .base .apart i j a b d));
     order = (
       k .base .order .0,
@@ -614,7 +602,7 @@ loose-hold P w e fav n l p v q c s m k = record {
     z = k .base .size
 
     x : Program
-    x = record { writable = v; readable = q; writing = noFiles; reading = noFiles; standing = Standing.Held }
+    x = newcomer v q Standing.Held
 
     adm : false ≡ isIn P p
     adm = sym (ap isAdmitted s)

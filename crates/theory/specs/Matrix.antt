@@ -9,14 +9,14 @@ use mathlib.Core.Option.{none, some}
 use mathlib.Core.List.{List, [], _∷_, List·Memᴰ·tail, List·Memᴰ·not-nil}
 use lib.Dec.{eqb}
 use borrow.Author.Tests.{eqb-false, ne-eqb}
-use Rattle.files.proofs.Tests.{by-option, or-cases, or-left, or-right, and-left, and-right, and-both, not-true, true-not}
-use Rattle.files.proofs.Tests.{same-test}
+use Rattle.laws.specs.Tests.{by-option, or-cases, or-left, or-right, and-left, and-right, and-both, not-true, true-not}
+use Rattle.laws.specs.Tests.{same-test}
 use Rattle.rules.specs.declared.Board.{Board}
-use Rattle.rules.specs.Lists.{any}
+use Rattle.laws.specs.Lists.{any}
 use Rattle.rules.specs.Boards.{isAdmitted, isProgram, everyone, at, admitted}
 use Rattle.rules.specs.Orders.{carried}
 use Rattle.rules.specs.Digraph.{isIn, step, paths, reaches}
-use Rattle.theory.specs.Lists.{_∈_, NoRepeat, by-mem, here}
+use Rattle.laws.specs.Laws.{_∈_, NoRepeat, by-mem, here}
 use Rattle.theory.specs.Order.{orderIn}
 use Rattle.theory.specs.Programs.{of-is, mem-everyone, ins-once, carried-is, admitted-is}
 use Rattle.theory.specs.Carried.{holdsOn, CompletionOrder, carried-sound}

@@ -11,11 +11,11 @@ use mathlib.Core.List.{Memᴰ·append-right, List·Memᴰ·append-cases, List·M
 use lib.Dec.{eqb}
 use lib.ListN.{length}
 use borrow.Author.Tests.{eqb-true, eqb-false, ne-eqb}
-use Rattle.files.proofs.Tests.{by-test, by-option, never, and-right, and-both, no-true, not-true, true-not}
-use Rattle.rules.specs.Lists.{any, first, withFound, without}
-use Rattle.theory.specs.Lists.{_∈_, Pairs, NoRepeat, by-mem, here, no-some, some-same, any-some, some-any, first-some}
-use Rattle.theory.specs.Lists.{first-none, without-mem, mem-without, Pairs-without, length-without, Pairs-map₂, Pairs-append}
-use Rattle.theory.specs.Lists.{Pairs-split}
+use Rattle.laws.specs.Tests.{by-test, by-option, never, and-right, and-both, no-true, not-true, true-not}
+use Rattle.laws.specs.Lists.{any, first, withFound, without}
+use Rattle.laws.specs.Laws.{_∈_, Pairs, NoRepeat, by-mem, here, no-some, some-same, any-some, some-any, first-some}
+use Rattle.laws.specs.Laws.{first-none, without-mem, mem-without, Pairs-without, length-without, Pairs-map₂, Pairs-append}
+use Rattle.laws.specs.Laws.{Pairs-split}
 
 -- None is held back by a later one.
 abbrev pub Clear : (ℕ → ℕ → Bool) → List ℕ → Type 0

@@ -7,7 +7,7 @@ use mathlib.Core.Bool.{true}
 use mathlib.Core.List.{List, [], _∷_, _++_}
 use lib.ListN.{length}
 use Rattle.rules.specs.declared.Standing.{Standing}
-use Rattle.rules.specs.Lists.{without}
+use Rattle.laws.specs.Lists.{without}
 use Rattle.rules.specs.Boards.{isWaiting, at, passedBy, admitted}
 use Rattle.rules.specs.Replies.{linesOf, admits}
 use Rattle.rules.specs.Calls.{Call, Open}

@@ -8,19 +8,19 @@ use mathlib.Core.Bool.{true, false}
 use mathlib.Core.List.{List, [], _∷_, _++_, append-nil, append-assoc}
 use lib.Dec.{eqb}
 use lib.ListN.{length}
-use Rattle.files.proofs.Tests.{by-test, never}
+use Rattle.laws.specs.Tests.{by-test, never}
 use Rattle.rules.specs.declared.Standing.{Standing}
 use Rattle.rules.specs.declared.Program.{Program}
 use Rattle.rules.specs.declared.Board.{Board}
 use Rattle.rules.specs.declared.Answer.{Answer}
 use Rattle.rules.specs.declared.Reply.{Reply}
-use Rattle.rules.specs.Lists.{padded}
+use Rattle.laws.specs.Lists.{padded}
 use Rattle.rules.specs.Boards.{noProgram, isWaiting, isAdmitted, emptyBoard, at, passedBy, admitted}
 use Rattle.rules.specs.Orders.{inUse, safe}
 use Rattle.rules.specs.Replies.{refused, reply, linesOf, admits}
 use Rattle.rules.specs.Calls.{openFile, Call, Enter, Open, Close, Drop, Leave, Cancel}
 use Rattle.rules.specs.Worked.{workedFrom, worked}
-use Rattle.theory.specs.Lists.{_∈_, NoRepeat, length-without}
+use Rattle.laws.specs.Laws.{_∈_, NoRepeat, length-without}
 use Rattle.theory.specs.Programs.{Is, admitted-is, mem-ins, ins-once}
 use Rattle.theory.specs.Loose.{stands, waiting-file, waiting-in}
 use Rattle.theory.specs.Calls.{goneCount, countIf, goneBy, apply-accepted, OpenMay, open-may}

@@ -3,28 +3,30 @@
 -- Assumes nothing.
 use Prim.Native.Nat.{ℕ, zero, suc, _≤_, _-_}
 use native.Mathlib.Omega.{arith}
-use mathlib.Core.Path.{_≡_, refl, sym, _∙_, ap, ap₂}
+use mathlib.Core.Path.{_≡_, refl, sym, _∙_, ap, ap₂, subst}
 use mathlib.Core.Logic.{_≢_, _⊎_, inl, inr, ⊎-elim}
-use mathlib.Core.Bool.{Bool, true, false, not, _&&_, _||_}
+use mathlib.Core.Bool.{Bool, true, false, not, _&&_}
 use mathlib.Core.List.{List, [], _∷_, _++_}
 use lib.Dec.{eqb, leb}
 use lib.ListN.{length, getD, set, length-set}
 use lib.Seq.{getD-set-same, getD-set-other}
 use borrow.Author.Tests.{eqb-true, eqb-false, ne-eqb, leb-true, le-leb}
-use Rattle.files.proofs.Tests.{by-test, by-option, never, or-cases, or-left, or-right, and-left, and-right, and-both, no-true, not-true, true-not}
-use Rattle.files.specs.declared.FileSet.{FileSet}
-use Rattle.files.specs.Sets.{noFiles, member, meets, adding}
-use Rattle.files.proofs.Laws.{_⊑_, meets-mono, meets-sym, meets-at, none-meets, meets-none, adding-⊒, adding-⊑, adding-mono, adding-meets}
+use Rattle.laws.specs.Tests.{by-test, by-option, never, and-left, and-right, and-both, no-true, not-true, true-not, same-test}
+use Rattle.files.specs.Sets.{noFiles, member, meets}
+use Rattle.files.proofs.Laws.{_⊑_, meets-at, adding-⊒, adding-⊑, adding-mono, adding-meets}
 use Rattle.rules.specs.declared.Standing.{Standing}
 use Rattle.rules.specs.declared.Program.{Program}
 use Rattle.rules.specs.declared.Board.{Board}
-use Rattle.rules.specs.Lists.{any, keep, rising, without, found, first}
-use Rattle.rules.specs.Boards.{noProgram, isAdmitted, isProgram, everyone, at, admitted, opening}
+use Rattle.laws.specs.Lists.{any, keep, rising, without, found, first}
+use Rattle.rules.specs.Modes.{Mode, Write, Read, claimOf, openOf, claimsMeet, modeOf}
+use Rattle.rules.specs.Boards.{noProgram, isAdmitted, isProgram, everyone, at, admitted, claims, setStanding, opened, opening}
 use Rattle.rules.specs.Orders.{conflict, holdsBack, heldBack, carriedFrom, carried, withGiven, inUse, safe, canGive}
-use Rattle.theory.specs.Lists.{_∈_, Pairs, NoRepeat, by-mem, any-some, some-any, found-some, keep-mem, mem-keep, keep-same}
-use Rattle.theory.specs.Lists.{keep-but, Pairs-keep, length-keep, without-mem, mem-without, rising-mem, mem-rising, rising-pairs}
-use Rattle.theory.specs.Lists.{length-rising, Pairs-map}
+use Rattle.laws.specs.Laws.{_∈_, Pairs, NoRepeat, by-mem, any-some, some-any, found-some, keep-mem, mem-keep, keep-same}
+use Rattle.laws.specs.Laws.{keep-but, Pairs-keep, length-keep, without-mem, mem-without, rising-mem, mem-rising, rising-pairs}
+use Rattle.laws.specs.Laws.{length-rising, Pairs-map}
 use Rattle.theory.specs.Order.{Names, IsOrder, heldIn, search, orderIn, orderIn-iff, orderIn-none, HeldLater, held-not-clear}
+use Rattle.theory.specs.Modes.{clashing-turn, by-touching, touching-by, touching-mono, touching-sym, none-touches, touches-none, opened-claim}
+use Rattle.theory.specs.Modes.{standing-claim, standing-open, opened-case, opened-both, mode-claims, SameClaims, mode-same}
 use Rattle.theory.specs.Order.{order-below, order-without, order-last, order-first}
 
 -- p is a program: 1 to 32.
@@ -46,91 +48,40 @@ pub everyone-is : (p : ℕ) → p ∈ everyone → Is p
 unfolding everyone
 everyone-is p m = let r = rising-mem 32 1 p m in record { least = r .0; most = let k = r .1 in omega arith }
 
--- ── Three tests, one of which passes ──
-
-data Any₃ (a b c : Bool) : Type 0 where
-  any-1 : a ≡ true → Any₃ a b c
-  any-2 : b ≡ true → Any₃ a b c
-  any-3 : c ≡ true → Any₃ a b c
-
-any₃ : (a b c : Bool) → Any₃ a b c → a || b || c ≡ true
-any₃ a b c (any-1 e) = or-left (a || b) c (or-left a b e)
-any₃ a b c (any-2 e) = or-left (a || b) c (or-right a b e)
-any₃ a b c (any-3 e) = or-right (a || b) c e
-
-which₃ : (a b c : Bool) → a || b || c ≡ true → Any₃ a b c
-which₃ a b c e = or-cases (a || b) c e (λ u. or-cases a b u any-1 any-2) any-3
-
-map₃ : {a b c a′ b′ c′ : Bool} → (a ≡ true → a′ ≡ true) → (b ≡ true → b′ ≡ true) → (c ≡ true → c′ ≡ true)
-    → Any₃ a b c → Any₃ a′ b′ c′
-map₃ f g h (any-1 e) = any-1 (f e)
-map₃ f g h (any-2 e) = any-2 (g e)
-map₃ f g h (any-3 e) = any-3 (h e)
-
-none₃ : (a b c : Bool) → a ≡ false → b ≡ false → c ≡ false → a || b || c ≡ false
-none₃ a b c x y z = rw (x, y, z)
-
-conflict-by : (i j : Program) → Any₃ (meets (i .writing) (j .writing)) (meets (i .writing) (j .reading))
-    (meets (j .writing) (i .reading)) → conflict i j ≡ true
-conflict-by i j = any₃ (meets (i .writing) (j .writing)) (meets (i .writing) (j .reading)) (meets (j .writing) (i .reading))
-
-by-conflict : (i j : Program) → conflict i j ≡ true → Any₃ (meets (i .writing) (j .writing))
-    (meets (i .writing) (j .reading)) (meets (j .writing) (i .reading))
-by-conflict i j = which₃ (meets (i .writing) (j .writing)) (meets (i .writing) (j .reading)) (meets (j .writing) (i .reading))
-
-holdsBack-by : (i j : Program) → Any₃ (meets (i .writing) (j .writable)) (meets (i .writing) (j .readable))
-    (meets (i .reading) (j .writable)) → holdsBack i j ≡ true
-holdsBack-by i j = any₃ (meets (i .writing) (j .writable)) (meets (i .writing) (j .readable)) (meets (i .reading) (j .writable))
-
-by-holdsBack : (i j : Program) → holdsBack i j ≡ true → Any₃ (meets (i .writing) (j .writable))
-    (meets (i .writing) (j .readable)) (meets (i .reading) (j .writable))
-by-holdsBack i j = which₃ (meets (i .writing) (j .writable)) (meets (i .writing) (j .readable)) (meets (i .reading) (j .writable))
-
 -- ── More files, more claims ──
 
 pub record Within (x y : Program) : Type 0 where
-  pub in-v : x .writable ⊑ y .writable
-  pub in-q : x .readable ⊑ y .readable
-  pub in-w : x .writing ⊑ y .writing
-  pub in-r : x .reading ⊑ y .reading
+  pub in-claim : (m : Mode) → claimOf m x ⊑ claimOf m y
+  pub in-open : (m : Mode) → openOf m x ⊑ openOf m y
 
 pub within-refl : (x : Program) → Within x x
-within-refl x = record { in-v = λ f e. e; in-q = λ f e. e; in-w = λ f e. e; in-r = λ f e. e }
+within-refl x = record { in-claim = λ m f e. e; in-open = λ m f e. e }
 
 pub holdsBack-mono : (i j i′ j′ : Program) → Within i i′ → Within j j′ → holdsBack i j ≡ true → holdsBack i′ j′ ≡ true
-holdsBack-mono i j i′ j′ c d e = holdsBack-by i′ j′ (map₃ (meets-mono _ _ _ _ (c .in-w) (d .in-v))
-    (meets-mono _ _ _ _ (c .in-w) (d .in-q)) (meets-mono _ _ _ _ (c .in-r) (d .in-v)) (by-holdsBack i j e))
+holdsBack-mono i j i′ j′ c d = touching-mono _ _ _ _ (c .in-open) (d .in-claim)
 
 pub conflict-mono : (i j i′ j′ : Program) → Within i i′ → Within j j′ → conflict i j ≡ true → conflict i′ j′ ≡ true
-conflict-mono i j i′ j′ c d e = conflict-by i′ j′ (map₃ (meets-mono _ _ _ _ (c .in-w) (d .in-w))
-    (meets-mono _ _ _ _ (c .in-w) (d .in-r)) (meets-mono _ _ _ _ (d .in-w) (c .in-r)) (by-conflict i j e))
+conflict-mono i j i′ j′ c d = touching-mono _ _ _ _ (c .in-open) (d .in-open)
 
 pub conflict-sym : (i j : Program) → conflict i j ≡ true → conflict j i ≡ true
-conflict-sym i j e = conflict-by j i (turn (by-conflict i j e))
-  where
-    turn : Any₃ (meets (i .writing) (j .writing)) (meets (i .writing) (j .reading)) (meets (j .writing) (i .reading))
-        → Any₃ (meets (j .writing) (i .writing)) (meets (j .writing) (i .reading)) (meets (i .writing) (j .reading))
-    turn (any-1 u) = any-1 (meets-sym (i .writing) (j .writing) u)
-    turn (any-2 u) = any-3 u
-    turn (any-3 u) = any-2 u
+conflict-sym i j = touching-sym _ _
 
 -- Two in conflict hold back each other, if what is open is claimed.
-pub conflict-holds : (i j : Program) → j .writing ⊑ j .writable → j .reading ⊑ j .readable → conflict i j ≡ true → holdsBack i j ≡ true
-conflict-holds i j v q e = holdsBack-by i j (map₃ (meets-mono (i .writing) (j .writing) (i .writing) (j .writable) (λ f u. u) v)
-    (meets-mono (i .writing) (j .reading) (i .writing) (j .readable) (λ f u. u) q)
-    (λ u. meets-mono (i .reading) (j .writing) (i .reading) (j .writable) (λ f w. w) v (meets-sym (j .writing) (i .reading) u)) (by-conflict i j e))
+pub conflict-holds : (i j : Program) → ((m : Mode) → openOf m j ⊑ claimOf m j) → conflict i j ≡ true → holdsBack i j ≡ true
+conflict-holds i j c = touching-mono _ _ _ _ (λ m f u. u) c
 
-pub idle-holds : (x y : Program) → x .writing ≡ noFiles → x .reading ≡ noFiles → holdsBack x y ≡ false
-idle-holds x y a b = none₃ _ _ _ (none-meets (x .writing) (y .writable) a) (none-meets (x .writing) (y .readable) a)
-    (none-meets (x .reading) (y .writable) b)
+-- Nothing is open.
+abbrev pub Idle : Program → Type 0
+Idle x = (m : Mode) → openOf m x ≡ noFiles
 
-pub idle-conflict : (x y : Program) → x .writing ≡ noFiles → x .reading ≡ noFiles → conflict x y ≡ false
-idle-conflict x y a b = none₃ _ _ _ (none-meets (x .writing) (y .writing) a) (none-meets (x .writing) (y .reading) a)
-    (meets-none (y .writing) (x .reading) b)
+pub idle-holds : (x y : Program) → Idle x → holdsBack x y ≡ false
+idle-holds x y = none-touches _ _
 
-pub conflict-idle : (x y : Program) → y .writing ≡ noFiles → y .reading ≡ noFiles → conflict x y ≡ false
-conflict-idle x y a b = none₃ _ _ _ (meets-none (x .writing) (y .writing) a) (meets-none (x .writing) (y .reading) b)
-    (none-meets (y .writing) (x .reading) a)
+pub idle-conflict : (x y : Program) → Idle x → conflict x y ≡ false
+idle-conflict x y = none-touches _ _
+
+pub conflict-idle : (x y : Program) → Idle y → conflict x y ≡ false
+conflict-idle x y = touches-none _ _
 
 -- ── A list of programs, read and written by number ──
 
@@ -159,8 +110,8 @@ put-other P p i x c d n = getD-set-other P (p - 1) (i - 1) x noProgram (let a = 
 pub put-case : (D : Program → Type 0) (P : Progs) (p : ℕ) (x : Program) → Sized P → Is p → (i : ℕ) → Is i
     → (i ≡ p → D x) → (i ≢ p → D (prog P i)) → D (prog (put P p x) i)
 put-case D P p x z c i d f g = by-test (eqb i p)
-    (λ t. let e = eqb-true i p t in mathlib.Core.Path.subst D (sym (ap (prog (put P p x)) e ∙ put-same P p x z c)) (f e))
-    (λ t. let n = eqb-false i p t in mathlib.Core.Path.subst D (sym (put-other P p i x c d n)) (g n))
+    (λ t. let e = eqb-true i p t in subst D (sym (ap (prog (put P p x)) e ∙ put-same P p x z c)) (f e))
+    (λ t. let n = eqb-false i p t in subst D (sym (put-other P p i x c d n)) (g n))
 
 -- ── What the rules say of the board depends on its programs ──
 
@@ -260,11 +211,40 @@ ins-before P p x c e = keep-but (isIn (put P p x)) (isIn P) p everyone e
 
 -- What holds of a program by itself.
 pub record Own (x : Program) : Type 0 where
-  pub wv : x .writing ⊑ x .writable
-  pub rq : x .reading ⊑ x .readable
-  pub vq : meets (x .writable) (x .readable) ≡ false
-  pub idle : isAdmitted (x .standing) ≡ false → (x .writing ≡ noFiles) × (x .reading ≡ noFiles)
-  pub gone : x .standing ≡ Standing.Absent → (x .writable ≡ noFiles) × (x .readable ≡ noFiles)
+  pub inside : (m : Mode) → openOf m x ⊑ claimOf m x
+  pub apart : claimsMeet (x .writable) (x .readable) ≡ false
+  pub idle : isAdmitted (x .standing) ≡ false → Idle x
+  pub gone : x .standing ≡ Standing.Absent → (m : Mode) → claimOf m x ≡ noFiles
+
+-- Two programs with the same claims and the same open files.
+pub record SameSets (x y : Program) : Type 0 where
+  pub same-claim : SameClaims x y
+  pub same-open : (m : Mode) → openOf m x ≡ openOf m y
+
+pub same-sets : (x : Program) → SameSets x x
+same-sets x = record { same-claim = λ m. refl; same-open = λ m. refl }
+
+pub standing-same : (x : Program) (s : Standing) → SameSets x (setStanding x s)
+standing-same x s = record { same-claim = λ m. sym (standing-claim m x s); same-open = λ m. sym (standing-open m x s) }
+
+pub same-turn : (x y : Program) → SameSets x y → SameSets y x
+same-turn x y d = record { same-claim = λ m. sym (d .same-claim m); same-open = λ m. sym (d .same-open m) }
+
+pub within-same : (x y : Program) → SameSets x y → Within x y
+within-same x y d = record {
+  in-claim = λ m. subst (λ s. claimOf m x ⊑ s) (d .same-claim m) (λ g e. e);
+  in-open = λ m. subst (λ s. openOf m x ⊑ s) (d .same-open m) (λ g e. e);
+}
+
+-- An admitted program with the sets of another.
+pub own-same : (x y : Program) → SameSets x y → isAdmitted (y .standing) ≡ true → Own x → Own y
+own-same x y d a o = record {
+  inside = λ m. subst (λ s. s ⊑ claimOf m y) (d .same-open m)
+      (subst (λ s. openOf m x ⊑ s) (d .same-claim m) (o .inside m));
+  apart = ap₂ claimsMeet (sym (d .same-claim Write)) (sym (d .same-claim Read)) ∙ o .apart;
+  idle = λ e. never a e;
+  gone = λ e. never a (ap isAdmitted e);
+}
 
 pub record Base (P : Progs) : Type 0 where
   pub size : Sized P
@@ -276,11 +256,11 @@ abbrev pub Less : Progs → Progs → Type 0
 Less P′ P = (i : ℕ) → Is i → Within (prog P′ i) (prog P i)
 
 pub less-put : (P : Progs) (p : ℕ) (x : Program) → Sized P → Is p → Within x (prog P p) → Less (put P p x) P
-less-put P p x z c d i k = put-case (λ y. Within y (prog P i)) P p x z c i k (λ e. mathlib.Core.Path.subst
+less-put P p x z c d i k = put-case (λ y. Within y (prog P i)) P p x z c i k (λ e. subst
     (λ j. Within x (prog P j)) (sym e) d) (λ n. within-refl (prog P i))
 
 pub put-less : (P : Progs) (p : ℕ) (x : Program) → Sized P → Is p → Within (prog P p) x → Less P (put P p x)
-put-less P p x z c d i k = put-case (λ y. Within (prog P i) y) P p x z c i k (λ e. mathlib.Core.Path.subst
+put-less P p x z c d i k = put-case (λ y. Within (prog P i) y) P p x z c i k (λ e. subst
     (λ j. Within (prog P j) x) (sym e) d) (λ n. within-refl (prog P i))
 
 own-put : (P : Progs) (p : ℕ) (x : Program) → Sized P → Is p → ((i : ℕ) → Is i → Own (prog P i)) → Own x → (i : ℕ)
@@ -341,16 +321,16 @@ base-leave P p x c d o e b = record {
 
 -- ── Enter: a program with nothing open ──
 
-pub base-enter : (P : Progs) (p : ℕ) (x : Program) → Is p → isIn P p ≡ false → x .writing ≡ noFiles
-    → x .reading ≡ noFiles → Own x → isAdmitted (x .standing) ≡ true → Base P → Base (put P p x)
-base-enter P p x c out a r o e b = record {
+pub base-enter : (P : Progs) (p : ℕ) (x : Program) → Is p → isIn P p ≡ false → Idle x
+    → Own x → isAdmitted (x .standing) ≡ true → Base P → Base (put P p x)
+base-enter P p x c out a o e b = record {
   size = sized-put P p x z;
   own = own-put P p x z c (b .own) o;
-  apart = apart-put P p x z c (b .apart) (λ j k n. idle-conflict x (prog P j) a r) (λ j k n. conflict-idle (prog P j) x a r);
+  apart = apart-put P p x z c (b .apart) (λ j k n. idle-conflict x (prog P j) a) (λ j k n. conflict-idle (prog P j) x a);
   order = (
     b .order .0 ++ (p ∷ []),
     order-last (holds P′) (ins P) (ins P′) (b .order .0) p new old mine (λ m. never (ins-mem P p m .1) out)
-        (λ i m. ap (λ y. holdsBack y (prog P′ i)) (put-same P p x z c) ∙ idle-holds x (prog P′ i) a r)
+        (λ i m. ap (λ y. holdsBack y (prog P′ i)) (put-same P p x z c) ∙ idle-holds x (prog P′ i) a)
         (order-below (holds P) (holds P′) (ins P) (b .order .0) (λ i j m k n u. sym (ap₂ holdsBack (same i m) (same j k))
         ∙ u) (b .order .1)),
   );
@@ -372,54 +352,41 @@ base-enter P p x c out a r o e b = record {
     mine = mem-ins P′ p c (ap (λ (y : Program). isAdmitted (y .standing)) (put-same P p x z c) ∙ e)
 
     old : (i : ℕ) → i ∈ ins P → i ∈ ins P′
-    old i m = (without-mem p (ins P′) i (mathlib.Core.Path.subst (λ l. i ∈ l) was m)) .0
+    old i m = (without-mem p (ins P′) i (subst (λ l. i ∈ l) was m)) .0
 
     new : (i : ℕ) → i ∈ ins P′ → (i ≡ p) ⊎ (i ∈ ins P)
     new i m = by-test (eqb i p) (λ t. inl (eqb-true i p t))
-        (λ t. inr (mathlib.Core.Path.subst (λ l. i ∈ l) (sym was) (mem-without p (ins P′) i m (eqb-false i p t))))
+        (λ t. inr (subst (λ l. i ∈ l) (sym was) (mem-without p (ins P′) i m (eqb-false i p t))))
 
 -- ── Giving a file ──
 
 pub opening-standing : (x : Program) (f : ℕ) → opening x f .standing ≡ x .standing
 unfolding opening
-opening-standing x f = by-test (member (x .writable) f) (λ t. rw t) (λ t. rw t)
+opening-standing x f = refl
 
-pub opening-v : (x : Program) (f : ℕ) → opening x f .writable ≡ x .writable
+pub opening-claims : (x : Program) (f : ℕ) → SameClaims x (opening x f)
 unfolding opening
-opening-v x f = by-test (member (x .writable) f) (λ t. rw t) (λ t. rw t)
-
-pub opening-q : (x : Program) (f : ℕ) → opening x f .readable ≡ x .readable
-unfolding opening
-opening-q x f = by-test (member (x .writable) f) (λ t. rw t) (λ t. rw t)
+opening-claims x f m = sym (opened-claim (modeOf x f) m x f)
 
 pub opening-more : (x : Program) (f : ℕ) → Within x (opening x f)
 unfolding opening
-opening-more x f = by-test (member (x .writable) f)
-    (λ t. rw t (record { in-v = λ g e. e; in-q = λ g e. e; in-w = adding-⊒ (x .writing) f; in-r = λ g e. e }))
-    (λ t. rw t (record { in-v = λ g e. e; in-q = λ g e. e; in-w = λ g e. e; in-r = adding-⊒ (x .reading) f }))
+opening-more x f = record {
+  in-claim = λ m. subst (λ s. claimOf m x ⊑ s) (opening-claims x f m) (λ g e. e);
+  in-open = λ m. opened-case _⊑_ (modeOf x f) m x f (λ _. adding-⊒ (openOf m x) f) (λ g e. e);
+}
 
--- f is in V or in Q.
-abbrev pub Claims : Program → ℕ → Type 0
-Claims x f = (member (x .writable) f ≡ true) ⊎ (member (x .readable) f ≡ true)
-
-pub opening-own : (x : Program) (f : ℕ) → Claims x f → isAdmitted (x .standing) ≡ true → Own x → Own (opening x f)
+pub opening-own : (x : Program) (f : ℕ) → claims x f ≡ true → isAdmitted (x .standing) ≡ true → Own x → Own (opening x f)
 unfolding opening
-opening-own x f m a o = by-test (member (x .writable) f)
-    (λ t. rw t (record {
-      wv = adding-⊑ (x .writing) (x .writable) f (o .wv) t;
-      rq = o .rq;
-      vq = o .vq;
-      idle = λ e. never a e;
-      gone = o .gone;
-    }))
-    (λ t. rw t (record {
-      wv = o .wv;
-      rq = adding-⊑ (x .reading) (x .readable) f (o .rq) (⊎-elim (λ u. never u t)
-          (λ u. u) m);
-      vq = o .vq;
-      idle = λ e. never a e;
-      gone = o .gone;
-    }))
+opening-own x f m a o = record {
+  inside = λ n. subst (λ s. openOf n (opened (modeOf x f) x f) ⊑ s) (opening-claims x f n)
+      (opened-case (λ s t. s ⊑ claimOf n x → t ⊑ claimOf n x) (modeOf x f) n x f
+      (λ d u. adding-⊑ (openOf n x) (claimOf n x) f u
+      (subst (λ k. member (claimOf k x) f ≡ true) (sym d) (mode-claims x f m)))
+      (λ u. u) (o .inside n));
+  apart = ap₂ claimsMeet (sym (opening-claims x f Write)) (sym (opening-claims x f Read)) ∙ o .apart;
+  idle = λ e. never a e;
+  gone = λ d n. sym (opening-claims x f n) ∙ o .gone d n;
+}
 
 pub give-put : (P : Progs) (p f : ℕ) → give P p f ≡ put P p (opening (prog P p) f)
 unfolding give
@@ -469,7 +436,7 @@ pub can-of : (P : Progs) (p f : ℕ) → used P p f ≡ false → (o : List ℕ)
 unfolding can
 can-of P p f e o c = rw (e, order-ordered (give P p f) o c)
 
-pub base-give : (P : Progs) (p f : ℕ) → Is p → Claims (prog P p) f → isIn P p ≡ true → can P p f ≡ true → Base P → Base (give P p f)
+pub base-give : (P : Progs) (p f : ℕ) → Is p → claims (prog P p) f ≡ true → isIn P p ≡ true → can P p f ≡ true → Base P → Base (give P p f)
 unfolding give
 base-give P p f c m a e b = record {
   size = sized-put P p _ (b .size);
@@ -482,106 +449,90 @@ base-give P p f c m a e b = record {
 
 -- ── Giving makes nothing givable ──
 
-pub opening-mono : (x y : Program) (f : ℕ) → Within x y → x .writable ≡ y .writable → Within (opening x f) (opening y f)
+pub opening-mono : (x y : Program) (f : ℕ) → Within x y → SameClaims x y → Within (opening x f) (opening y f)
 unfolding opening
-opening-mono x y f d e = by-test (member (x .writable) f)
-    (λ t. rw (t, ap (λ s. member s f) (sym e) ∙ t) (record {
-      in-v = d .in-v;
-      in-q = d .in-q;
-      in-w = adding-mono (x .writing) (y .writing) f (d .in-w);
-      in-r = d .in-r;
-    }))
-    (λ t. rw (t, ap (λ s. member s f) (sym e) ∙ t) (record {
-      in-v = d .in-v;
-      in-q = d .in-q;
-      in-w = d .in-w;
-      in-r = adding-mono (x .reading) (y .reading) f (d .in-r);
-    }))
+opening-mono x y f d e = subst (λ k. Within (opened (modeOf x f) x f) (opened k y f)) (mode-same x y f e) (record {
+  in-claim = λ m. subst (λ s. claimOf m (opened k x f) ⊑ s) (sym (opened-claim k m y f))
+      (subst (λ s. s ⊑ claimOf m y) (sym (opened-claim k m x f)) (d .in-claim m));
+  in-open = λ m. opened-both _⊑_ k m x y f (adding-mono (openOf m x) (openOf m y) f (d .in-open m)) (d .in-open m);
+})
+  where
+    k : Mode
+    k = modeOf x f
 
-less-give : (P P′ : Progs) (y g : ℕ) → Sized P → Sized P′ → Is y → Less P P′ → prog P y .writable ≡ prog P′ y .writable
+less-give : (P P′ : Progs) (y g : ℕ) → Sized P → Sized P′ → Is y → Less P P′ → SameClaims (prog P y) (prog P′ y)
     → Less (give P y g) (give P′ y g)
 unfolding give
 less-give P P′ y g z z′ c l e i k = put-case (λ w. Within w (prog (give P′ y g) i)) P y _ z c i k
     (λ d. put-case (λ w. Within (opening (prog P y) g) w) P′ y _ z′ c i k (λ _. opening-mono _ _ g (l y c) e) (λ n. absurd (n d)))
     (λ n. put-case (λ w. Within (prog P i) w) P′ y _ z′ c i k (λ d. absurd (n d)) (λ _. l i k))
 
-used-mono : (P P′ : Progs) (y g : ℕ) → Is y → Less P P′ → prog P y .writable ≡ prog P′ y .writable → used P y g ≡ true → used P′ y g ≡ true
+used-mono : (P P′ : Progs) (y g : ℕ) → Is y → Less P P′ → SameClaims (prog P y) (prog P′ y) → used P y g ≡ true → used P′ y g ≡ true
 used-mono P P′ y g c l e u = let (i, k, n, t) = used-by P y g u in by-used P′ y g i k n (conflict-mono _ _ _ _ (l i k)
     (opening-mono _ _ g (l y c) e) t)
 
 -- More open files, more claims of others or more programs make nothing givable.
-pub can-mono : (P P′ : Progs) (y g : ℕ) → Sized P → Sized P′ → Is y → Less P P′ → prog P y .writable ≡ prog P′ y .writable
+pub can-mono : (P P′ : Progs) (y g : ℕ) → Sized P → Sized P′ → Is y → Less P P′ → SameClaims (prog P y) (prog P′ y)
     → ((h : ℕ → ℕ → Bool) (o : List ℕ) → IsOrder h (ins P′) o → (o′ : List ℕ) × IsOrder h (ins P) o′)
     → can P′ y g ≡ true → can P y g ≡ true
 can-mono P P′ y g z z′ c l e f u =
     let s = can-order P′ y g u in
-    let t = f (holds (give P′ y g)) (s .0) (mathlib.Core.Path.subst (λ m. IsOrder (holds (give P′ y g)) m (s .0))
+    let t = f (holds (give P′ y g)) (s .0) (subst (λ m. IsOrder (holds (give P′ y g)) m (s .0))
     (ins-give P′ y g z′ c) (s .1)) in
     can-of P y g (no-true _ (λ w. never (used-mono P P′ y g c l e w) (can-unused P′ y g u))) (t .0)
-    (mathlib.Core.Path.subst (λ m. IsOrder (holds (give P y g)) m (t .0)) (sym (ins-give P y g z c))
+    (subst (λ m. IsOrder (holds (give P y g)) m (t .0)) (sym (ins-give P y g z c))
     (order-below (holds (give P′ y g)) (holds (give P y g)) (ins P) (t .0) (λ i j m k n. holdsBack-mono _ _ _ _
     (less-give P P′ y g z z′ c l e i (ins-mem P i m .0)) (less-give P P′ y g z z′ c l e j (ins-mem P j k .0))) (t .1)))
 
 -- ── The first of an order can be given what it claims ──
 
-conflict-cases : {C : Type 0} (i j : Program) → conflict i j ≡ true → (meets (i .writing) (j .writing) ≡ true → C)
-    → (meets (i .writing) (j .reading) ≡ true → C) → (meets (j .writing) (i .reading) ≡ true → C) → C
-conflict-cases {C} i j e a b c = go (by-conflict i j e)
-  where
-    go : Any₃ (meets (i .writing) (j .writing)) (meets (i .writing) (j .reading)) (meets (j .writing) (i .reading)) → C
-    go (any-1 u) = a u
-    go (any-2 u) = b u
-    go (any-3 u) = c u
-
 -- What stands in the way of giving a claimed file is a conflict already there, or a program that holds back.
-claimed-use : (x y : Program) (f : ℕ) → Claims x f → conflict (opening x f) y ≡ true → (conflict x y ≡ true) ⊎ (holdsBack y x ≡ true)
+claimed-use : (x y : Program) (f : ℕ) → claims x f ≡ true → conflict (opening x f) y ≡ true → (conflict x y ≡ true) ⊎ (holdsBack y x ≡ true)
 unfolding opening
-claimed-use x y f m e = by-test (member (x .writable) f)
-    (λ t. conflict-cases (record {
-      writable = x .writable;
-      readable = x .readable;
-      writing = adding (x .writing) f;
-      reading = x .reading;
-      standing = x .standing;
-    }) y (rw t at e)
-    (λ u. adding-meets (x .writing) (y .writing) f u (λ z. inl (conflict-by x y (any-1 z)))
-    (λ z. inr (holdsBack-by y x (any-1 (meets-at _ _ f z t)))))
-    (λ u. adding-meets (x .writing) (y .reading) f u (λ z. inl (conflict-by x y (any-2 z)))
-    (λ z. inr (holdsBack-by y x (any-3 (meets-at _ _ f z t)))))
-    (λ u. inl (conflict-by x y (any-3 u))))
-    (λ t. conflict-cases (record {
-      writable = x .writable;
-      readable = x .readable;
-      writing = x .writing;
-      reading = adding (x .reading) f;
-      standing = x .standing;
-    }) y (rw t at e)
-    (λ u. inl (conflict-by x y (any-1 u)))
-    (λ u. inl (conflict-by x y (any-2 u)))
-    (λ u. adding-meets (x .reading) (y .writing) f (meets-sym (y .writing) (adding (x .reading) f) u)
-    (λ z. inl (conflict-by x y (any-3 (meets-sym (x .reading) (y .writing) z))))
-    (λ z. inr (holdsBack-by y x (any-2 (meets-at _ _ f z (⊎-elim (λ k. never k t) (λ k. k) m)))))))
+claimed-use x y f m e = by-touching (λ n. openOf n (opened k x f)) (λ n. openOf n y) e
+    (λ a b c u. opened-case (λ s t. meets t (openOf b y) ≡ true → (conflict x y ≡ true) ⊎ (holdsBack y x ≡ true)) k a x f
+    (λ d v. adding-meets (openOf a x) (openOf b y) f v (λ w. inl (touching-by _ _ a b c w))
+    (λ w. inr (touching-by _ _ b a (clashing-turn b a ∙ c) (meets-at _ _ f w
+    (subst (λ n. member (claimOf n x) f ≡ true) (sym d) (mode-claims x f m))))))
+    (λ v. inl (touching-by _ _ a b c v)) u)
+  where
+    k : Mode
+    k = modeOf x f
 
 pub holdsBack-claims : (x y : Program) (f : ℕ) → holdsBack x (opening y f) ≡ holdsBack x y
-holdsBack-claims x y f = rw (opening-v y f, opening-q y f)
+holdsBack-claims x y f = same-test _ _
+    (touching-mono _ _ _ _ (λ m g e. e) (λ m. subst (λ s. s ⊑ claimOf m y) (opening-claims y f m) (λ g e. e)))
+    (touching-mono _ _ _ _ (λ m g e. e) (λ m. subst (λ s. claimOf m y ⊑ s) (opening-claims y f m) (λ g e. e)))
+
+-- The first of an order stays the first when it is given a file: nobody but it holds back more than before.
+pub first-stays : (P : Progs) (p f : ℕ) (o : List ℕ) → Sized P → Is p → IsOrder (holds P) (ins P) (p ∷ o)
+    → IsOrder (holds (give P p f)) (ins (give P p f)) (p ∷ o)
+unfolding give
+first-stays P p f o z c r =
+    subst (λ l. IsOrder (holds (give P p f)) l (p ∷ o)) (sym (ins-give P p f z c))
+    (order-first (holds P) (holds (give P p f)) (ins P) o p (λ i j k l n _ u. less i j (ins-mem P i k .0) (ins-mem P j l .0) n u) r)
+  where
+    given : Program
+    given = opening (prog P p) f
+
+    less : (i j : ℕ) → Is i → Is j → i ≢ p → holds (give P p f) i j ≡ true → holds P i j ≡ true
+    less i j k l n u =
+        put-case (λ w. holdsBack (prog P i) w ≡ true → holds P i j ≡ true) P p given z c j l
+        (λ d v. ap (holds P i) d ∙ sym (holdsBack-claims (prog P i) (prog P p) f) ∙ v)
+        (λ _ v. v)
+        (ap (λ w. holdsBack w (prog (give P p f) j)) (sym (put-other P p i given c k n)) ∙ u)
 
 pub first-can : (P : Progs) (p f : ℕ) (o : List ℕ) → Base P → Is p → IsOrder (holds P) (ins P) (p ∷ o)
-    → Claims (prog P p) f → can P p f ≡ true
-unfolding Pairs give
+    → claims (prog P p) f ≡ true → can P p f ≡ true
+unfolding Pairs
 first-can P p f o b c r m = can-of P p f (no-true _ (λ t. let (i, k, n, u) = used-by P p f t in bad i k n u)) (p ∷ o)
-    (mathlib.Core.Path.subst (λ l. IsOrder (holds (give P p f)) l (p ∷ o)) (sym (ins-give P p f (b .size) c))
-    (order-first (holds P) (holds (give P p f)) (ins P) o p (λ i j k l n _ u. less i j (ins-mem P i k .0) (ins-mem P j l .0) n u) r))
+    (first-stays P p f o (b .size) c r)
   where
     bad : (i : ℕ) → Is i → i ≢ p → conflict (prog P i) (opening (prog P p) f) ≡ true → ⊥
     bad i k n u = ⊎-elim (λ z. never z (b .apart p i c k (λ d. n (sym d))))
         (λ z. by-test (isIn P i) (λ a. by-mem (r .all i (mem-ins P i k a)) n (λ q. never z (r .clear .0 i q)))
-        (λ a. let d = (b .own i k) .idle a in never z (idle-holds (prog P i) (prog P p) (d .0) (d .1))))
+        (λ a. never z (idle-holds (prog P i) (prog P p) (b .own i k .idle a))))
         (claimed-use (prog P p) (prog P i) f m (conflict-sym (prog P i) (opening (prog P p) f) u))
-
-    less : (i j : ℕ) → Is i → Is j → i ≢ p → holds (give P p f) i j ≡ true → holds P i j ≡ true
-    less i j k l n u = (put-case (λ w. holdsBack (prog P i) w ≡ true → holds P i j ≡ true) P p (opening (prog P p) f)
-        (b .size) c j l (λ d v. ap (λ q. holds P i q) d ∙ sym (holdsBack-claims (prog P i) (prog P p) f) ∙ v) (λ _ v. v))
-        (ap (λ w. holdsBack w (prog (give P p f) j)) (sym (put-other P p i (opening (prog P p) f) c k n)) ∙ u)
 
 -- ── An open waits exactly if the file is in conflicting use, or no list of the admitted programs is an order with the file given ──
 

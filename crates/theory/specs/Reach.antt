@@ -8,28 +8,27 @@ use Prim.Native.Nat.{ℕ, suc, _<_, _-_}
 use native.Mathlib.Omega.{arith}
 use mathlib.Core.Path.{_≡_, refl, sym, _∙_, ap, ap₂, subst}
 use mathlib.Core.Logic.{_↔_, _≢_, ⊎-elim}
-use mathlib.Core.Bool.{Bool, true, false, not, cond, _&&_, _||_, or-assoc, or-true, or-false}
+use mathlib.Core.Bool.{Bool, true, false, not, cond, _&&_, _||_}
 use mathlib.Core.List.{List, [], _∷_, _++_, List·Memᴰ·head, List·Memᴰ·tail, List·Memᴰ·not-nil, Memᴰ·cast, Memᴰ·append-left}
 use mathlib.Core.List.{Memᴰ·append-right, List·Memᴰ·append-cases}
 use lib.Dec.{eqb, leb}
 use lib.ListN.{length, List·getD-eq-default}
 use lib.Seq.{getD-set-same}
 use borrow.Author.Tests.{eqb-true, eqb-false, ne-eqb, leb-true, leb-false}
-use Rattle.files.proofs.Tests.{by-test, never, or-cases, or-left, or-right, and-left, and-right, and-both, no-true, not-true, true-not}
-use Rattle.files.proofs.Tests.{same-test}
-use Rattle.files.specs.declared.FileSet.{FileSet}
-use Rattle.files.specs.Sets.{member, meets, adding}
-use Rattle.files.proofs.Laws.{member-file, adding-same, meets-mono, meets-at, adding-⊒, adding-meets}
+use Rattle.laws.specs.Tests.{by-test, never, and-left, and-right, and-both, no-true, not-true, true-not}
+use Rattle.files.specs.Sets.{member}
 use Rattle.rules.specs.declared.Program.{Program}
 use Rattle.rules.specs.declared.Board.{Board}
-use Rattle.rules.specs.Lists.{any, keep, found, without, listed}
-use Rattle.rules.specs.Boards.{noProgram, isAdmitted, isProgram, everyone, at, admitted, claims, opening}
+use Rattle.laws.specs.Lists.{any, keep, found, without, listed}
+use Rattle.rules.specs.Modes.{clashing, someMode, claimOf, modeOf}
+use Rattle.rules.specs.Boards.{noProgram, isAdmitted, isProgram, everyone, at, admitted, opening}
 use Rattle.rules.specs.Orders.{holdsBack, carried, withGiven, safe}
-use Rattle.theory.specs.Lists.{_∈_, Pairs, NoRepeat, by-mem, here, any-some, some-any, found-some, keep-mem, mem-keep, keep-same}
-use Rattle.theory.specs.Lists.{Pairs-keep, without-mem, mem-without, Pairs-without, Pairs-map₂, Pairs-append, listed-mem, mem-listed}
+use Rattle.laws.specs.Laws.{_∈_, Pairs, NoRepeat, by-mem, here, any-some, some-any, found-some, keep-mem, mem-keep, keep-same}
+use Rattle.laws.specs.Laws.{Pairs-keep, without-mem, mem-without, Pairs-without, Pairs-map₂, Pairs-append, listed-mem, mem-listed}
 use Rattle.theory.specs.Order.{Clear, IsOrder, orderIn, orderIn-iff}
 use Rattle.theory.specs.Programs.{Is, is-of, of-is, everyone-is, ins, mem-ins, ins-mem, ins-once, carried-is, admitted-is}
 use Rattle.theory.specs.Programs.{put-other, within-refl, holdsBack-mono, holdsBack-claims, opening-standing, opening-more}
+use Rattle.theory.specs.Modes.{touching-opened}
 use Rattle.theory.specs.Carried.{holdsOn, order-of, of-order}
 
 -- ── Over any relation h of holding back ──
@@ -234,28 +233,11 @@ no-order-iff h h′ l o p n c i g = (
 
 -- ── A file given ──
 
-pub meets-adding : (s t : FileSet) (f : ℕ) → meets (adding s f) t ≡ meets s t || member t f
-meets-adding s t f = same-test (meets (adding s f) t) (meets s t || member t f)
-    (λ e. adding-meets s t f e (or-left (meets s t) (member t f)) (or-right (meets s t) (member t f)))
-    (λ e. or-cases (meets s t) (member t f) e (meets-mono s t (adding s f) t (adding-⊒ s f) (λ i u. u))
-    (λ u. meets-at (adding s f) t f (adding-same s f (member-file t f u)) u))
-
--- Whom q holds back with f given: whom it held back, and who claims f; where q opens f for reading, who claims it for writing.
+-- Whom q holds back with f given: whom it held back, and who claims f in a mode that clashes with the one in which q opens it.
 pub given-holds : (q j : Program) (f : ℕ) → holdsBack (opening q f) j
-    ≡ holdsBack q j || cond (member (q .writable) f) (claims j f) (member (j .writable) f)
+    ≡ holdsBack q j || someMode (λ n. clashing (modeOf q f) n && member (claimOf n j) f)
 unfolding opening
-given-holds q j f = by-test (member (q .writable) f)
-    (λ t. rw (t, meets-adding (q .writing) (j .writable) f, meets-adding (q .writing) (j .readable) f)
-    (regroup (meets (q .writing) (j .writable)) (member (j .writable) f) (meets (q .writing) (j .readable))
-    (member (j .readable) f) (meets (q .reading) (j .writable))))
-    (λ t. rw (t, meets-adding (q .reading) (j .writable) f) (sym (or-assoc (meets (q .writing) (j .writable) ||
-    meets (q .writing) (j .readable)) (meets (q .reading) (j .writable)) (member (j .writable) f))))
-  where
-    regroup : (a b c d e : Bool) → (a || b) || (c || d) || e ≡ (a || c || e) || (b || d)
-    regroup true b c d e = refl
-    regroup false b true d e = rw (or-true b)
-    regroup false b false d true = or-true (b || d)
-    regroup false b false d false = or-false (b || d)
+given-holds q j f = touching-opened (modeOf q f) q f (λ n. claimOf n j)
 
 -- ── On a board ──
 

@@ -8,11 +8,11 @@ use mathlib.Core.Bool.{true, false}
 use lib.Dec.{eqb}
 use lib.ListN.{length}
 use borrow.Author.Tests.{eqb-true, eqb-false}
-use Rattle.files.proofs.Tests.{by-test}
+use Rattle.laws.specs.Tests.{by-test}
 use Rattle.files.specs.declared.FileSet.{FileSet}
 use Rattle.rules.specs.declared.Board.{Board}
 use Rattle.rules.specs.declared.Check.{Check}
-use Rattle.rules.specs.Lists.{names}
+use Rattle.laws.specs.Lists.{names}
 use Rattle.rules.specs.Boards.{noProgram, isHeld, isWaiting, at, setProgram, closing, dropping}
 use Rattle.rules.specs.Soundness.{sound}
 use Rattle.rules.specs.Settling.{settle}

@@ -12,14 +12,14 @@ use Rattle.rules.specs.declared.Program.{Program}
 use Rattle.rules.specs.declared.Board.{Board}
 use Rattle.rules.specs.declared.Answer.{Answer}
 use Rattle.rules.specs.declared.Reply.{Reply}
-use Rattle.rules.specs.Lists.{keep, rising, without}
+use Rattle.laws.specs.Lists.{keep, rising, without}
 use Rattle.rules.specs.Boards.{isAbsent, isHeld, emptyBoard, everyone, at, admitted, claims, hasOpen}
 use Rattle.rules.specs.Orders.{carried}
 use Rattle.rules.specs.Soundness.{sound}
 use Rattle.rules.specs.Replies.{orderOf}
 use Rattle.rules.specs.Calls.{Call, Open, Leave, apply}
 use Rattle.rules.specs.Worked.{worked, repliesFrom, directFrom}
-use Rattle.theory.specs.Lists.{_∈_, Pairs}
+use Rattle.laws.specs.Laws.{_∈_, Pairs}
 use Rattle.theory.specs.Programs.{Sized}
 use Rattle.theory.specs.Sizes.{Counts32}
 

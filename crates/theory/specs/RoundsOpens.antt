@@ -4,11 +4,11 @@ use Prim.Native.Nat.{ℕ, _<_}
 use native.Mathlib.Omega.{arith}
 use mathlib.Core.Path.{_≡_, refl, sym, _∙_, ap, subst}
 use mathlib.Core.Logic.{_≢_}
-use mathlib.Core.Bool.{true, not, _&&_, _||_}
+use mathlib.Core.Bool.{true, not, _&&_}
 use mathlib.Core.List.{List, [], _∷_, _++_, map, List·Memᴰ·tail}
 use lib.ListN.{length, replicate}
 use Rattle.files.specs.Sets.{member}
-use Rattle.files.proofs.Tests.{by-test, and-left, and-right, and-both, not-true, true-not}
+use Rattle.laws.specs.Tests.{and-left, and-right, and-both, not-true, true-not}
 use Rattle.files.proofs.Bits.{least, most}
 use Rattle.files.proofs.Laws.{adding-other}
 use Rattle.rules.specs.declared.Program.{Program}
@@ -16,18 +16,20 @@ use Rattle.rules.specs.declared.Board.{Board}
 use Rattle.rules.specs.declared.Answer.{Answer}
 use Rattle.rules.specs.declared.Word.{Word}
 use Rattle.rules.specs.declared.Reply.{Reply}
+use Rattle.rules.specs.Modes.{modeOf, claimOf, openOf}
 use Rattle.rules.specs.Boards.{claims, hasOpen, opening}
-use Rattle.rules.specs.Orders.{holdsBack, withGiven, inUse, safe}
+use Rattle.rules.specs.Orders.{withGiven, inUse, safe}
 use Rattle.rules.specs.Settling.{line}
 use Rattle.rules.specs.Replies.{reply}
 use Rattle.rules.specs.Calls.{Call, Open, apply}
 use Rattle.rules.specs.Worked.{workedFrom, repliesFrom}
-use Rattle.theory.specs.Lists.{_∈_, Pairs, NoRepeat, here, keep-mem, mem-keep, mem-rising, Pairs-keep, Pairs-map, rising-pairs}
-use Rattle.theory.specs.Order.{IsOrder, order-first}
-use Rattle.theory.specs.Programs.{Is, Progs, prog, Sized, put-same, put-other, put-case, holds, ins, give, ins-mem, ins-give}
-use Rattle.theory.specs.Programs.{opening-standing, opening-v, opening-q, Claims, holdsBack-claims, first-can}
+use Rattle.laws.specs.Laws.{_∈_, Pairs, NoRepeat, here, keep-mem, mem-keep, mem-rising, Pairs-keep, Pairs-map, rising-pairs}
+use Rattle.theory.specs.Order.{IsOrder}
+use Rattle.theory.specs.Modes.{same-mode, opened-case}
+use Rattle.theory.specs.Programs.{Is, prog, Sized, put-same, put-other, holds, ins, give}
+use Rattle.theory.specs.Programs.{opening-standing, opening-claims, first-stays, first-can}
 use Rattle.theory.specs.Loose.{Asked, Good}
-use Rattle.theory.specs.Calls.{RunsMay, claims-of, claims-file, may-open, open-given, apply-accepted, apply-stepped, can-tests}
+use Rattle.theory.specs.Calls.{RunsMay, claims-file, may-open, open-given, apply-accepted, apply-stepped, can-tests}
 use Rattle.theory.specs.Rounds.{toOpen, answersFrom, EachToOpen, ToOpenRising}
 
 -- ── One open ──
@@ -35,30 +37,12 @@ use Rattle.theory.specs.Rounds.{toOpen, answersFrom, EachToOpen, ToOpenR
 -- Another file is open as before.
 still-shut : (x : Program) (f g : ℕ) → g ≢ f → hasOpen (opening x f) g ≡ hasOpen x g
 unfolding opening
-still-shut x f g n = by-test (member (x .writable) f)
-    (λ t. rw t (ap (λ u. u || member (x .reading) g) (adding-other (x .writing) f g n)))
-    (λ t. rw t (ap (λ u. member (x .writing) g || u) (adding-other (x .reading) f g n)))
+still-shut x f g n = same-mode _ _ (λ m. opened-case (λ s t. member t g ≡ member s g) (modeOf x f) m x f
+    (λ d. adding-other (openOf m x) f g n) refl)
 
-still-claims : (x : Program) (f g : ℕ) → Claims x g → Claims (opening x f) g
-still-claims x f g m = rw (opening-v x f, opening-q x f) m
-
--- The first of an order stays the first when it is given a file: nobody but it holds back more than before.
-first-stays : (P : Progs) (p f : ℕ) (o : List ℕ) → Sized P → Is p → IsOrder (holds P) (ins P) (p ∷ o)
-    → IsOrder (holds (give P p f)) (ins (give P p f)) (p ∷ o)
-unfolding give
-first-stays P p f o z c r =
-    subst (λ l. IsOrder (holds (give P p f)) l (p ∷ o)) (sym (ins-give P p f z c))
-    (order-first (holds P) (holds (give P p f)) (ins P) o p (λ i j k l n _ u. less i j (ins-mem P i k .0) (ins-mem P j l .0) n u) r)
-  where
-    given : Program
-    given = opening (prog P p) f
-
-    less : (i j : ℕ) → Is i → Is j → i ≢ p → holds (give P p f) i j ≡ true → holds P i j ≡ true
-    less i j k l n u =
-        put-case (λ w. holdsBack (prog P i) w ≡ true → holds P i j ≡ true) P p given z c j l
-        (λ d v. ap (holds P i) d ∙ sym (holdsBack-claims (prog P i) (prog P p) f) ∙ v)
-        (λ _ v. v)
-        (ap (λ w. holdsBack w (prog (give P p f) j)) (sym (put-other P p i given c k n)) ∙ u)
+still-claims : (x : Program) (f g : ℕ) → claims x g ≡ true → claims (opening x f) g ≡ true
+still-claims x f g e = sym (same-mode (λ m. member (claimOf m x) g) (λ m. member (claimOf m (opening x f)) g)
+    (λ m. ap (λ s. member s g) (opening-claims x f m))) ∙ e
 
 -- p runs, is the first of an order, and claims the files fs, none of which it has open.
 pub record Ahead (b : Board) (p : ℕ) (o fs : List ℕ) : Type 0 where
@@ -136,7 +120,7 @@ unfolding toOpen
 each-to-open q f = (
   λ m. let (_, t) = keep-mem _ _ f m in
       (and-left (claims q f) (not (hasOpen q f)) t, not-true (hasOpen q f) (and-right (claims q f) (not (hasOpen q f)) t)),
-  λ k. let i = claims-file q f (claims-of q f (k .0)) in let l = least 64 f i in let m = most 64 f i in
+  λ k. let i = claims-file q f (k .0) in let l = least 64 f i in let m = most 64 f i in
       mem-keep _ _ f (mem-rising _ _ f l (omega arith))
       (and-both (claims q f) (not (hasOpen q f)) (k .0) (true-not (hasOpen q f) (k .1))),
 )
@@ -146,7 +130,7 @@ unfolding toOpen
 to-open-rising q = Pairs-keep (λ f g. f < g) _ _ (rising-pairs _ _)
 
 pub to-open-asked : (q : Program) (f : ℕ) → f ∈ toOpen q → Asked q f
-to-open-asked q f m = let (c, s) = each-to-open q f .0 m in record { claimed = claims-of q f c; shut = s }
+to-open-asked q f m = let (c, s) = each-to-open q f .0 m in record { claimed = c; shut = s }
 
 pub to-open-once : (q : Program) → NoRepeat (toOpen q)
 to-open-once q = Pairs-map (toOpen q) (λ a b _ _ l d. absurd (omega arith)) (to-open-rising q)

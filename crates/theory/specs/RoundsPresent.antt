@@ -12,16 +12,17 @@ use lib.Seq.{ext-getD}
 use borrow.Author.Tests.{eqb-true, eqb-false}
 use Rattle.files.specs.declared.FileSet.{FileSet}
 use Rattle.files.specs.Sets.{noFiles}
-use Rattle.files.proofs.Tests.{by-test, by-option, never, no-true, not-true, true-not}
+use Rattle.laws.specs.Tests.{by-test, by-option, never, no-true, not-true, true-not}
 use Rattle.rules.specs.declared.Standing.{Standing}
 use Rattle.rules.specs.declared.Program.{Program}
 use Rattle.rules.specs.declared.Board.{Board}
-use Rattle.rules.specs.Lists.{keep, listed, without, names, padded}
+use Rattle.laws.specs.Lists.{keep, listed, without, names, padded}
 use Rattle.rules.specs.Boards.{noProgram, emptyBoard, isAbsent, isHeld, isWaiting, isAdmitted, everyone, at, admitted, setProgram}
-use Rattle.rules.specs.Boards.{setStanding}
+use Rattle.rules.specs.Boards.{setStanding, setClaims, setOpen}
+use Rattle.rules.specs.Modes.{Mode, Write, Read, claimOf, openOf}
 use Rattle.rules.specs.Settling.{pass, candidate, favour, overdue, admitHeld, runHeld, choose, settle}
-use Rattle.theory.specs.Lists.{_∈_, NoRepeat, here, keep-mem, mem-keep, keep-but, Pairs-keep, Pairs-map, rising-pairs, listed-mem}
-use Rattle.theory.specs.Lists.{mem-listed}
+use Rattle.laws.specs.Laws.{_∈_, NoRepeat, here, keep-mem, mem-keep, keep-but, Pairs-keep, Pairs-map, rising-pairs, listed-mem}
+use Rattle.laws.specs.Laws.{mem-listed}
 use Rattle.theory.specs.Order.{IsOrder}
 use Rattle.theory.specs.Programs.{Is, mem-everyone, everyone-is, Progs, prog, Sized, sized-put, holds, isIn, ins, mem-ins, ins-mem, Own}
 use Rattle.theory.specs.Loose.{stands, absent-is, held-is, waiting-in, OnLine, countIn, Loose, Good, test-put}
@@ -157,13 +158,13 @@ none-there b g o i c = neither (stands (b .programs) i) (out i c) (g .free (unfa
 
 -- ── Nobody there: the empty board ──
 
-empty-program : (v q w r : FileSet) (s : Standing) → v ≡ noFiles → q ≡ noFiles → w ≡ noFiles → r ≡ noFiles → s ≡ Standing.Absent
-    → _≡_ {A = Program} (record { writable = v; readable = q; writing = w; reading = r; standing = s }) noProgram
-empty-program v q w r s a b c d e = rw (a, b, c, d, e)
+empty-program : (c o : Mode → FileSet) (s : Standing) → ((m : Mode) → c m ≡ noFiles) → ((m : Mode) → o m ≡ noFiles) → s ≡ Standing.Absent
+    → setStanding (setOpen (setClaims noProgram c) o) s ≡ noProgram
+empty-program c o s d e k = rw (d Write, d Read, e Write, e Read, k)
 
 gone-program : (x : Program) → Own x → isAbsent (x .standing) ≡ true → x ≡ noProgram
-gone-program x o e = let s = absent-is (x .standing) e in let (v, q) = o .gone s in let (w, r) = o .idle (ap isAdmitted s) in
-    empty-program (x .writable) (x .readable) (x .writing) (x .reading) (x .standing) v q w r s
+gone-program x o e = let s = absent-is (x .standing) e in
+    empty-program (λ m. claimOf m x) (λ m. openOf m x) (x .standing) (o .gone s) (o .idle (ap isAdmitted s)) s
 
 empty-programs : (P : Progs) → Sized P → ((i : ℕ) → Is i → prog P i ≡ noProgram) → P ≡ replicate 32 noProgram
 empty-programs P z f = ext-getD noProgram P (replicate 32 noProgram) (z ∙ sym (length-replicate 32 noProgram))

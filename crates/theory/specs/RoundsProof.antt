@@ -8,20 +8,20 @@ use mathlib.Core.Bool.{true, false}
 use mathlib.Core.Option.{some, Option·getD}
 use mathlib.Core.List.{List, [], _∷_, _++_}
 use lib.ListN.{length, replicate}
-use Rattle.files.proofs.Tests.{by-test, never}
+use Rattle.laws.specs.Tests.{by-test, never}
 use Rattle.rules.specs.declared.Standing.{Standing}
 use Rattle.rules.specs.declared.Program.{Program}
 use Rattle.rules.specs.declared.Board.{Board}
 use Rattle.rules.specs.declared.Answer.{Answer}
 use Rattle.rules.specs.declared.Reply.{Reply}
-use Rattle.rules.specs.Lists.{any, all, keep, first, rising, without}
+use Rattle.laws.specs.Lists.{any, all, keep, first, rising, without}
 use Rattle.rules.specs.Boards.{noProgram, emptyBoard, isAbsent, isWaiting, isAdmitted, everyone, at, admitted}
 use Rattle.rules.specs.Boards.{setProgram}
 use Rattle.rules.specs.Orders.{heldBack, carriedFrom, carried}
 use Rattle.rules.specs.Replies.{reply}
 use Rattle.rules.specs.Calls.{countLeave, leave, done, Call, Leave, apply}
 use Rattle.rules.specs.Worked.{workedFrom, worked, repliesFrom}
-use Rattle.theory.specs.Lists.{_∈_, here, length-without, nil-length, some-length}
+use Rattle.laws.specs.Laws.{_∈_, here, length-without, nil-length, some-length}
 use Rattle.theory.specs.Order.{IsOrder}
 use Rattle.theory.specs.Programs.{Is, holds, ins, ins-mem, admitted-is}
 use Rattle.theory.specs.Loose.{stands, Good, test-same, test-other}

@@ -11,25 +11,24 @@ use mathlib.Core.List.{List·Memᴰ·append-cases, List·Memᴰ·eq-of-singleton
 use lib.Dec.{eqb}
 use lib.ListN.{length, set, length-append}
 use borrow.Author.Tests.{eqb-true, eqb-false, eq-eqb, ne-eqb}
-use Rattle.files.proofs.Tests.{by-test, by-option, never, no-true}
+use Rattle.laws.specs.Tests.{by-test, by-option, never, no-true}
 use Rattle.rules.specs.declared.Standing.{Standing}
 use Rattle.rules.specs.declared.Program.{Program}
 use Rattle.rules.specs.declared.Board.{Board}
 use Rattle.rules.specs.declared.Word.{Word}
 use Rattle.rules.specs.declared.Line.{Line}
-use Rattle.files.specs.Sets.{noFiles}
-use Rattle.rules.specs.Lists.{without, names, padded}
-use Rattle.rules.specs.Boards.{isAbsent, isHeld, isWaiting, isAdmitted, awaitedOf, awaited, passedBy, setProgram, setEntry, setFavour}
+use Rattle.laws.specs.Lists.{without, names, padded}
+use Rattle.rules.specs.Boards.{isHeld, isWaiting, isAdmitted, awaitedOf, awaited, passedBy, setProgram, setEntry, setFavour}
 use Rattle.rules.specs.Boards.{setStanding}
 use Rattle.rules.specs.Orders.{withGiven, inUse, canGive}
 use Rattle.rules.specs.Settling.{line, Step, still, andThen, unfavour, resume, tryGive, pass, candidate, favour, overdue, admitHeld}
 use Rattle.rules.specs.Settling.{runHeld}
 use Rattle.rules.specs.Settling.{choose, settle}
 use Rattle.rules.specs.Replies.{admits}
-use Rattle.theory.specs.Lists.{_∈_, Pairs, NoRepeat, by-mem, here, first-some, names-padded, length-without}
+use Rattle.laws.specs.Laws.{_∈_, Pairs, NoRepeat, by-mem, here, first-some, names-padded, length-without}
 use Rattle.theory.specs.Programs.{Is, Own, Progs, prog, put, Sized, put-same, put-other, isIn, ins, give, can, canGive-is}
 use Rattle.theory.specs.Programs.{admitted-is}
-use Rattle.theory.specs.Programs.{length-ins}
+use Rattle.theory.specs.Programs.{length-ins, Idle, standing-same, within-same, own-same}
 use Rattle.theory.specs.Loose.{stands, waitsIn, heldAt, waiting-file, held-is, OnLine, line-make, LooseIn, Loose, Stuck, countIn}
 use Rattle.theory.specs.Loose.{Counted, Counts}
 use Rattle.theory.specs.Loose.{Good, test-put, test-other, test-same, served}
@@ -160,7 +159,7 @@ passed-given p f ps b k c s m r = record {
   waited = λ y g i u. before y g i (r .waited y g i u) .1;
   fewer = let x = r .fewer in let y = ap length (ap names (given-waiting b p f)
       ∙ names-padded (without p (names (b .waiting)))
-      (λ i q d. let w = k .waits .of i (Rattle.theory.specs.Lists.without-mem p (names (b .waiting)) i q .0) in
+      (λ i q d. let w = k .waits .of i (Rattle.laws.specs.Laws.without-mem p (names (b .waiting)) i q .0) in
       let v = w .0 .least in omega arith)) in
       let v = length-without p (names (b .waiting)) (k .waits .once) (k .waits .on p c (ap isWaiting s)) in omega arith;
   only-given = λ q n. by-mem n (λ d. ap (λ (v : Line). v .word) d) (r .only-given q);
@@ -439,21 +438,10 @@ pub admit-held : (b : Board) (p : ℕ) (ps : List ℕ) → Loose b → Counts b 
 unfolding admitHeld Pairs
 admit-held b p ps k n e h v = record {
   a-loose = subst (λ w. LooseIn (put P p x) (b .waiting) (padded 0 ps) w (b .initial) (b .leaves)) (sym e)
-      (loose-admit P (b .waiting) (b .entry) (padded 0 ps) (b .initial) (b .leaves) p x c (ap isAdmitted s) (i .0) (i .1) refl
-      (record {
-        wv = o .wv;
-        rq = o .rq;
-        vq = o .vq;
-        idle = λ u. never {t = true} refl u;
-        gone = λ u. never {t = false} (ap isAbsent u) refl;
-      })
+      (loose-admit P (b .waiting) (b .entry) (padded 0 ps) (b .initial) (b .leaves) p x c (ap isAdmitted s) idle refl
+      (own-same _ _ (standing-same (prog P p) Standing.Running) refl o)
       l (subst (λ w. LooseIn P (b .waiting) (b .entry) w (b .initial) (b .leaves)) e k));
-  a-stuck = λ st. stuck-in P p x z c (ap isAdmitted s) (record {
-    in-v = λ _ u. u;
-    in-q = λ _ u. u;
-    in-w = λ _ u. u;
-    in-r = λ _ u. u;
-  }) refl st;
+  a-stuck = λ st. stuck-in P p x z c (ap isAdmitted s) (within-same _ _ (standing-same (prog P p) Standing.Running)) refl st;
   a-counts = counted-tally b d v (k .waits) refl same n;
   a-who = refl;
   a-same = record { who = refl; number = refl; left = refl };
@@ -488,8 +476,8 @@ admit-held b p ps k n e h v = record {
     o : Own (prog P p)
     o = k .base .own p c
 
-    i : (prog P p .writing ≡ noFiles) × (prog P p .reading ≡ noFiles)
-    i = o .idle (ap isAdmitted s)
+    idle : Idle x
+    idle m = sym (standing-same (prog P p) Standing.Running .same-open m) ∙ o .idle (ap isAdmitted s) m
 
     once : NoRepeat (p ∷ ps)
     once = subst NoRepeat h (k .helds .once)

@@ -5,19 +5,19 @@ use mathlib.Core.Path.{_≡_, _∙_, ap}
 use mathlib.Core.List.{List, [], _∷_}
 use lib.Dec.{eqb}
 use lib.ListN.{length, length-map, length-set}
-use Rattle.files.proofs.Tests.{by-test, by-option}
+use Rattle.laws.specs.Tests.{by-test, by-option}
 use Rattle.files.specs.declared.FileSet.{FileSet}
 use Rattle.rules.specs.declared.Standing.{Standing}
 use Rattle.rules.specs.declared.Board.{Board}
 use Rattle.rules.specs.declared.Reply.{Reply}
-use Rattle.rules.specs.Lists.{names}
+use Rattle.laws.specs.Lists.{names}
 use Rattle.rules.specs.Boards.{everyone, at, awaited, tallied}
 use Rattle.rules.specs.Orders.{withGiven, inUse, safe, canGive}
 use Rattle.rules.specs.Settling.{unfavour, resume, tryGive, pass, candidate, favour, overdue, admitHeld, runHeld, choose, settle}
 use Rattle.rules.specs.Replies.{reply, refuse}
 use Rattle.rules.specs.Calls.{admit, hold, holdFor, enter, wait, openFile, done, closeFile, dropFile, countLeave, leave, countCancel}
 use Rattle.rules.specs.Calls.{withdrawn, cancel, Call, Enter, Open, Close, Drop, Leave, Cancel, checked, accepted, apply}
-use Rattle.theory.specs.Lists.{length-rising}
+use Rattle.laws.specs.Laws.{length-rising}
 use Rattle.theory.specs.Calls.{by-check, apply-accepted, apply-refused}
 
 -- A board has 32 counts.

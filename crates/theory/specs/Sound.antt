@@ -2,48 +2,48 @@
 -- Assumes nothing.
 use Prim.Native.Nat.{ℕ, _≤_, _+_}
 use mathlib.Core.Path.{_≡_, refl, sym, _∙_, ap, subst}
-use mathlib.Core.Logic.{_↔_, _≢_, inl, inr, ⊎-elim}
+use mathlib.Core.Logic.{_↔_, _≢_}
 use mathlib.Core.Bool.{Bool, true, false, not, cond, _&&_, _||_}
 use mathlib.Core.List.{List}
 use lib.Dec.{eqb, leb}
 use lib.ListN.{length}
 use borrow.Author.Tests.{eqb-true, eqb-false, eq-eqb, ne-eqb, leb-true, le-leb}
-use Rattle.files.proofs.Tests.{by-test, never, or-cases, or-left, or-right, and-left, and-right, and-both, no-true, not-true, true-not}
+use Rattle.laws.specs.Tests.{by-test, never, or-cases, or-left, or-right, and-left, and-right, and-both, no-true, not-true, true-not}
 use Rattle.files.specs.declared.FileSet.{FileSet}
-use Rattle.files.specs.Sets.{isFile, noFiles, member, meets, within, isEmpty}
+use Rattle.files.specs.Sets.{noFiles, within, isEmpty}
 use Rattle.files.proofs.Laws.{within-⊑, ⊑-within}
 use Rattle.rules.specs.declared.Standing.{Standing}
 use Rattle.rules.specs.declared.Program.{Program}
 use Rattle.rules.specs.declared.Board.{Board}
-use Rattle.rules.specs.Lists.{any, all, found, listed, distinct, same, names, padded}
+use Rattle.laws.specs.Lists.{any, all, found, listed, distinct, same, names, padded}
+use Rattle.rules.specs.Modes.{Mode, eachMode, claimOf, openOf, claimsMeet}
 use Rattle.rules.specs.Boards.{isAbsent, isHeld, isWaiting, isAdmitted, isProgram, awaitedOf, everyone, at, awaited, passedBy, admitted}
 use Rattle.rules.specs.Boards.{claims, hasOpen}
 use Rattle.rules.specs.Orders.{conflict, carried, canGive}
 use Rattle.rules.specs.Soundness.{setsSound, standingSound, programSound, noConflict, lineSound, waiterSound, noneFavoured, someFavoured}
 use Rattle.rules.specs.Soundness.{countSound, sound}
 use Rattle.rules.specs.Calls.{Call, apply}
-use Rattle.theory.specs.Lists.{any-some, some-any, all-each, each-all, listed-mem, mem-listed, distinct-once}
-use Rattle.theory.specs.Lists.{once-distinct, same-eq, eq-same}
+use Rattle.laws.specs.Laws.{any-some, some-any, all-each, each-all, listed-mem, mem-listed, distinct-once}
+use Rattle.laws.specs.Laws.{once-distinct, same-eq, eq-same}
 use Rattle.theory.specs.Order.{IsOrder}
-use Rattle.theory.specs.Programs.{Is, is-of, of-is, mem-everyone, everyone-is, Sized, canGive-is, admitted-is, Own}
+use Rattle.theory.specs.Programs.{Is, is-of, of-is, mem-everyone, everyone-is, Sized, canGive-is, admitted-is, Idle, Own}
+use Rattle.theory.specs.Modes.{each-mode, mode-each}
 use Rattle.theory.specs.Carried.{holdsOn, CompletionOrder, order-of, of-order}
 use Rattle.theory.specs.Loose.{Loose, waiting-in, OnLine, Asked, Good, waiting-file}
 use Rattle.theory.specs.Calls.{apply-stepped}
 
 -- "W is within V, R within Q, V and Q share nothing"
 pub record SetsAsAbove (q : Program) : Type 0 where
-  pub w-in-v : within (q .writing) (q .writable) ≡ true
-  pub r-in-q : within (q .reading) (q .readable) ≡ true
-  pub v-apart-q : meets (q .writable) (q .readable) ≡ false
+  pub inside : (m : Mode) → within (openOf m q) (claimOf m q) ≡ true
+  pub claims-apart : claimsMeet (q .writable) (q .readable) ≡ false
 
 pub record Sound (b : Board) : Type 0 where
   -- "sets as above"
   pub sets : (p : ℕ) → Is p → SetsAsAbove (at b p)
   -- "absent programs have empty sets"
-  pub absent-empty : (p : ℕ) → Is p → at b p .standing ≡ Standing.Absent → (at b p .writable ≡ noFiles) ×
-      (at b p .readable ≡ noFiles) × (at b p .writing ≡ noFiles) × (at b p .reading ≡ noFiles)
+  pub absent-empty : (p : ℕ) → Is p → at b p .standing ≡ Standing.Absent → (m : Mode) → (claimOf m (at b p) ≡ noFiles) × (openOf m (at b p) ≡ noFiles)
   -- "held ones nothing open"
-  pub held-closed : (p : ℕ) → Is p → at b p .standing ≡ Standing.Held → (at b p .writing ≡ noFiles) × (at b p .reading ≡ noFiles)
+  pub held-closed : (p : ℕ) → Is p → at b p .standing ≡ Standing.Held → Idle (at b p)
   -- "no conflict"
   pub no-conflict : (i j : ℕ) → Is i → Is j → i ≢ j → conflict (at b i) (at b j) ≡ false
   -- "a completion order exists"
@@ -75,19 +75,21 @@ is-empty : (s : FileSet) → s ≡ noFiles → isEmpty s ≡ true
 is-empty s e = eq-eqb (s .bits) 0 (ap (λ (t : FileSet). t .bits) e)
 
 standing-of : (q : Program) (s : Standing) → standingSound s q ≡ true → q .standing ≡ s
-    → (q .standing ≡ Standing.Absent → (q .writable ≡ noFiles) × (q .readable ≡ noFiles) × (q .writing ≡ noFiles) ×
-    (q .reading ≡ noFiles)) × (q .standing ≡ Standing.Held → (q .writing ≡ noFiles) × (q .reading ≡ noFiles))
+    → (q .standing ≡ Standing.Absent → (m : Mode) → (claimOf m q ≡ noFiles) × (openOf m q ≡ noFiles)) × (q .standing ≡ Standing.Held → Idle q)
 unfolding standingSound
-standing-of q Standing.Absent e d = (λ _. all-four, λ u. (all-four .2, all-four .3))
+standing-of q Standing.Absent e d = (λ _. none, λ u m. none m .1)
   where
-    all-four : (q .writable ≡ noFiles) × (q .readable ≡ noFiles) × (q .writing ≡ noFiles) × (q .reading ≡ noFiles)
-    all-four = let a = and-left (isEmpty (q .writable) && isEmpty (q .readable) && isEmpty (q .writing))
-        (isEmpty (q .reading)) e in let b = and-left (isEmpty (q .writable) && isEmpty (q .readable)) (isEmpty (q .writing)) a in (
-          empty-is _ (and-left (isEmpty (q .writable)) (isEmpty (q .readable)) b),
-          empty-is _ (and-right (isEmpty (q .writable)) (isEmpty (q .readable)) b),
-          empty-is _ (and-right (isEmpty (q .writable) && isEmpty (q .readable)) (isEmpty (q .writing)) a),
-          empty-is _ (and-right (isEmpty (q .writable) && isEmpty (q .readable) && isEmpty (q .writing)) (isEmpty (q .reading)) e),
-        )
+    claimed : Bool
+    claimed = eachMode (λ m. isEmpty (claimOf m q))
+
+    opened : Bool
+    opened = eachMode (λ m. isEmpty (openOf m q))
+
+    none : (m : Mode) → (claimOf m q ≡ noFiles) × (openOf m q ≡ noFiles)
+    none m = (
+      empty-is _ (mode-each (λ m. isEmpty (claimOf m q)) (and-left claimed opened e) m),
+      empty-is _ (mode-each (λ m. isEmpty (openOf m q)) (and-right claimed opened e) m),
+    )
 standing-of q Standing.Running e d = (
   λ u. never {t = false} (sym (ap isAbsent d) ∙ ap isAbsent u) refl,
   λ u. never {t = false} (sym (ap isHeld d) ∙ ap isHeld u) refl,
@@ -98,40 +100,31 @@ standing-of q (Standing.Waiting f) e d = (
 )
 standing-of q Standing.Held e d = (
   λ u. never {t = false} (sym (ap isAbsent d) ∙ ap isAbsent u) refl,
-  λ u. (
-    empty-is _ (and-left (isEmpty (q .writing)) (isEmpty (q .reading)) e),
-    empty-is _ (and-right (isEmpty (q .writing)) (isEmpty (q .reading)) e),
-  ),
+  λ u m. empty-is _ (mode-each (λ m. isEmpty (openOf m q)) e m),
 )
 
-of-standing : (q : Program) (s : Standing) → q .standing ≡ s → (q .standing ≡ Standing.Absent
-    → (q .writable ≡ noFiles) × (q .readable ≡ noFiles) × (q .writing ≡ noFiles) × (q .reading ≡ noFiles))
-    → (q .standing ≡ Standing.Held → (q .writing ≡ noFiles) × (q .reading ≡ noFiles)) → standingSound s q ≡ true
+of-standing : (q : Program) (s : Standing) → q .standing ≡ s
+    → (q .standing ≡ Standing.Absent → (m : Mode) → (claimOf m q ≡ noFiles) × (openOf m q ≡ noFiles))
+    → (q .standing ≡ Standing.Held → Idle q) → standingSound s q ≡ true
 unfolding standingSound
-of-standing q Standing.Absent d f g = let (a, b, c, e) =
-    f d in and-both (isEmpty (q .writable) && isEmpty (q .readable) && isEmpty (q .writing)) (isEmpty (q .reading))
-    (and-both (isEmpty (q .writable) && isEmpty (q .readable)) (isEmpty (q .writing)) (and-both (isEmpty (q .writable))
-    (isEmpty (q .readable)) (is-empty _ a) (is-empty _ b)) (is-empty _ c)) (is-empty _ e)
+of-standing q Standing.Absent d f g = and-both (eachMode (λ m. isEmpty (claimOf m q))) (eachMode (λ m. isEmpty (openOf m q)))
+    (each-mode (λ m. isEmpty (claimOf m q)) (λ m. is-empty _ (f d m .0))) (each-mode (λ m. isEmpty (openOf m q)) (λ m. is-empty _ (f d m .1)))
 of-standing q Standing.Running d f g = refl
 of-standing q (Standing.Waiting h) d f g = refl
-of-standing q Standing.Held d f g = let (a, b) = g d in and-both (isEmpty (q .writing)) (isEmpty (q .reading)) (is-empty _ a) (is-empty _ b)
+of-standing q Standing.Held d f g = each-mode (λ m. isEmpty (openOf m q)) (λ m. is-empty _ (g d m))
 
 sets-of : (q : Program) → setsSound q ≡ true → SetsAsAbove q
 unfolding setsSound
-sets-of q e = let a = and-left (within (q .writing) (q .writable) && within (q .reading) (q .readable))
-    (not (meets (q .writable) (q .readable))) e in
+sets-of q e = let i = eachMode (λ m. within (openOf m q) (claimOf m q)) in let a = claimsMeet (q .writable) (q .readable) in
     record {
-      w-in-v = and-left (within (q .writing) (q .writable)) (within (q .reading) (q .readable)) a;
-      r-in-q = and-right (within (q .writing) (q .writable)) (within (q .reading) (q .readable)) a;
-      v-apart-q = not-true (meets (q .writable) (q .readable)) (and-right (within (q .writing) (q .writable) && within
-          (q .reading) (q .readable)) (not (meets (q .writable) (q .readable))) e);
+      inside = mode-each (λ m. within (openOf m q) (claimOf m q)) (and-left i (not a) e);
+      claims-apart = not-true a (and-right i (not a) e);
     }
 
 of-sets : (q : Program) → SetsAsAbove q → setsSound q ≡ true
 unfolding setsSound
-of-sets q s = and-both (within (q .writing) (q .writable) && within (q .reading) (q .readable))
-    (not (meets (q .writable) (q .readable))) (and-both (within (q .writing) (q .writable))
-    (within (q .reading) (q .readable)) (s .w-in-v) (s .r-in-q)) (true-not (meets (q .writable) (q .readable)) (s .v-apart-q))
+of-sets q s = let i = eachMode (λ m. within (openOf m q) (claimOf m q)) in let a = claimsMeet (q .writable) (q .readable) in
+    and-both i (not a) (each-mode (λ m. within (openOf m q) (claimOf m q)) (s .inside)) (true-not a (s .claims-apart))
 
 line-of : (l : List ℕ) (t : ℕ → Bool) → lineSound l t ≡ true → OnLine l t
 unfolding lineSound
@@ -186,7 +179,7 @@ module _ (b : Board) where
       let y = claims (at b p) f in let z = not (hasOpen (at b p) f) in let w = not (canGive b p f) in
       let yz = and-left (y && z) w e in (
         record {
-          claimed = or-cases (member (at b p .writable) f) (member (at b p .readable) f) (and-left y z yz) inl inr;
+          claimed = and-left y z yz;
           shut = not-true (hasOpen (at b p) f) (and-right y z yz);
         },
         not-true (canGive b p f) (and-right (y && z) w e),
@@ -195,10 +188,8 @@ module _ (b : Board) where
   of-waiter : (p f : ℕ) → Asked (at b p) f → canGive b p f ≡ false → waiterSound b p f ≡ true
   unfolding waiterSound
   of-waiter p f a s =
-      let v = member (at b p .writable) f in let q = member (at b p .readable) f in
-      let z = not (hasOpen (at b p) f) in let w = not (canGive b p f) in
-      and-both ((v || q) && z) w (and-both (v || q) z (⊎-elim (or-left v q) (or-right v q) (a .claimed))
-      (true-not (hasOpen (at b p) f) (a .shut)))
+      let y = claims (at b p) f in let z = not (hasOpen (at b p) f) in let w = not (canGive b p f) in
+      and-both (y && z) w (and-both y z (a .claimed) (true-not (hasOpen (at b p) f) (a .shut)))
       (true-not (canGive b p f) s)
 
   none-of : noneFavoured b ≡ true → ((p : ℕ) → Is p → isHeld (at b p .standing) ≡ false) × (b .initial ≡ 0) × (b .leaves ≡ 0)
@@ -326,9 +317,8 @@ module _ (b : Board) where
       each : (p : ℕ) → Is p → programSound (at b p) ≡ true
       each p i = all-each (λ p. programSound (at b p)) everyone (k .part-1) p (mem-everyone p i)
 
-      stand : (p : ℕ) → Is p → (at b p .standing ≡ Standing.Absent → (at b p .writable ≡ noFiles) ×
-          (at b p .readable ≡ noFiles) × (at b p .writing ≡ noFiles) × (at b p .reading ≡ noFiles)) ×
-          (at b p .standing ≡ Standing.Held → (at b p .writing ≡ noFiles) × (at b p .reading ≡ noFiles))
+      stand : (p : ℕ) → Is p → (at b p .standing ≡ Standing.Absent → (m : Mode) → (claimOf m (at b p) ≡ noFiles) × (openOf m (at b p)
+          ≡ noFiles)) × (at b p .standing ≡ Standing.Held → Idle (at b p))
       stand p i = standing-of (at b p) (at b p .standing) (and-right (setsSound (at b p))
           (standingSound (at b p .standing) (at b p)) (each p i)) refl
 
@@ -367,8 +357,8 @@ sound-iff b = (clauses-of b, of-clauses b)
 
 pub good-sound : (b : Board) → Good b → Sound b
 good-sound b g = record {
-  sets = λ p i. let o = own p i in record { w-in-v = ⊑-within _ _ (o .wv); r-in-q = ⊑-within _ _ (o .rq); v-apart-q = o .vq };
-  absent-empty = λ p i u. let o = own p i in let (x, y) = o .gone u in let (z, w) = o .idle (ap isAdmitted u) in (x, y, z, w);
+  sets = λ p i. let o = own p i in record { inside = λ m. ⊑-within _ _ (o .inside m); claims-apart = o .apart };
+  absent-empty = λ p i u. let o = own p i in λ m. (o .gone u m, o .idle (ap isAdmitted u) m);
   held-closed = λ p i u. own p i .idle (ap isAdmitted u);
   no-conflict = g .loose .base .apart;
   order-exists = let (o, c) = g .loose .base .order in (o, subst (λ l. IsOrder (holdsOn b) l o) (sym (admitted-is b)) c);
@@ -386,9 +376,8 @@ good-sound b g = record {
     own : (p : ℕ) → Is p → Own (at b p)
     own = g .loose .base .own
 
-idle-of : (q : Program) (t : Standing) → q .standing ≡ t → isAdmitted t ≡ false → (q .standing ≡ Standing.Absent
-    → (q .writing ≡ noFiles) × (q .reading ≡ noFiles)) → (q .standing ≡ Standing.Held → (q .writing ≡ noFiles) ×
-    (q .reading ≡ noFiles)) → (q .writing ≡ noFiles) × (q .reading ≡ noFiles)
+idle-of : (q : Program) (t : Standing) → q .standing ≡ t → isAdmitted t ≡ false → (q .standing ≡ Standing.Absent → Idle q)
+    → (q .standing ≡ Standing.Held → Idle q) → Idle q
 idle-of q Standing.Absent d e f g = f d
 idle-of q Standing.Running d e f g = never {t = true} refl e
 idle-of q (Standing.Waiting h) d e f g = never {t = true} refl e
@@ -397,11 +386,10 @@ idle-of q Standing.Held d e f g = g d
 -- what a sound board says of a program by itself
 pub own-of : (b : Board) (p : ℕ) → Sound b → Is p → Own (at b p)
 own-of b p s i = let k = s .sets p i in record {
-  wv = within-⊑ _ _ (k .w-in-v);
-  rq = within-⊑ _ _ (k .r-in-q);
-  vq = k .v-apart-q;
-  idle = λ e. idle-of (at b p) (at b p .standing) refl e (λ u. let (_, _, x, y) = s .absent-empty p i u in (x, y)) (s .held-closed p i);
-  gone = λ u. let (x, y, _, _) = s .absent-empty p i u in (x, y);
+  inside = λ m. within-⊑ _ _ (k .inside m);
+  apart = k .claims-apart;
+  idle = λ e. idle-of (at b p) (at b p .standing) refl e (λ u m. s .absent-empty p i u m .1) (s .held-closed p i);
+  gone = λ u m. s .absent-empty p i u m .0;
 }
 
 pub sound-good : (b : Board) → Sized (b .programs) → Sound b → Good b

@@ -5,7 +5,7 @@ use mathlib.Core.Path.{_≡_, refl, sym, _∙_, ap, ap₂, subst}
 use mathlib.Core.Logic.{_⊎_, inl, inr}
 use mathlib.Core.Bool.{false}
 use lib.Dec.{eqb}
-use Rattle.files.proofs.Tests.{by-test, by-option, never}
+use Rattle.laws.specs.Tests.{by-test, by-option, never}
 use Rattle.files.specs.declared.FileSet.{FileSet}
 use Rattle.rules.specs.declared.Standing.{Standing}
 use Rattle.rules.specs.declared.Program.{Program}

@@ -9,8 +9,9 @@ use mathlib.Core.Option.{some, Option·getD}
 use mathlib.Core.List.{List, [], _∷_, _++_, List·Memᴰ·not-nil, List·Memᴰ·eq-of-singleton}
 use lib.Dec.{eqb}
 use lib.ListN.{length}
-use Rattle.files.proofs.Tests.{by-test, by-option, never}
-use Rattle.files.specs.Sets.{isFile, meets}
+use Rattle.laws.specs.Tests.{by-test, by-option, never}
+use Rattle.files.specs.Sets.{isFile}
+use Rattle.rules.specs.Modes.{touching, claimsMeet}
 use Rattle.rules.specs.declared.Standing.{Standing}
 use Rattle.rules.specs.declared.Board.{Board}
 use Rattle.rules.specs.declared.Refusal.{Refusal}
@@ -18,7 +19,7 @@ use Rattle.rules.specs.declared.Check.{Check}
 use Rattle.rules.specs.declared.Answer.{Answer}
 use Rattle.rules.specs.declared.Line.{Line}
 use Rattle.rules.specs.declared.Reply.{Reply}
-use Rattle.rules.specs.Lists.{any, all, keep, first, padded, rising, listed, distinct, without, same, names}
+use Rattle.laws.specs.Lists.{any, all, keep, first, padded, rising, listed, distinct, without, same, names}
 use Rattle.rules.specs.Boards.{isAbsent, isWaiting, isProgram, emptyBoard, everyone, at, admitted, claims, hasOpen}
 use Rattle.rules.specs.Orders.{heldBack, carriedFrom, carried, withGiven, inUse, safe, canGive}
 use Rattle.rules.specs.Soundness.{setsSound, standingSound, programSound, noConflict, lineSound, waiterSound, noneFavoured, someFavoured}
@@ -29,7 +30,7 @@ use Rattle.rules.specs.Calls.{enter, openFile, done, closeFile, dropFile, leave
 use Rattle.rules.specs.Calls.{holdFor, Cancel, cancel, apply, direct}
 use Rattle.rules.specs.Settling.{overdue}
 use Rattle.rules.specs.Worked.{workedFrom, worked, repliesFrom, directFrom}
-use Rattle.theory.specs.Lists.{_∈_, by-mem, here, no-longer, length-rising}
+use Rattle.laws.specs.Laws.{_∈_, by-mem, here, no-longer, length-rising}
 use Rattle.theory.specs.Order.{IsOrder}
 use Rattle.theory.specs.Programs.{Is, mem-everyone, holds, ins, ins-mem, mem-ins, admitted-is, first-can}
 use Rattle.theory.specs.Loose.{stands, waitsIn, waiting-file, waiting-in, Good}
@@ -41,7 +42,7 @@ use Rattle.theory.specs.Sound.{sound-iff, good-sound, sound-good}
 
 empty-sound : sound emptyBoard ≡ true
 unfolding any all keep first padded rising listed distinct without same names
-    everyone admitted
+    everyone admitted touching
     heldBack carriedFrom carried withGiven inUse safe canGive
     setsSound standingSound programSound noConflict lineSound waiterSound noneFavoured someFavoured countSound sound
 empty-sound = refl
@@ -144,7 +145,7 @@ unfolding enterCheck closeCheck leaveCheck cancelCheck
 checked-number b (Enter p v r) =
     if-number (not (isProgram p)) Refusal.OutOfRange _ (omega arith)
     (if-number (not (isAbsent (at b p .standing))) Refusal.NotAbsent _ (omega arith)
-    (if-number (meets v r) Refusal.ClaimsMeet Check.Passed (omega arith) passed-number))
+    (if-number (claimsMeet v r) Refusal.ClaimsMeet Check.Passed (omega arith) passed-number))
 checked-number b (Open p f) = open-number b p f
 checked-number b (Close p f) =
     if-number (not (isProgram p && isFile f)) Refusal.OutOfRange _ (omega arith)
@@ -213,7 +214,7 @@ unfolding refuse
 apply-reply b c = by-check (checked b c) (λ e. subst IsReply (sym (apply-accepted b c e)) (accepted-reply b c))
     (λ r e. subst IsReply (sym (apply-refused b c r e)) (made b (Answer.Refuse r) []))
 
-reply-order : (b : Board) (a : Answer) (ls : List Line) → orderOf (reply b a ls) ≡ Option·getD (carried b) []
+pub reply-order : (b : Board) (a : Answer) (ls : List Line) → orderOf (reply b a ls) ≡ Option·getD (carried b) []
 unfolding reply
 reply-order b a ls = take-padded 0 (Option·getD (carried b) [])
 

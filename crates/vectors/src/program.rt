@@ -36,7 +36,7 @@ fn start() -> Session {
 fn step(s: Session, line: &[u8], expected: &[u8]) -> Session {
     let mut journal = [0u8; 512];
     let before = s.board;
-    let posted = host::line_call(before, line, &mut journal, 0);
+    let posted = linecall::line_call(before, line, &mut journal, 0);
     let reply = posted.reply;
     let board = reply.board;
     let order = reply.order;

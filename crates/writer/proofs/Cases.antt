@@ -4,11 +4,11 @@ use mathlib.Core.Path.{_≡_, refl}
 use mathlib.Core.List.{List, [], _∷_, map}
 use lib.ListN.{replicate}
 use Rattle.columns.specs.Columns.{columnsOf, flat}
-use Rattle.files.specs.Sets.{noFiles, adding}
-use Rattle.files.specs.declared.FileSet.{FileSet}
-use Rattle.rules.specs.Lists.{all, keep, rising}
+use Rattle.files.specs.Sets.{noFiles}
+use Rattle.laws.specs.Lists.{all, keep, rising}
 use Rattle.rules.specs.Calls.{Call, Enter, Open, Close, Drop, Leave, Cancel}
-use Rattle.request.specs.Requests.{verbColumns, filesOf, lineOf}
+use Rattle.rules.proofs.Tables.{set}
+use Rattle.request.specs.Requests.{filesOf, lineOf}
 use Rattle.writer.specs.declared.Unwritten.{Unwritten}
 use Rattle.writer.specs.declared.Writing.{Writing}
 use Rattle.writer.specs.Writer.{writingOf, bufferAfter}
@@ -20,11 +20,6 @@ record Row : Type 0 where
   room : ℕ
   answer : Writing
   after : List ℕ
-
--- the set of these files
-set : List ℕ → FileSet
-set [] = noFiles
-set (f ∷ fs) = adding (set fs) f
 
 row : Call → List ℕ → ℕ → Writing → List ℕ → Row
 row c l n a b = record { call = c; label = l; room = n; answer = a; after = b }
@@ -39,20 +34,23 @@ unfolding row refusing set
 table =
     -- 01's session: its first line, with room for two bytes more
     row (Enter 1 (set (1 ∷ 2 ∷ 3 ∷ [])) noFiles) (83 ∷ 84 ∷ 79 ∷ 67 ∷ 75 ∷ 32 ∷ 32 ∷ 32 ∷ []) 34 (Writing.Wrote 32)
-    (69 ∷ 78 ∷ 84 ∷ 69 ∷ 82 ∷ 32 ∷ 32 ∷ 32 ∷ 49 ∷ 83 ∷ 84 ∷ 79 ∷ 67 ∷ 75 ∷ 32 ∷ 32 ∷ 32 ∷ 32 ∷ 32 ∷ 51 ∷ 32 ∷ 32 ∷ 48 ∷ 32 ∷ 32 ∷ 49 ∷ 32 ∷ 32 ∷ 50 ∷ 32 ∷ 32 ∷ 51 ∷ 170 ∷ 170 ∷ [])
+    (69 ∷ 78 ∷ 84 ∷ 69 ∷ 82 ∷ 32 ∷ 32 ∷ 32 ∷ 49 ∷ 83 ∷ 84 ∷ 79 ∷ 67 ∷ 75 ∷ 32 ∷ 32 ∷ 32 ∷ 32 ∷ 32 ∷ 51 ∷ 32 ∷ 32 ∷ 48
+    ∷ 32 ∷ 32 ∷ 49 ∷ 32 ∷ 32 ∷ 50 ∷ 32 ∷ 32 ∷ 51 ∷ 170 ∷ 170 ∷ [])
     -- a file of Q alone
     ∷ row (Enter 3 noFiles (set (2 ∷ []))) (76 ∷ 73 ∷ 83 ∷ 84 ∷ 83 ∷ 32 ∷ 32 ∷ 32 ∷ []) 26 (Writing.Wrote 26)
     (69 ∷ 78 ∷ 84 ∷ 69 ∷ 82 ∷ 32 ∷ 32 ∷ 32 ∷ 51 ∷ 76 ∷ 73 ∷ 83 ∷ 84 ∷ 83 ∷ 32 ∷ 32 ∷ 32 ∷ 32 ∷ 32 ∷ 48 ∷ 32 ∷ 32 ∷ 49 ∷ 32 ∷ 32 ∷ 50 ∷ [])
     -- "Claims that meet are written too."
     ∷ row (Enter 2 (set (1 ∷ [])) (set (1 ∷ 64 ∷ []))) (66 ∷ 73 ∷ 76 ∷ 76 ∷ 83 ∷ 32 ∷ 32 ∷ 32 ∷ []) 32 (Writing.Wrote 32)
-    (69 ∷ 78 ∷ 84 ∷ 69 ∷ 82 ∷ 32 ∷ 32 ∷ 32 ∷ 50 ∷ 66 ∷ 73 ∷ 76 ∷ 76 ∷ 83 ∷ 32 ∷ 32 ∷ 32 ∷ 32 ∷ 32 ∷ 49 ∷ 32 ∷ 32 ∷ 50 ∷ 32 ∷ 32 ∷ 49 ∷ 32 ∷ 32 ∷ 49 ∷ 32 ∷ 54 ∷ 52 ∷ [])
+    (69 ∷ 78 ∷ 84 ∷ 69 ∷ 82 ∷ 32 ∷ 32 ∷ 32 ∷ 50 ∷ 66 ∷ 73 ∷ 76 ∷ 76 ∷ 83 ∷ 32 ∷ 32 ∷ 32 ∷ 32 ∷ 32 ∷ 49 ∷ 32 ∷ 32 ∷ 50
+    ∷ 32 ∷ 32 ∷ 49 ∷ 32 ∷ 32 ∷ 49 ∷ 32 ∷ 54 ∷ 52 ∷ [])
     -- no claims
     ∷ row (Enter 32 noFiles noFiles) (32 ∷ 32 ∷ 32 ∷ 32 ∷ 32 ∷ 32 ∷ 32 ∷ 32 ∷ []) 23 (Writing.Wrote 23)
     (69 ∷ 78 ∷ 84 ∷ 69 ∷ 82 ∷ 32 ∷ 32 ∷ 51 ∷ 50 ∷ 32 ∷ 32 ∷ 32 ∷ 32 ∷ 32 ∷ 32 ∷ 32 ∷ 32 ∷ 32 ∷ 32 ∷ 48 ∷ 32 ∷ 32 ∷ 48 ∷ [])
     -- the other verbs; their label is not looked at
     ∷ row (Open 2 2) [] 12 (Writing.Wrote 12)
     (79 ∷ 80 ∷ 69 ∷ 78 ∷ 32 ∷ 32 ∷ 32 ∷ 32 ∷ 50 ∷ 32 ∷ 32 ∷ 50 ∷ [])
-    ∷ row (Close 1 3) (116 ∷ 111 ∷ 111 ∷ 32 ∷ 108 ∷ 111 ∷ 110 ∷ 103 ∷ 32 ∷ 102 ∷ 111 ∷ 114 ∷ 32 ∷ 97 ∷ 32 ∷ 108 ∷ 97 ∷ 98 ∷ 101 ∷ 108 ∷ []) 12 (Writing.Wrote 12)
+    ∷ row (Close 1 3) (116 ∷ 111 ∷ 111 ∷ 32 ∷ 108 ∷ 111 ∷ 110 ∷ 103 ∷ 32 ∷ 102 ∷ 111 ∷ 114 ∷ 32 ∷ 97 ∷ 32 ∷ 108 ∷ 97 ∷ 98 ∷ 101 ∷ 108 ∷ [])
+    12 (Writing.Wrote 12)
     (67 ∷ 76 ∷ 79 ∷ 83 ∷ 69 ∷ 32 ∷ 32 ∷ 32 ∷ 49 ∷ 32 ∷ 32 ∷ 51 ∷ [])
     ∷ row (Drop 32 64) [] 13 (Writing.Wrote 12)
     (68 ∷ 82 ∷ 79 ∷ 80 ∷ 32 ∷ 32 ∷ 32 ∷ 51 ∷ 50 ∷ 32 ∷ 54 ∷ 52 ∷ 170 ∷ [])

@@ -9,17 +9,17 @@ use lib.Seq.{take-at, drop-at}
 use native.Mathlib.Omega.{arith}
 use borrow.Author.Tests.{le-ltb, ltb-true, ltb-false, eq-eqb, eqb-true}
 use Rattle.files.specs.Bits.{isNumber}
-use Rattle.files.proofs.Tests.{by-test, never, and-left, and-right, and-both}
+use Rattle.laws.specs.Tests.{by-test, never, and-left, and-right, and-both}
 use Rattle.files.proofs.Bits.{is-number, least, most}
 use Rattle.rules.specs.declared.Verb.{Verb}
-use Rattle.rules.specs.Lists.{all}
+use Rattle.laws.specs.Lists.{all}
 use Rattle.rules.specs.Calls.{Call, Enter, Open, Close, Drop, Leave, Cancel}
 use Rattle.request.specs.declared.Reading.{Reading}
 use Rattle.request.specs.declared.Request.{Request}
 use Rattle.request.specs.Requests.{requestCall, labelByte, requestOf, isEntry, labelPart, labelOf, lineOf}
 use Rattle.request.specs.Law.{IsLabel, InRange, saying}
 use Rattle.request.proofs.Groups.{files-length}
-use Rattle.request.proofs.Lines.{line-read, label-read, read-line, call-back, taken-back, some-label}
+use Rattle.request.proofs.Lines.{line-read, label-read, read-line, call-back, some-label}
 use Rattle.writer.specs.declared.Writing.{Writing}
 use Rattle.writer.specs.Writer.{unwrittenNumber, inRange, isLabel, labelGood, writingOf, bufferAfter}
 use Rattle.writer.specs.Rows.{fileLine, aloneLine}
@@ -46,7 +46,7 @@ in-range (Cancel p) k h = (least 32 p h, most 32 p h)
 both-numbers : (p f : ℕ) → (1 ≤ p) × (p ≤ 32) × (1 ≤ f) × (f ≤ 64) → (isNumber 32 p && isNumber 64 f) ≡ true
 both-numbers p f h = and-both (isNumber 32 p) (isNumber 64 f) (is-number 32 p (h .0) (h .1)) (is-number 64 f (h .2) (h .3))
 
-range-test : (c : Call) → InRange c → inRange c ≡ true
+pub range-test : (c : Call) → InRange c → inRange c ≡ true
 range-test (Enter p v q) h = is-number 32 p (h .0) (h .1)
 range-test (Open p f) h = both-numbers p f h
 range-test (Close p f) h = both-numbers p f h
@@ -187,7 +187,7 @@ taken-of-written l w =
     let k = w .writes l (omega arith) in
     let b = reads-back c (w .label) l (length l) (w .claims) (k .0) in
     let t : take (length l) (bufferAfter c (w .label) l) ≡ l = ap (take (length l)) (k .1) ∙ take-at l (drop (length l) l) (length l) refl in
-    ap (λ (x : List ℕ). requestOf x .reading) (sym t) ∙ ap (λ (q : Request). q .reading) (b .0) ∙ taken-back c
+    ap (λ (x : List ℕ). requestOf x .reading) (sym t) ∙ ap (λ (q : Request). q .reading) (b .0)
 
 written-of-taken : (l : List ℕ) → requestOf l .reading ≡ Reading.Taken → Written l
 written-of-taken l h =

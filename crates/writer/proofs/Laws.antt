@@ -1,49 +1,34 @@
 -- Laws of rows of bytes and of the files of a set, for the functions of the writer. Assumes nothing.
 use Prim.Native.Nat.{ℕ, suc, _+_, _-_, _*_, _≤_, _<_}
 use mathlib.Core.Path.{_≡_, refl, ap, sym, _∙_}
-use mathlib.Core.List.{List, [], _∷_, _++_, append-assoc, append-nil}
+use mathlib.Core.List.{List, [], _∷_, _++_, append-assoc}
 use mathlib.Core.Bool.{Bool, true, false, cond, _&&_}
 use lib.Dec.{eqb}
-use lib.ListN.{length, take, drop, length-drop, length-append, take-append-drop, drop-of-length-le}
-use lib.Seq.{take-at, take-all, drop-at, drop-drop, take-length, length-take-le}
+use lib.ListN.{length, take, drop, length-append, take-append-drop}
+use lib.Seq.{take-at, drop-at, drop-drop, length-take-le}
 use native.Mathlib.Omega.{arith}
 use native.Mathlib.Nat.{add-zero}
 use native.Mathlib.Numerals.{add-one}
 use borrow.Author.Tests.{le-ltb, lt-ltb, eq-eqb, ne-eqb}
-use borrow.Rule.Slice.PartMut.{putMid}
-use Rattle.files.proofs.Tests.{by-test, and-false}
-use Rattle.columns.specs.Columns.{columnsOf, flat}
+use Rattle.laws.specs.Tests.{by-test, and-false}
+use Rattle.columns.specs.Columns.{columnsOf, flat, putAt}
+use Rattle.columns.proofs.Laws.{columns-length}
+use Rattle.columns.proofs.Rows.{flat-length}
 use Rattle.files.specs.declared.FileSet.{FileSet}
 use Rattle.files.specs.Sets.{isFile}
 use Rattle.rules.specs.declared.Verb.{Verb}
 use Rattle.rules.specs.declared.Asked.{Asked}
-use Rattle.rules.specs.Lists.{all, keep, rising}
+use Rattle.laws.specs.Lists.{all, keep, rising}
 use Rattle.rules.specs.Boards.{isProgram}
 use Rattle.rules.specs.Calls.{Call, Enter, callWith, callOf}
 use Rattle.request.specs.Requests.{verbColumns, labelByte, filesOf, filesColumns, lineOf}
 use Rattle.request.proofs.Laws.{verb-length}
-use Rattle.request.proofs.Groups.{flat-length}
 use Rattle.writer.specs.declared.Unwritten.{Unwritten}
 use Rattle.writer.specs.declared.Writing.{Writing}
 use Rattle.writer.specs.Writer.{inRange, isLabel, labelGood, placing, placedIn, writingOf, bufferAfter}
-use Rattle.writer.specs.Rows.{putAt, countIf, columnsIf, entryColumns, aloneLine, fileLine, enterWriting, enterFilled, fileWriting, fileFilled}
+use Rattle.writer.specs.Rows.{countIf, columnsIf, entryColumns, aloneLine, fileLine, enterWriting, enterFilled, fileWriting, fileFilled}
 
 -- ---- rows
-
-pub columns-length : (n : ℕ) → length (columnsOf n) ≡ 3
-unfolding columnsOf
-columns-length n = refl
-
--- a row copied into the part that begins at the place
-pub put-part : (at : ℕ) (row l last : List ℕ) → at + length row ≤ length l
-    → last ≡ take (length row) row ++ drop (length row) (take (length l - at) (drop at l))
-    → putMid at (length l - at) l last ≡ putAt at row l
-unfolding putAt
-put-part at row l last room e =
-    let eA : take (length l - at) (drop at l) ≡ drop at l = take-all (length l - at) (drop at l) (omega (arith, length-drop at l)) in
-    let eE : drop (length l - at) (drop at l) ≡ [] = drop-of-length-le (drop at l) {i = length l - at} (omega (arith, length-drop at l)) in
-    let eL : last ≡ row ++ drop (at + length row) l = e ∙ rw (eA, take-length row, drop-drop (length row) at l) in
-    rw (eE, eL, append-nil (row ++ drop (at + length row) l))
 
 -- two rows, one after the other
 put-more : (at : ℕ) (a b l : List ℕ) → at + length a ≤ length l → putAt (at + length a) b (putAt at a l) ≡ putAt at (a ++ b) l
@@ -120,12 +105,7 @@ ends t f at l e = rw (files-end t f e) (put-none at l)
 -- ---- lengths of lines
 
 head-length : (v : Verb) (t : List ℕ) → length (verbColumns v ++ t) ≡ 6 + length t
-head-length Verb.Enter t = omega arith
-head-length Verb.Open t = omega arith
-head-length Verb.Close t = omega arith
-head-length Verb.Drop t = omega arith
-head-length Verb.Leave t = omega arith
-head-length Verb.Cancel t = omega arith
+head-length v t = omega (arith, length-append (verbColumns v) t, verb-length v)
 
 pub alone-length : (v : Verb) (p : ℕ) → length (aloneLine v p) ≡ 9
 unfolding aloneLine
@@ -168,8 +148,8 @@ enter-length p v q label h =
       length-append (e ++ filesColumns (filesOf v)) (filesColumns (filesOf q)),
       length-append e (filesColumns (filesOf v)),
       entry-length p (length (filesOf v)) (length (filesOf q)) label h,
-      flat-length (filesOf v),
-      flat-length (filesOf q),
+      flat-length columnsOf 3 columns-length (filesOf v),
+      flat-length columnsOf 3 columns-length (filesOf q),
     )
 
 -- ---- the rows of a line, as the calls leave them
@@ -214,7 +194,7 @@ enter-put p a₁ a₂ v q label L m₁ m₂ m₃ eight room e₁ p₁ e₂ p₂ 
     let e : List ℕ = entryColumns p label (length (filesOf v)) (length (filesOf q)) in
     let n₁ : length e ≡ 23 = entry-length p (length (filesOf v)) (length (filesOf q)) label eight in
     let n₂ : length (e ++ filesColumns (filesOf v)) ≡ 23 + 3 * length (filesOf v) =
-    omega (arith, length-append e (filesColumns (filesOf v)), n₁, flat-length (filesOf v)) in
+    omega (arith, length-append e (filesColumns (filesOf v)), n₁, flat-length columnsOf 3 columns-length (filesOf v)) in
     let q₂ : m₂ ≡ putAt 0 (e ++ filesColumns (filesOf v)) L =
     put-then 0 a₁ e (filesColumns (filesOf v)) L m₁ m₂ (omega (arith, n₁, room)) p₁ (omega (arith, n₁, e₁)) p₂ in
     put-then 0 a₂ (e ++ filesColumns (filesOf v)) (filesColumns (filesOf q)) L m₂ m₃ (omega (arith, n₂, room)) q₂ (omega (arith, n₂, e₂, e₁)) p₃

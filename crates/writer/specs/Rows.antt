@@ -1,9 +1,8 @@
--- The writer as the code puts it together: rows of bytes in their places, the files of a set one by one, and each verb by itself.
+-- The writer as the code puts it together: the files of a set one by one, and each verb by itself.
 -- Assumes nothing.
-use Prim.Native.Nat.{ℕ, _+_}
+use Prim.Native.Nat.{ℕ}
 use mathlib.Core.Bool.{Bool, cond}
 use mathlib.Core.List.{List, [], _++_}
-use lib.ListN.{length, take, drop}
 use Rattle.columns.specs.Columns.{columnsOf}
 use Rattle.files.specs.declared.FileSet.{FileSet}
 use Rattle.files.specs.Sets.{isFile}
@@ -14,11 +13,7 @@ use Rattle.writer.specs.declared.Unwritten.{Unwritten}
 use Rattle.writer.specs.declared.Writing.{Writing}
 use Rattle.writer.specs.Writer.{isLabel, placing, filled}
 
--- ---- rows
-
--- the row from the place on; all other bytes as before
-unfoldable pub putAt : ℕ → List ℕ → List ℕ → List ℕ
-putAt at row l = take at l ++ (row ++ drop (at + length row) l)
+-- ---- files
 
 -- a file that is counted, or not
 abbrev pub countIf : Bool → ℕ

@@ -7,7 +7,7 @@ use mathlib.Core.List.{List, _++_}
 use lib.Dec.{eqb, ltb}
 use lib.ListN.{length, drop}
 use Rattle.files.specs.Sets.{isFile}
-use Rattle.rules.specs.Lists.{all}
+use Rattle.laws.specs.Lists.{all}
 use Rattle.rules.specs.Boards.{isProgram}
 use Rattle.rules.specs.Calls.{Call, Enter, Open, Close, Drop, Leave, Cancel}
 use Rattle.request.specs.Requests.{labelByte, lineOf}

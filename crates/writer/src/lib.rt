@@ -6,13 +6,13 @@ ghost use mathlib.Core.Path.{_≡_};
 ghost use mathlib.Core.List.{_++_};
 ghost use Prim.Native.Nat.{_+_, _*_, _≤_};
 ghost use lib.ListN.{length};
-ghost use Rattle.columns.specs.Columns.{columnsOf};
+ghost use Rattle.columns.specs.Columns.{columnsOf, putAt};
 ghost use Rattle.files.specs.Bits.{isNumber};
 ghost use Rattle.files.specs.Sets.{member};
 ghost use Rattle.rules.specs.Calls.{Enter, callOf};
 ghost use Rattle.request.specs.Requests.{verbColumns, filesOf, filesColumns, lineOf};
 ghost use Rattle.writer.specs.Writer.{unwrittenNumber, placing, placedIn, writingOf, bufferAfter};
-ghost use Rattle.writer.specs.Rows.{putAt, countIf, columnsIf, entryColumns, aloneLine, enterWriting, enterFilled, fileWriting, fileFilled};
+ghost use Rattle.writer.specs.Rows.{countIf, columnsIf, entryColumns, aloneLine, enterWriting, enterFilled, fileWriting, fileFilled};
 
 // Why no line is written.
 pub enum Unwritten {

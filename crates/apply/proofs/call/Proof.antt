@@ -1,5 +1,5 @@
 -- `call` meets its contract. Assumes nothing.
-use mathlib.Core.Path.{_≡_, _∙_}
+use mathlib.Core.Path.{_≡_}
 use lib.ListN.{length, length-map}
 use Rattle.rules.specs.Boards.{isProgram}
 use Rattle.apply.proofs.Laws.{comes, number-same, apply-far, program-none, good-of}

@@ -7,10 +7,19 @@ use borrow.Author.Needs.{needs}
 use Rattle.board.proofs.close_journal.Statement.{statement}
 use Rattle.board.proofs.close_journal.Tie as tie
 
+-- where the journal of a last line ends
+abbrev placed : tie.After-order-line → tie.After-o
+placed k = k .before .before .before
+
+-- a last line is served
+abbrev last : tie.After-o → tie.After-last-line
+last p = p .before .before .before .before .before
+
 returns : tie.Need-returns
 returns c =
-    let s = c .before .before .before .before .before .before .before .before .before .before .before .before .before .before .before in
-    let l = c .before .before .before .before .before .before .before .before .before .before .last-line in
+    let u = last (placed (c .before .before)) in
+    let s = u .before .before .before .before .before in
+    let l = u .last-line in
     let o = c .before .before .order-line in
     let h = l .ensures .1 .0 in
     let j = l .kept .1 .1 .0 in

@@ -1,6 +1,6 @@
 -- `flush` meets its contract. Assumes nothing.
 use mathlib.Core.Path.{refl}
-use Rattle.files.proofs.Tests.{never}
+use Rattle.laws.specs.Tests.{never}
 use borrow.Author.Needs.{needs}
 use Rattle.board.proofs.flush.Statement.{statement}
 use Rattle.board.proofs.flush.Tie as tie

@@ -10,15 +10,21 @@ returns : tie.Need-returns
 returns c =
     let s = c .before .before .before .before in
     let a = s .args in
-    (last-none (a .s .board) (a .kept .now) (a .journal .now) (a .s .kept) (a .s .out .place) (c .if1 .taken) (s .pre .1 .0), (omega (arith, s .pre .1 .0), refl))
+    let p = s .pre .1 .0 in
+    (last-none (a .s .board) (a .kept .now) (a .journal .now) (a .s .kept) (a .s .out .place) (c .if1 .taken) p, (omega (arith, p), refl))
+
+-- bytes are kept
+abbrev some : tie.After-end-line → tie.Else1
+some k = k .before .before .before .before
 
 returns-2 : tie.Need-returns-2
 returns-2 c =
-    let s = c .before .before .before .before .before .before .before .before .before .before .before .before in
+    let u = c .before .before .before .before in
+    let s = some u .before .before .before .before in
     let a = s .args in
-    let k = c .before .before .before .before .end-line in (
+    let k = u .end-line in (
       k .ensures .0
-          ∙ last-some (a .s .board) (a .kept .now) (a .journal .now) (a .s .kept) (a .s .out .place) (c .before .before .before .before .before .before .before .before .if1 .left)
+          ∙ last-some (a .s .board) (a .kept .now) (a .journal .now) (a .s .kept) (a .s .out .place) (some u .if1 .left)
           (s .pre .0 .1) (omega (arith, s .pre .0 .1, s .pre .0 .2)) (s .pre .1 .0),
       (omega (arith, k .ensures .1 .2, s .pre .1 .0), k .ensures .1 .3),
     )

@@ -9,18 +9,24 @@ use borrow.Author.Needs.{needs}
 use Rattle.board.proofs.order_line.Statement.{statement}
 use Rattle.board.proofs.order_line.Tie as tie
 
+-- the word is written
+abbrev worded : tie.After-put-programs → tie.After-copy
+worded k = k .before .before .before .before .before .before
+
 same-length : tie.Need-same-length
 same-length c =
-    let k = c .before .before .put-programs in
-    length-set (k .last .0) (k .result) 10 ∙ k .kept .0 ∙ c .before .before .before .before .before .before .before .before .copy .kept .1 .0
+    let u = c .before .before in
+    let k = u .put-programs in
+    length-set (k .last .0) (k .result) 10 ∙ k .kept .0 ∙ worded u .copy .kept .1 .0
 
 returns : tie.Need-returns
 unfolding orderOf
 returns c =
-    let a = c .before .before .before .before .before .before .before .before .before .before .before .before .args in
-    let w = c .before .before .before .before .before .before .before .before .copy in
-    let o = c .before .before .before .before .before .carried-order in
-    let k = c .before .before .put-programs in (
+    let u = c .before .before in
+    let a = worded u .before .before .before .before .args in
+    let w = worded u .copy in
+    let o = u .before .before .before .carried-order in
+    let k = u .put-programs in (
       order-is (o .result .at) (a .out .now) (w .last .1 .0) (k .last .0) (k .result) (w .ensures .1) (k .ensures .0)
           (omega (arith, k .ensures .1, k .kept .0, w .kept .1 .0))
           ∙ ap (λ (x : Order). orderLine (x .at)) (o .ensures),

@@ -1,6 +1,7 @@
 -- `put_columns` meets its contract. Assumes nothing.
 use Rattle.columns.specs.Columns.{columnsOf}
-use Rattle.board.proofs.Laws.{put-is, columns-length}
+use Rattle.columns.proofs.Laws.{columns-length}
+use Rattle.journal.proofs.Laws.{put-is}
 use borrow.Author.Needs.{needs}
 use Rattle.board.proofs.put_columns.Statement.{statement}
 use Rattle.board.proofs.put_columns.Tie as tie

@@ -5,11 +5,12 @@ use mathlib.Core.Path.{_≡_, refl, _∙_}
 use mathlib.Core.List.{_++_}
 use native.Mathlib.Omega.{arith}
 use lib.ListN.{length, take, drop, length-take, length-drop}
-use Rattle.rules.specs.Lists.{names}
+use Rattle.laws.specs.Lists.{names}
 use Rattle.columns.specs.Columns.{columnsOf, flat}
+use Rattle.columns.proofs.Laws.{columns-length}
 use Rattle.columns.proofs.Rows.{start, step}
 use Rattle.lines.proofs.Laws.{names-stop, names-end}
-use Rattle.board.proofs.Laws.{columns-length, names-more, names-done}
+use Rattle.board.proofs.Laws.{names-more, names-done}
 use borrow.Author.Needs.{needs}
 use Rattle.board.proofs.put_programs.Statement.{statement}
 use Rattle.board.proofs.put_programs.Tie as tie
@@ -35,8 +36,9 @@ put-columns-requires c κs = simp (length-take, length-drop) (omega arith)
 
 loop-again : tie.Need-loop-again Inv-loop μ-loop
 loop-again c =
-    let s = c .before .before .before .before .before .before .before .before in
-    let l = c .before .before .before .before .before .before .loop in
+    let u = c .before .before .before .before .before .before in
+    let s = u .before .before in
+    let l = u .loop in
     let k = c .before .before .put-columns in
     let n = long s in (
       omega arith,

@@ -4,7 +4,7 @@ use native.Mathlib.Omega.{arith}
 use lib.ListN.{length, length-map}
 use Rattle.rules.specs.declared.Reply.{Reply}
 use Rattle.rules.specs.Soundness.{sound}
-use Rattle.serve.proofs.Laws.{place-fits, line-sound}
+use Rattle.linecall.proofs.Laws.{place-fits, line-sound}
 use borrow.Author.Needs.{needs}
 use Rattle.board.proofs.serve_line.Statement.{statement}
 use Rattle.board.proofs.serve_line.Tie as tie

@@ -27,20 +27,28 @@ loop-holds c =
     let s = c .before .before .before in
     let a = s .args in
     let p = s .pre in
-    (omega arith, p .0 .1, p .1 .0, p .0 .2, p .1 .1, chunk-begins (held (a .start .board) (take (a .start .kept) (a .kept .now)) []) (a .chunk .now), p .0 .0, (λ f. f))
+    let h = held (a .start .board) (take (a .start .kept) (a .kept .now)) [] in
+    (omega arith, p .0 .1, p .1 .0, p .0 .2, p .1 .1, chunk-begins h (a .chunk .now), p .0 .0, (λ f. f))
 
 take-part-requires : tie.Need-take-part-requires Inv-loop μ-loop
 take-part-requires c κs =
     let l = c .before .before .before .before .loop in
     ((l .inv .6, l .inv .1, l .inv .3), (l .inv .2, l .inv .4, simp (length-take, length-drop) (omega arith)))
 
+abbrev start : tie.At-loop Inv-loop μ-loop → tie.Start Inv-loop μ-loop
+start l = l .before .before .before .before
+
+-- the turn of the loop in which a part is taken
+abbrev turn : tie.After-take-part Inv-loop μ-loop → tie.At-loop Inv-loop μ-loop
+turn k = k .before .before .before .before .before
+
 -- what was taken lies within the read
-within : (c : tie.After-slice-known4 Inv-loop μ-loop)
-    → c .before .before .before .before .take-part .result .taken ≤ length (c .before .before .before .before .before .before .before .before .before .before .before .before .before .args .chunk .now) - c .before .before .before .before .before .before .before .before .before .loop .at
-within c =
-    let a = c .before .before .before .before .before .before .before .before .before .before .before .before .before .args in
-    let l = c .before .before .before .before .before .before .before .before .before .loop in
-    omega (arith, c .before .before .before .before .take-part .ensures .1 .1 .1, length-take (length (a .chunk .now) - l .at) (drop (l .at) (a .chunk .now)), length-drop (l .at) (a .chunk .now))
+within : (k : tie.After-take-part Inv-loop μ-loop)
+    → k .take-part .result .taken ≤ length (start (turn k) .args .chunk .now) - turn k .loop .at
+within k =
+    let r = start (turn k) .args .chunk .now in
+    let at = turn k .loop .at in
+    omega (arith, k .take-part .ensures .1 .1 .1, length-take (length r - at) (drop at r), length-drop at r)
 
 -- the length of a read is a number of 64 bits
 fits : (s : tie.Start Inv-loop μ-loop) → length (s .args .chunk .now) < 18446744073709551616
@@ -48,33 +56,35 @@ fits s = omega arith
 
 add-at : tie.Need-add-at Inv-loop μ-loop
 add-at c =
-    let l = c .before .before .before .before .before .before .before .before .before .before .loop in
-    let h : l .at + c .before .before .before .before .before .take-part .result .taken < 18446744073709551616 = omega (arith, within (c .before), fits (c .before .before .before .before .before .before .before .before .before .before .before .before .before .before)) in
+    let k = c .before .before .before .before .before in
+    let h : turn k .loop .at + k .take-part .result .taken < 18446744073709551616 = omega (arith, within k, fits (start (turn k))) in
     record { fits = h }
 
 loop-less : tie.Need-loop-less Inv-loop μ-loop
 loop-less c =
-    omega (arith, within (c .before .before .before), c .before .before .before .before .before .before .before .take-part .ensures .1 .1 .0)
+    let k = c .before .before .before .before .before .before .before in
+    omega (arith, within k, k .take-part .ensures .1 .1 .0)
 
 loop-again : tie.Need-loop-again Inv-loop μ-loop
 loop-again c =
-    let a = c .before .before .before .before .before .before .before .before .before .before .before .before .before .before .before .before .args in
-    let l = c .before .before .before .before .before .before .before .before .before .before .before .before .loop in
-    let k = c .before .before .before .before .before .before .before .take-part in
-    let n = within (c .before .before .before) in (
+    let u = c .before .before .before .before .before .before .before in
+    let k = u .take-part in
+    let l = turn u .loop in
+    let r = start (turn u) .args .chunk .now in
+    let n = within u in (
       omega (arith, n, l .inv .0),
       k .ensures .1 .0 .1,
       c .flush .ensures .0,
       k .kept .1 .1 .0 ∙ l .inv .3,
       k .kept .1 .1 .1 .0 ∙ l .inv .4,
-      chunk-more _ (held (l .s .board) (take (l .s .kept) (l .kept)) []) _ (a .chunk .now) (l .at) (k .result .taken) n (l .inv .5) (k .ensures .0),
+      chunk-more _ (held (l .s .board) (take (l .s .kept) (l .kept)) []) _ r (l .at) (k .result .taken) n (l .inv .5) (k .ensures .0),
       k .ensures .1 .0 .0,
       (λ f. c .flush .ensures .1 (k .ensures .1 .0 .3 ∙ l .inv .7 f)),
     )
 
 returns : tie.Need-returns Inv-loop μ-loop
 returns c =
-    let a = c .before .before .before .before .before .args in
+    let a = start (c .before) .args in
     let l = c .before .loop in
     (l .inv .5 ∙ rw (take-all (l .at) (a .chunk .now) (omega arith)), (l .inv .6, l .inv .1, l .inv .2, l .inv .7))
 

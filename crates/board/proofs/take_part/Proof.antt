@@ -1,5 +1,5 @@
 -- `take_part` meets its contract. Assumes nothing.
-use Prim.Native.Nat.{ℕ, _+_, _-_, _≤_}
+use Prim.Native.Nat.{ℕ, _+_, _-_, _≤_, _<_}
 use mathlib.Core.Path.{_≡_, refl, ap, sym, _∙_}
 use mathlib.Core.Logic.{_≢_}
 use mathlib.Core.List.{List, []}
@@ -37,60 +37,76 @@ loop-holds c =
       refl,
     )
 
+abbrev start : tie.At-loop Inv-loop μ-loop → tie.Start Inv-loop μ-loop
+start l = l .before .before .before .before
+
+-- the turn of the loop in which a line's end is sought
+abbrev turn : tie.After-line-end Inv-loop μ-loop → tie.At-loop Inv-loop μ-loop
+turn e = e .before .before
+
 -- the part ends within a line
 returns : tie.Need-returns Inv-loop μ-loop
 returns c =
-    let s = c .before .before .before .before .before .before .before .before .before .before .before .before in
-    let a = s .args in
-    let l = c .before .before .before .before .before .before .before .before .loop in
-    let e = c .before .before .before .before .before .before .line-end in
-    let k = c .before .before .keep in
+    let k = c .before .before in
+    let t = k .before .before .before in
+    let e = t .before .line-end in
+    let s = start (turn (t .before)) in
+    let l = turn (t .before) .loop in
+    let p = s .args .part .now in
     let j = take (l .s .out .place) (l .journal) in
-    let z : e .result ≡ length (a .part .now) = c .before .before .before .before .before .if1 .taken in (
-      ap (λ (x : List ℕ). held (l .s .board) x j) (k .ensures .0)
-          ∙ part-ends _ (l .s .board) (take (l .s .kept) (l .kept)) j (a .part .now) (l .at) (e .result)
+    let z : e .result ≡ length p = t .if1 .taken in (
+      ap (λ (x : List ℕ). held (l .s .board) x j) (k .keep .ensures .0)
+          ∙ part-ends _ (l .s .board) (take (l .s .kept) (l .kept)) j p (l .at) (e .result)
           (omega (arith, length-take (l .s .kept) (l .kept))) (e .ensures .0) (l .inv .5) z,
       (
-        (l .inv .6, k .ensures .1, omega (arith, l .inv .2), l .inv .7),
+        (l .inv .6, k .keep .ensures .1, omega (arith, l .inv .2), l .inv .7),
         (omega (arith, z, s .pre .1 .2), omega (arith, z), (λ h. absurd (omega (arith, z, h)))),
       ),
     )
 
--- a line was served
-line-taken : (c : tie.After-struct-known Inv-loop μ-loop)
-    → let l = c .before .before .before .before .before .before .before .before .before .before .before .before .loop in
-    let a = c .before .before .before .before .before .before .before .before .before .before .before .before .before .before .before .before .args in
-    let e = c .before .before .before .before .before .before .before .before .before .before .line-end in
-    let k = c .before .before .before .before .before .end-line in
-    held (k .result .board) (take (k .result .kept) (k .last .1 .1 .0)) (take (k .result .out .place) (k .last .1 .1 .1 .0))
-    ≡ fed (held (a .start .board) (take (a .start .kept) (a .kept .now)) []) (take (e .result + 1) (a .part .now))
-line-taken c =
-    let a = c .before .before .before .before .before .before .before .before .before .before .before .before .before .before .before .before .args in
-    let l = c .before .before .before .before .before .before .before .before .before .before .before .before .loop in
-    let e = c .before .before .before .before .before .before .before .before .before .before .line-end in
-    let k = c .before .before .before .before .before .end-line in
-    let ne : e .result ≢ length (a .part .now) = c .before .before .before .before .before .before .before .before .before .if1 .left in
+-- where the served line ends
+abbrev end : tie.After-end-line Inv-loop μ-loop → tie.After-line-end Inv-loop μ-loop
+end k = k .before .before .before .before .before
+
+-- it ends before the part does
+ends-within : (k : tie.After-end-line Inv-loop μ-loop) → end k .line-end .result < length (start (turn (end k)) .args .part .now)
+ends-within k =
+    let e = end k .line-end in
+    let ne : e .result ≢ length (start (turn (end k)) .args .part .now) = k .before .before .before .before .if1 .left in
     let h = e .ensures .1 in
-    rw (k .ensures .1 .1) (k .ensures .0
-    ∙ part-line _ (l .s .board) (take (l .s .kept) (l .kept)) (take (l .s .out .place) (l .journal)) (a .part .now) (l .at) (e .result)
-    (omega (arith, length-take (l .s .kept) (l .kept))) (e .ensures .0) (l .inv .5) (omega arith))
+    omega arith
+
+-- a line was served
+line-taken : (k : tie.After-end-line Inv-loop μ-loop) → let a = start (turn (end k)) .args in let r = k .end-line .result in
+    held (r .board) (take (r .kept) (k .end-line .last .1 .1 .0)) (take (r .out .place) (k .end-line .last .1 .1 .1 .0))
+    ≡ fed (held (a .start .board) (take (a .start .kept) (a .kept .now)) []) (take (end k .line-end .result + 1) (a .part .now))
+line-taken k =
+    let e = end k .line-end in
+    let l = turn (end k) .loop in
+    let p = start (turn (end k)) .args .part .now in
+    let r = k .end-line .result in
+    let j = take (r .out .place) (k .end-line .last .1 .1 .1 .0) in
+    ap (λ (n : ℕ). held (r .board) (take n (k .end-line .last .1 .1 .0)) j) (k .end-line .ensures .1 .1)
+    ∙ k .end-line .ensures .0
+    ∙ part-line _ (l .s .board) (take (l .s .kept) (l .kept)) (take (l .s .out .place) (l .journal)) p (l .at) (e .result)
+    (omega (arith, length-take (l .s .kept) (l .kept))) (e .ensures .0) (l .inv .5) (ends-within k)
 
 same-length-3 : tie.Need-same-length-3 Inv-loop μ-loop
-same-length-3 c = c .before .before .before .before .before .before .end-line .kept .1 .1 .0 ∙ c .before .before .before .before .before .before .before .before .before .before .before .before .before .loop .inv .3 ∙ sym (c .before .before .before .before .before .before .before .before .before .before .before .before .before .before .before .before .before .pre .0 .2)
+same-length-3 c = let k = c .before .before .before .before .before .before in let l = turn (end k) in
+    k .end-line .kept .1 .1 .0 ∙ l .loop .inv .3 ∙ sym (start l .pre .0 .2)
 
 same-length-4 : tie.Need-same-length-4 Inv-loop μ-loop
-same-length-4 c = c .before .before .before .before .before .before .end-line .kept .1 .1 .1 .0 ∙ c .before .before .before .before .before .before .before .before .before .before .before .before .before .loop .inv .4 ∙ sym (c .before .before .before .before .before .before .before .before .before .before .before .before .before .before .before .before .before .pre .1 .1)
+same-length-4 c = let k = c .before .before .before .before .before .before in let l = turn (end k) in
+    k .end-line .kept .1 .1 .1 .0 ∙ l .loop .inv .4 ∙ sym (start l .pre .1 .1)
 
 -- the journal has no room for another call
 returns-2 : tie.Need-returns-2 Inv-loop μ-loop
 returns-2 c =
-    let a = c .before .before .before .before .before .before .before .before .before .before .before .before .before .before .before .before .before .args in
-    let l = c .before .before .before .before .before .before .before .before .before .before .before .before .before .loop in
-    let e = c .before .before .before .before .before .before .before .before .before .before .before .line-end in
-    let k = c .before .before .before .before .before .before .end-line in
-    let ne : e .result ≢ length (a .part .now) = c .before .before .before .before .before .before .before .before .before .before .if1 .left in
-    let h = e .ensures .1 in (
-      line-taken (c .before),
+    let u = c .before .before .before .before .before .before in
+    let k = u .end-line in
+    let l = turn (end u) .loop in
+    let h = ends-within u in (
+      line-taken u,
       (
         (k .ensures .1 .0, omega (arith, k .ensures .1 .1), omega (arith, k .ensures .1 .2, l .inv .2), k .ensures .1 .3 ∙ l .inv .7),
         (omega arith, omega arith, (λ _. omega (arith, c .if2 .taken))),
@@ -99,18 +115,16 @@ returns-2 c =
 
 loop-again : tie.Need-loop-again Inv-loop μ-loop
 loop-again c =
-    let a = c .before .before .before .before .before .before .before .before .before .before .before .before .before .before .before .before .before .args in
-    let l = c .before .before .before .before .before .before .before .before .before .before .before .before .before .loop in
-    let e = c .before .before .before .before .before .before .before .before .before .before .before .line-end in
-    let k = c .before .before .before .before .before .before .end-line in
-    let ne : e .result ≢ length (a .part .now) = c .before .before .before .before .before .before .before .before .before .before .if1 .left in
-    let h = e .ensures .1 in (
+    let u = c .before .before .before .before .before .before in
+    let k = u .end-line in
+    let l = turn (end u) .loop in
+    let h = ends-within u in (
       omega arith,
       omega (arith, k .ensures .1 .1),
       omega (arith, c .if2 .left),
       k .kept .1 .1 .0 ∙ l .inv .3,
       k .kept .1 .1 .1 .0 ∙ l .inv .4,
-      line-taken (c .before),
+      line-taken u,
       k .ensures .1 .0,
       k .ensures .1 .3 ∙ l .inv .7,
     )
@@ -118,12 +132,11 @@ loop-again c =
 -- the part ends with a line
 returns-3 : tie.Need-returns-3 Inv-loop μ-loop
 returns-3 c =
-    let s = c .before .before .before .before .before in
     let l = c .before .loop in (
       l .inv .5,
       (
         (l .inv .6, l .inv .1, omega (arith, l .inv .2), l .inv .7),
-        (omega (arith, s .pre .1 .2), omega arith, (λ h. absurd (omega (arith, h)))),
+        (omega (arith, start (c .before) .pre .1 .2), omega arith, (λ h. absurd (omega (arith, h)))),
       ),
     )
 

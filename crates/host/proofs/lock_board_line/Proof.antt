@@ -29,19 +29,33 @@ returns c = let k = c .before .before in let a = k .before .before .before .befo
 line-requires : tie.Need-line-requires
 line-requires c κs = read (c .before .before) .1
 
+-- where the line is served, and the image is read before it
+abbrev served : tie.After-refusal → tie.After-line
+served n = n .before .before .before .before
+
+abbrev read-for : tie.After-line → tie.Else1
+read-for l = l .before .before .before
+
+ok : (i : tie.Else1) → i .before .read-image .result .ok ≡ true
+ok i = not-false (i .before .read-image .result .ok) (i .if1 .left)
+
+-- the host's call, from what serving the line gave
+hosts : (n : tie.After-refusal) → let l = served n .line in let a = start (read-for (served n)) .args in
+    Laws.Hosts (a .image .now) (a .line .now) (a .journal .now) (a .place) (n .refusal .result) (l .result .place)
+    (replyOf (l .result .changed)) (l .last .1 .1 .0)
+hosts n = let l = served n .line in let i = read-for (served n) in let a = start i .args in
+    Laws.host-by (a .image .now) (a .line .now) (a .journal .now) (a .place) (n .refusal .result) (l .result .place)
+    (replyOf (l .result .changed)) (l .last .1 .1 .0) (i .before .read-image .result) (read i .0) (ok i)
+    (l .ensures .0 .0) (l .ensures .1 .0) (l .ensures .1 .1) (n .refusal .ensures)
+
 returns-2 : tie.Need-returns-2
 returns-2 c =
     let t = c .before .before .before .before .before .before in
-    let n = t .before .refusal in
-    let l = t .before .before .before .before .before in
-    let i = l .before .before .before in
+    let i = read-for (served (t .before)) in
     let a = start i .args in
-    let k = i .before .read-image .result in
-    let ok = not-false (k .ok) (i .if1 .left) in
-    let h = Laws.host-by (a .image .now) (a .line .now) (a .journal .now) (a .place) (n .result) (l .line .result .place)
-    (replyOf (l .line .result .changed)) _ k (read i .0) ok (l .line .ensures .0 .0) (l .line .ensures .1 .0) (l .line .ensures .1 .1) (n .ensures) in
+    let h = hosts (t .before) in
     let z = t .if2 .taken in
-    let long = Laws.accepted-long (a .image .now) k (read i .0) ok in (
+    let long = Laws.accepted-long (a .image .now) (i .before .read-image .result) (read i .0) (ok i) in (
       sym (h .answer ∙ Laws.answer-done _ _ z),
       (
         (rw (eq-eqb (length (a .image .now)) imageLength long) at (c .before .before .put-image .ensures .1))
@@ -51,19 +65,8 @@ returns-2 c =
     )
 
 returns-3 : tie.Need-returns-3
-returns-3 c =
-    let t = c .before in
-    let n = t .before .refusal in
-    let l = t .before .before .before .before .before in
-    let i = l .before .before .before in
-    let a = start i .args in
-    let k = i .before .read-image .result in
-    let h = Laws.host-by (a .image .now) (a .line .now) (a .journal .now) (a .place) (n .result) (l .line .result .place)
-    (replyOf (l .line .result .changed)) _ k (read i .0) (not-false (k .ok) (i .if1 .left)) (l .line .ensures .0 .0) (l .line .ensures .1 .0)
-    (l .line .ensures .1 .1) (n .ensures) in (
-      c .answer-for2 .ensures ∙ sym (h .answer),
-      (sym (h .image-after ∙ Laws.image-kept _ _ _ (t .if2 .left)), sym (h .journal-after)),
-    )
+returns-3 c = let t = c .before in let h = hosts (t .before) in
+    (c .answer-for2 .ensures ∙ sym (h .answer), (sym (h .image-after ∙ Laws.image-kept _ _ _ (t .if2 .left)), sym (h .journal-after)))
 
 pub lock-board-line-spec : {M : Type 1} → statement M
 lock-board-line-spec =

@@ -3,8 +3,8 @@ use mathlib.Core.Path.{_≡_, refl, ap, sym, _∙_}
 use mathlib.Core.Bool.{true}
 use lib.ListN.{length}
 use borrow.Author.Tests.{not-true, not-false}
-use Rattle.files.proofs.Tests.{never}
-use Rattle.rules.specs.Lists.{found}
+use Rattle.laws.specs.Tests.{never}
+use Rattle.laws.specs.Lists.{found}
 use Rattle.rules.specs.Orders.{carried}
 use Rattle.rules.specs.Soundness.{sound}
 use Rattle.image.specs.declared.Loaded.{Loaded}
@@ -14,41 +14,62 @@ use borrow.Author.Needs.{needs}
 use Rattle.host.proofs.lock_board_order.Statement.{statement}
 use Rattle.host.proofs.lock_board_order.Tie as tie
 
+abbrev start : tie.After-load → tie.Start
+start k = k .before .before .before
+
 returns : tie.Need-returns
-returns c = let i = c .before in let k = i .before .load in let a = i .before .before .before .before .args in
+returns c = let k = c .before .before in let l = k .load in let a = start k .args in
     let e = Laws.order-refused (a .image .now) (a .order .now) (ap (λ (x : Loaded). x .ok)
-    (Laws.image-layout _ (k .result) (k .ensures) (not-true (k .result .ok) (i .if1 .taken)))) in
+    (Laws.image-layout _ (l .result) (l .ensures) (not-true (l .result .ok) (c .before .if1 .taken)))) in
     (c .refusal-answer .ensures ∙ sym (e .0), sym (e .1))
 
+-- where the layout is known to be an image's, before the board is tested
+abbrev laid-out : tie.After-judge → tie.Else1
+laid-out j = j .before .before
+
+abbrev loaded : tie.After-judge → tie.After-load
+loaded j = laid-out j .before
+
+ok : (j : tie.After-judge) → loaded j .load .result .ok ≡ true
+ok j = not-false (loaded j .load .result .ok) (laid-out j .if1 .left)
+
 returns-2 : tie.Need-returns-2
-returns-2 c = let t = c .before in let j = t .before .before .judge in let i = t .before .before .before .before in
-    let k = i .before .load in let a = i .before .before .before .before .args in
+returns-2 c = let t = c .before in let j = t .before .before in let l = loaded j .load in let a = start (loaded j) .args in
     let e = Laws.order-refused (a .image .now) (a .order .now) (ap (λ (x : Loaded). x .ok)
-    (Laws.image-unsound _ (k .result) (k .ensures) (not-false (k .result .ok) (i .if1 .left))
-    (sym (j .ensures .0) ∙ not-true (j .result .sound) (t .if2 .taken)))) in
+    (Laws.image-unsound _ (l .result) (l .ensures) (ok j)
+    (sym (j .judge .ensures .0) ∙ not-true (j .judge .result .sound) (t .if2 .taken)))) in
     (c .refusal-answer2 .ensures ∙ sym (e .0), sym (e .1))
 
--- the board is sound
-sure : (t : tie.Else2) → sound (t .before .before .before .before .before .load .result .board) ≡ true
-sure t = let j = t .before .before .judge in sym (j .ensures .0) ∙ not-false (j .result .sound) (t .if2 .left)
+-- where the board is sound
+abbrev judged : tie.Else2 → tie.After-judge
+judged t = t .before .before
+
+sure : (t : tie.Else2) → sound (loaded (judged t) .load .result .board) ≡ true
+sure t = let j = judged t .judge in sym (j .ensures .0) ∙ not-false (j .result .sound) (t .if2 .left)
 
 returns-3 : tie.Need-returns-3
-returns-3 c = let m = c .before in let t = m .before .before .before in let j = t .before .before .judge in
-    let b = t .before .before .before .before .before .load .result .board in
+returns-3 c = let m = c .before in let t = m .before .before .before in let j = judged t .judge in
+    let b = loaded (judged t) .load .result .board in
     never (Laws.sound-ordered b (sure t)) (ap found (order-none (carried b) (j .result .order) (j .ensures .1) (m .enum-told .given .1)))
 
+-- where its order is known
+abbrev ordered : tie.After-kind → tie.Else2
+ordered k = k .before .before .before
+
 put-order-requires : tie.Need-put-order-requires
-put-order-requires c κs = let k = c .before .before .before .kind in let t = c .before .before .before .before .before .before in
-    let j = t .before .before .judge in let b = t .before .before .before .before .before .load .result .board in
+put-order-requires c κs = let k = c .before .before .before in let j = judged (ordered k) .judge in
+    let b = loaded (judged (ordered k)) .load .result .board in
     let m : length (j .result .order .at) ≡ 32 = search needs in
-    order-short (carried b) (j .result .order) (k .given .0 .0) (j .ensures .1) (k .given .1) m
+    order-short (carried b) (j .result .order) (k .kind .given .0 .0) (j .ensures .1) (k .kind .given .1) m
+
+abbrev found-in : tie.After-put-order → tie.After-kind
+found-in p = p .before .before .before .before
 
 returns-4 : tie.Need-returns-4
-returns-4 c = let p = c .before .before in let q = p .before .before .before in let k = q .before .kind in let t = q .before .before .before .before in
-    let j = t .before .before .judge in let i = t .before .before .before .before in let l = i .before .load in
-    let a = i .before .before .before .before .args in
+returns-4 c = let p = c .before .before in let k = found-in p .kind in let t = ordered (found-in p) in
+    let j = judged t .judge in let l = loaded (judged t) .load in let a = start (loaded (judged t)) .args in
     let e = Laws.order-read (a .image .now) (a .order .now) (j .result .order .at) (k .given .0 .0) (j .result .order) (l .result) (l .ensures)
-    (not-false (l .result .ok) (i .if1 .left)) (sure t) (j .ensures .1) (k .given .1) refl in
+    (ok (judged t)) (sure t) (j .ensures .1) (k .given .1) refl in
     (p .put-order .ensures .0 ∙ sym (e .0), p .put-order .ensures .1 ∙ sym (e .1))
 
 pub lock-board-order-spec : {M : Type 1} → statement M

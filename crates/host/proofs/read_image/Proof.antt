@@ -7,22 +7,22 @@ use Rattle.host.proofs.read_image.Statement.{statement}
 use Rattle.host.proofs.read_image.Tie as tie
 
 returns : tie.Need-returns
-returns c =
-    sym (Laws.image-layout _ (c .before .load .result) (c .before .load .ensures) (not-true (c .before .load .result .ok) (c .if1 .taken)))
+returns c = let k = c .before .load in
+    sym (Laws.image-layout _ (k .result) (k .ensures) (not-true (k .result .ok) (c .if1 .taken)))
+
+-- where the layout is known to be an image's
+abbrev laid-out : tie.After-is-sound → tie.Else1
+laid-out j = j .before .before
 
 returns-2 : tie.Need-returns-2
-returns-2 c =
-    sym (Laws.image-unsound _ (c .before .before .before .before .load .result)
-    (c .before .before .before .before .load .ensures) (not-false (c .before .before .before .before .load .result .ok)
-    (c .before .before .before .if1 .left)) (sym (c .before .is-sound .ensures)
-    ∙ not-true (c .before .is-sound .result) (c .if2 .taken)))
+returns-2 c = let j = c .before in let i = laid-out j in let k = i .before .load in
+    sym (Laws.image-unsound _ (k .result) (k .ensures) (not-false (k .result .ok) (i .if1 .left))
+    (sym (j .is-sound .ensures) ∙ not-true (j .is-sound .result) (c .if2 .taken)))
 
 returns-3 : tie.Need-returns-3
-returns-3 c =
-    sym (Laws.image-sound _ (c .before .before .before .before .load .result)
-    (c .before .before .before .before .load .ensures) (not-false (c .before .before .before .before .load .result .ok)
-    (c .before .before .before .if1 .left)) (sym (c .before .is-sound .ensures)
-    ∙ not-false (c .before .is-sound .result) (c .if2 .left)))
+returns-3 c = let j = c .before in let i = laid-out j in let k = i .before .load in
+    sym (Laws.image-sound _ (k .result) (k .ensures) (not-false (k .result .ok) (i .if1 .left))
+    (sym (j .is-sound .ensures) ∙ not-false (j .is-sound .result) (c .if2 .left)))
 
 pub read-image-spec : {M : Type 1} → statement M
 read-image-spec = tie.close (tie.spec (λ c κs. search needs) returns (λ c κs. search needs) returns-2 returns-3)

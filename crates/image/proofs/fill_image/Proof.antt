@@ -18,12 +18,15 @@ sizes s =
       passed = search needs;
     }
 
--- the entry, from each put
-abbrev start : tie.After-waiting2 → tie.Start
-start c = c .before .before .before .before .before .before .before .before .before .before .before
+-- the entry, from the rows and from each put
+abbrev start : tie.After-put-rows → tie.Start
+start c = c .before .before .before .before .before .before .before
+
+abbrev start-1 : tie.After-waiting2 → tie.Start
+start-1 c = start (c .before .before .before .before)
 
 abbrev start-2 : tie.After-entry2 → tie.Start
-start-2 c = start (c .before .before .before .before .before)
+start-2 c = start-1 (c .before .before .before .before .before)
 
 abbrev start-3 : tie.After-numbers → tie.Start
 start-3 c = start-2 (c .before .before .before .before .before)
@@ -32,7 +35,7 @@ abbrev start-4 : tie.After-passed2 → tie.Start
 start-4 c = start-3 (c .before .before .before .before .before)
 
 put-at-requires : tie.Need-put-at-requires
-put-at-requires c κs = omega (arith, sizes (start c) .waiting)
+put-at-requires c κs = omega (arith, sizes (start-1 c) .waiting)
 
 put-at-requires-2 : tie.Need-put-at-requires-2
 put-at-requires-2 c κs = omega (arith, sizes (start-2 c) .entry)
@@ -47,7 +50,7 @@ returns c =
     let p₂ = p₃ .before .before .before .before .before in
     let p₁ = p₂ .before .before .before .before .before in
     let p₀ = p₁ .before .before .before .before .before in
-    let s = start-4 (p₄ .before) in
+    let s = start p₀ in
     image-put (s .args .b) (s .args .out .now) _ _ _ _ _ (sizes s) (s .pre)
     (p₀ .put-rows .ensures) (p₁ .put-at .ensures) (p₂ .put-at2 .ensures) (p₃ .put-at3 .ensures) (p₄ .put-at4 .ensures)
 

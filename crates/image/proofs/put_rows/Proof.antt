@@ -23,35 +23,21 @@ loop-holds : tie.Need-loop-holds Inv-loop μ-loop
 unfolding flat
 loop-holds c = (omega arith, refl, refl)
 
-mul-row-bytes : tie.Need-mul-row-bytes Inv-loop μ-loop
-mul-row-bytes c = omega arith
-
-array-copy-out-row-bytes : tie.Need-array-copy-out-row-bytes Inv-loop μ-loop
-array-copy-out-row-bytes c = omega arith
-
-mul-put-at : tie.Need-mul-put-at Inv-loop μ-loop
-mul-put-at c = omega arith
-
 put-at-requires : tie.Need-put-at-requires Inv-loop μ-loop
 put-at-requires c κs = omega (arith, ap length (c .before .before .row-bytes .ensures) ∙ row-length _)
 
-add-i : tie.Need-add-i Inv-loop μ-loop
-add-i c = omega arith
-
-loop-less : tie.Need-loop-less Inv-loop μ-loop
-loop-less c = omega arith
-
 loop-again : tie.Need-loop-again Inv-loop μ-loop
 loop-again c =
-    let s = c .before .before .before .before .before .before .before .before .before .before in
-    let l = c .before .before .before .before .before .before .before .before .loop in
+    let r = c .before .before .before .before .before in
+    let u = r .before .before .before in
+    let s = u .before .before in
+    let l = u .loop in
+    let k = c .before .before .put-at in
     let l4 : length (s .args .t2) ≡ 32 = s .good .1 .0 .1 .0 .1 in (
       omega arith,
-      c .before .before .put-at .kept .0 ∙ l .inv .1,
-      put-row rowBytes 34 row-length (s .args .out .now) (l .out)
-          (c .before .before .put-at .last .0) (c .before .before .before .before .before .row-bytes .result)
-          (s .args .t2) _ (l .i) (omega arith) (l .inv .2) (c .before .before .before .before .before .row-bytes .ensures)
-          (c .before .before .put-at .ensures),
+      k .kept .0 ∙ l .inv .1,
+      put-row rowBytes 34 row-length (s .args .out .now) (l .out) (k .last .0) (r .row-bytes .result)
+          (s .args .t2) _ (l .i) (omega arith) (l .inv .2) (r .row-bytes .ensures) (k .ensures),
     )
 
 same-length : tie.Need-same-length Inv-loop μ-loop
@@ -70,14 +56,14 @@ put-rows-spec =
     Inv-loop
     μ-loop
     loop-holds
-    mul-row-bytes
-    array-copy-out-row-bytes
+    (λ c. omega arith)
+    (λ c. omega arith)
     (λ c κs. search needs)
-    mul-put-at
+    (λ c. omega arith)
     (λ c. search needs)
     put-at-requires
-    add-i
-    loop-less
+    (λ c. omega arith)
+    (λ c. omega arith)
     loop-again
     same-length
     returns)

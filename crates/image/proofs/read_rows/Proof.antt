@@ -22,29 +22,8 @@ loop-holds : tie.Need-loop-holds Inv-loop μ-loop
 unfolding rowsOf
 loop-holds c = (omega arith, refl)
 
-mul-a : tie.Need-mul-a Inv-loop μ-loop
-mul-a c = omega arith
-
-add-read-row : tie.Need-add-read-row Inv-loop μ-loop
-add-read-row c = omega arith
-
-sub-read-row : tie.Need-sub-read-row Inv-loop μ-loop
-sub-read-row c = omega arith
-
 read-row-requires : tie.Need-read-row-requires Inv-loop μ-loop
 read-row-requires c κs = simp (add-sub-cancel-left, length-take, length-drop) (omega arith)
-
-mul-ps : tie.Need-mul-ps Inv-loop μ-loop
-mul-ps c = omega arith
-
-array-set-from-ps : tie.Need-array-set-from-ps Inv-loop μ-loop
-array-set-from-ps c = omega arith
-
-add-i : tie.Need-add-i Inv-loop μ-loop
-add-i c = omega arith
-
-loop-less : tie.Need-loop-less Inv-loop μ-loop
-loop-less c = omega arith
 
 loop-again : tie.Need-loop-again Inv-loop μ-loop
 loop-again c =
@@ -66,15 +45,15 @@ read-rows-spec =
     Inv-loop
     μ-loop
     loop-holds
-    mul-a
-    add-read-row
-    sub-read-row
+    (λ c. omega arith)
+    (λ c. omega arith)
+    (λ c. omega arith)
     (λ c. search needs)
     (λ c. search needs)
     read-row-requires
-    mul-ps
-    array-set-from-ps
-    add-i
-    loop-less
+    (λ c. omega arith)
+    (λ c. omega arith)
+    (λ c. omega arith)
+    (λ c. omega arith)
     loop-again
     returns)

@@ -7,8 +7,11 @@ use Rattle.image.proofs.read_u64.Tie as tie
 
 returns : tie.Need-returns
 returns c =
-    let l = now (c .before .before .before .before .before .before .before .before .before .before .before .before .before .args .s) in
-    word-eight l _ _ _ _ (c .before .before .before .before .before .before .before .before .before .before .before .before .before .pre) (c .before .before .before .before .before .before .before .before .before .pair .ensures .0) (c .before .before .before .before .before .before .pair2 .ensures .0) (c .before .before .before .pair3 .ensures .0) (c .pair4 .ensures .0)
+    let p₃ = c .before .before .before in
+    let p₂ = p₃ .before .before .before in
+    let p₁ = p₂ .before .before .before in
+    let s = p₁ .before .before .before .before in
+    word-eight (now (s .args .s)) _ _ _ _ (s .pre) (p₁ .pair .ensures .0) (p₂ .pair2 .ensures .0) (p₃ .pair3 .ensures .0) (c .pair4 .ensures .0)
 
 pub read-u64-spec : {M : Type 1} → statement M
 read-u64-spec =

@@ -24,15 +24,6 @@ loop-holds : tie.Need-loop-holds Inv-loop μ-loop
 unfolding rowsFit
 loop-holds c = (omega arith, refl)
 
-mul-a : tie.Need-mul-a Inv-loop μ-loop
-mul-a c = omega arith
-
-add-row-fits : tie.Need-add-row-fits Inv-loop μ-loop
-add-row-fits c = omega arith
-
-sub-row-fits : tie.Need-sub-row-fits Inv-loop μ-loop
-sub-row-fits c = omega arith
-
 row-fits-requires : tie.Need-row-fits-requires Inv-loop μ-loop
 row-fits-requires c κs = simp (add-sub-cancel-left, length-take, length-drop) (omega arith)
 
@@ -43,12 +34,6 @@ returns c =
     let r : c .before .row-fits .result ≡ false = not-true _ (c .if1 .taken) in
     sym (fits-fail i 32 s (c .before .before .before .before .loop .inv .1) (ap rowIs (sym (part-row s (34 * i)))
     ∙ sym (c .before .row-fits .ensures) ∙ r) (omega arith))
-
-add-i : tie.Need-add-i Inv-loop μ-loop
-add-i c = omega arith
-
-loop-less : tie.Need-loop-less Inv-loop μ-loop
-loop-less c = omega arith
 
 loop-again : tie.Need-loop-again Inv-loop μ-loop
 loop-again c =
@@ -72,14 +57,14 @@ rows-fit-spec =
     Inv-loop
     μ-loop
     loop-holds
-    mul-a
-    add-row-fits
-    sub-row-fits
+    (λ c. omega arith)
+    (λ c. omega arith)
+    (λ c. omega arith)
     (λ c. search needs)
     (λ c. search needs)
     row-fits-requires
     returns
-    add-i
-    loop-less
+    (λ c. omega arith)
+    (λ c. omega arith)
     loop-again
     returns-2)

@@ -26,39 +26,21 @@ loop-holds c =
     let a = c .before .args in
     (omega arith, omega arith, refl, start lineBytes (a .journal .now) (a .place))
 
-mul-l : tie.Need-mul-l Inv-loop μ-loop
-mul-l c = omega arith
-
-array-copy-out-l : tie.Need-array-copy-out-l Inv-loop μ-loop
-array-copy-out-l c = omega arith
-
-sub-put-line : tie.Need-sub-put-line Inv-loop μ-loop
-sub-put-line c = omega arith
-
 put-line-requires : tie.Need-put-line-requires Inv-loop μ-loop
 put-line-requires c κs = simp (length-take, length-drop) (omega arith)
 
-add-at : tie.Need-add-at Inv-loop μ-loop
-add-at c = omega arith
-
-add-i : tie.Need-add-i Inv-loop μ-loop
-add-i c = omega arith
-
-loop-less : tie.Need-loop-less Inv-loop μ-loop
-loop-less c = omega arith
-
 loop-again : tie.Need-loop-again Inv-loop μ-loop
 loop-again c =
-    let s = c .before .before .before .before .before .before .before .before in
-    let l = c .before .before .before .before .before .before .loop in
+    let u = c .before .before .before .before .before .before in
+    let s = u .before .before in
+    let l = u .loop in
+    let k = c .before .before .put-line in
     let l32 : length (s .args .t3) ≡ 32 = s .good .1 .1 .0 .1 .0 .1 in
-    let e : _ = step lineBytes 16 line-length (s .args .journal .now) (l .journal) (c .before .before .put-line .last .0)
-    (s .args .t3) _ (s .args .place) (l .i) (l .at) (omega arith) (omega arith) (l .inv .1) (l .inv .3)
-    (c .before .before .put-line .ensures) in (
+    let e : _ = step lineBytes 16 line-length (s .args .journal .now) (l .journal) (k .last .0)
+    (s .args .t3) _ (s .args .place) (l .i) (l .at) (omega arith) (omega arith) (l .inv .1) (l .inv .3) (k .ensures) in (
       omega arith,
       omega arith,
-      same-len-mid (l .at) (length (l .journal) - l .at) (l .journal)
-          (c .before .before .put-line .last .0) (c .before .before .put-line .kept .0) ∙ l .inv .2,
+      same-len-mid (l .at) (length (l .journal) - l .at) (l .journal) (k .last .0) (k .kept .0) ∙ l .inv .2,
       e,
     )
 
@@ -80,15 +62,15 @@ put-lines-spec =
     Inv-loop
     μ-loop
     loop-holds
-    mul-l
-    array-copy-out-l
-    sub-put-line
+    (λ c. omega arith)
+    (λ c. omega arith)
+    (λ c. omega arith)
     (λ c. search needs)
     (λ c. search needs)
     put-line-requires
-    add-at
-    add-i
-    loop-less
+    (λ c. omega arith)
+    (λ c. omega arith)
+    (λ c. omega arith)
     loop-again
     same-length
     returns)

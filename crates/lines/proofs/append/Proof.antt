@@ -1,5 +1,4 @@
 -- `append` meets its contract. Assumes nothing.
-use Rattle.rules.specs.Boards.{at}
 use Rattle.lines.proofs.Laws.{push-is}
 use borrow.Author.Needs.{needs}
 use Rattle.lines.proofs.append.Statement.{statement}

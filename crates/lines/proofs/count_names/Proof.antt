@@ -6,8 +6,7 @@ use native.Mathlib.Nat.{zero-add}
 use native.Mathlib.Omega.{arith}
 use lib.ListN.{length, drop}
 use borrow.Author.Needs.{needs}
-use Rattle.rules.specs.Lists.{names}
-use Rattle.rules.specs.Settling.{line}
+use Rattle.laws.specs.Lists.{names}
 use Rattle.lines.proofs.Laws.{names-on, names-stop, names-end}
 use Rattle.lines.proofs.count_names.Statement.{statement}
 use Rattle.lines.proofs.count_names.Tie as tie

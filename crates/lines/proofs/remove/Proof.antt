@@ -6,8 +6,7 @@ use native.Mathlib.Numerals.{add-one}
 use native.Mathlib.Omega.{arith}
 use lib.ListN.{length, drop}
 use borrow.Author.Needs.{needs}
-use Rattle.rules.specs.Lists.{padded, names}
-use Rattle.rules.specs.Settling.{line}
+use Rattle.laws.specs.Lists.{padded, names}
 use Rattle.lines.specs.Kept.{keptAs, keepOthers}
 use Rattle.lines.proofs.Laws.{names-stop, names-end, keep-on, kept-stop}
 use Rattle.lines.proofs.remove.Statement.{statement}

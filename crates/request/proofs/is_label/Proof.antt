@@ -4,7 +4,7 @@ use mathlib.Core.Path.{_≡_, refl, sym, _∙_}
 use Prim.Native.Nat.{_-_, _≤_}
 use native.Mathlib.Omega.{arith}
 use lib.ListN.{length, drop}
-use Rattle.rules.specs.Lists.{all}
+use Rattle.laws.specs.Lists.{all}
 use Rattle.request.specs.Requests.{labelByte}
 use Rattle.request.proofs.Laws
 use Rattle.request.proofs.is_label.Statement.{statement}
@@ -25,18 +25,20 @@ shared-slice-read-if1 c =
     search needs
 
 returns : tie.Need-returns Inv-loop μ-loop
-returns c =
-    sym (c .before .before .before .loop .inv .1 ∙ Laws.label-low _ (c .before .before .before .loop .i) (omega arith) (c .if1 .taken))
+returns c = let l = c .before .before .before .loop in
+    sym (l .inv .1 ∙ Laws.label-low _ (l .i) (omega arith) (c .if1 .taken))
 
 shared-slice-read-if2 : tie.Need-shared-slice-read-if2 Inv-loop μ-loop
 shared-slice-read-if2 c =
     search needs
 
+-- where the byte is known to be 32 or more: its turn
+abbrev turn : tie.Else1 Inv-loop μ-loop → tie.At-loop Inv-loop μ-loop
+turn e = e .before .before .before
+
 returns-2 : tie.Need-returns-2 Inv-loop μ-loop
-returns-2 c =
-    sym (c .before .before .before .before .before .loop .inv .1
-    ∙ Laws.label-high _ (c .before .before .before .before .before .loop .i) (omega arith)
-    (c .before .before .if1 .left) (c .if2 .taken))
+returns-2 c = let e = c .before .before in let l = turn e .loop in
+    sym (l .inv .1 ∙ Laws.label-high _ (l .i) (omega arith) (e .if1 .left) (c .if2 .taken))
 
 add-i : tie.Need-add-i Inv-loop μ-loop
 add-i c =
@@ -47,12 +49,8 @@ loop-less c =
     omega arith
 
 loop-again : tie.Need-loop-again Inv-loop μ-loop
-loop-again c = (
-  omega arith,
-  c .before .before .before .before .before .loop .inv .1
-      ∙ Laws.label-more _ (c .before .before .before .before .before .loop .i) (omega arith)
-      (c .before .before .if1 .left) (c .if2 .left),
-)
+loop-again c = let e = c .before .before in let l = turn e .loop in
+    (omega arith, l .inv .1 ∙ Laws.label-more _ (l .i) (omega arith) (e .if1 .left) (c .if2 .left))
 
 returns-3 : tie.Need-returns-3 Inv-loop μ-loop
 returns-3 c =

@@ -4,7 +4,7 @@ use Prim.Native.Nat.{_-_, _≤_}
 use native.Mathlib.Omega.{arith}
 use borrow.Author.Needs.{needs}
 use lib.ListN.{length, take, drop}
-use Rattle.rules.specs.Lists.{same}
+use Rattle.laws.specs.Lists.{same}
 use Rattle.request.specs.Requests.{begins}
 use Rattle.request.proofs.Laws
 use Rattle.request.proofs.is_verb.Statement.{statement}
@@ -16,9 +16,16 @@ Inv-loop line w i₀ i = (i ≤ 6) × (same (take 6 line) w ≡ same (drop i (ta
 abbrev μ-loop : tie.MeasureT-loop
 μ-loop line w i₀ i = 6 - i
 
+-- where the verb's columns are known, and before it that the line has six
+abbrev long : tie.After-verb-bytes Inv-loop μ-loop → tie.Else1 Inv-loop μ-loop
+long k = k .before
+
+abbrev start : tie.Else1 Inv-loop μ-loop → tie.Start Inv-loop μ-loop
+start e = e .before .before
+
 -- a verb has six columns
-six : (c : tie.After-verb-bytes Inv-loop μ-loop) → length (c .verb-bytes .result) ≡ 6
-six c = ap length (c .verb-bytes .ensures) ∙ Laws.verb-length (c .before .before .before .args .v)
+six : (k : tie.After-verb-bytes Inv-loop μ-loop) → length (k .verb-bytes .result) ≡ 6
+six k = ap length (k .verb-bytes .ensures) ∙ Laws.verb-length (start (long k) .args .v)
 
 returns : tie.Need-returns Inv-loop μ-loop
 returns c =
@@ -42,12 +49,9 @@ array-read-if2 c =
 
 returns-2 : tie.Need-returns-2 Inv-loop μ-loop
 unfolding begins
-returns-2 c =
-    let m = six (c .before .before .before .before) in
-    rw (← c .before .before .before .before .verb-bytes .ensures) (sym (c .before .before .before .loop .inv .1
-    ∙ Laws.verb-differs (c .before .before .before .before .verb-bytes .result)
-    (c .before .before .before .before .before .before .before .args .line .now) (c .before .before .before .loop .i) m
-    (c .before .before .before .before .before .if1 .left) (omega arith) (c .if2 .taken)))
+returns-2 c = let t = c .before .before .before in let k = t .before in let l = t .loop in
+    rw (← k .verb-bytes .ensures) (sym (l .inv .1 ∙ Laws.verb-differs (k .verb-bytes .result) (start (long k) .args .line .now) (l .i)
+    (six k) (long k .if1 .left) (omega arith) (c .if2 .taken)))
 
 add-i : tie.Need-add-i Inv-loop μ-loop
 add-i c =
@@ -58,22 +62,17 @@ loop-less c =
     omega arith
 
 loop-again : tie.Need-loop-again Inv-loop μ-loop
-loop-again c =
-    let m = six (c .before .before .before .before) in (
-      omega arith,
-      c .before .before .before .loop .inv .1
-          ∙ Laws.verb-more (c .before .before .before .before .verb-bytes .result)
-          (c .before .before .before .before .before .before .before .args .line .now) (c .before .before .before .loop .i) m
-          (c .before .before .before .before .before .if1 .left) (omega arith) (c .if2 .left),
-    )
+loop-again c = let t = c .before .before .before in let k = t .before in let l = t .loop in (
+  omega arith,
+  l .inv .1 ∙ Laws.verb-more (k .verb-bytes .result) (start (long k) .args .line .now) (l .i)
+      (six k) (long k .if1 .left) (omega arith) (c .if2 .left),
+)
 
 returns-3 : tie.Need-returns-3 Inv-loop μ-loop
 unfolding begins
-returns-3 c =
-    let m = six (c .before .before) in
-    rw (← c .before .before .verb-bytes .ensures) (sym (c .before .loop .inv .1
-    ∙ Laws.verb-ends (c .before .before .verb-bytes .result) (c .before .before .before .before .before .args .line .now)
-    (c .before .loop .i) m (omega arith)))
+returns-3 c = let t = c .before in let k = t .before in let l = t .loop in
+    rw (← k .verb-bytes .ensures) (sym (l .inv .1 ∙ Laws.verb-ends (k .verb-bytes .result) (start (long k) .args .line .now) (l .i)
+    (six k) (omega arith)))
 
 pub is-verb-spec : {M : Type 1} → statement M
 is-verb-spec =

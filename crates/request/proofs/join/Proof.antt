@@ -1,6 +1,7 @@
 -- `join` meets its contract. Assumes nothing.
-use mathlib.Core.Path.{ap, sym, _∙_}
-use borrow.Author.Tests.{le-ltb, lt-ltb}
+use mathlib.Core.Path.{_≡_, ap, sym, _∙_}
+use Rattle.columns.specs.declared.Field.{Field}
+use Rattle.columns.specs.Columns.{numberOf}
 use Rattle.request.specs.Groups.{joined}
 use Rattle.request.proofs.Laws
 use borrow.Author.Needs.{needs}
@@ -17,25 +18,23 @@ cast-f c =
     let h = Laws.at-most 1 64 _ _ _ (c .before .before .before .read-number .ensures) (c .before .field .given .1) in
     search needs
 
+-- where the field's number is known
+abbrev numbered : tie.After-with → tie.After-field
+numbered w = w .before .before
+
+abbrev read : tie.After-field → tie.After-read-number
+read f = f .before .before
+
+number-is : (f : tie.After-field) → numberOf 1 64 (read f .before .before .before .args .part .now) ≡ Field.Number (f .field .given .0 .0)
+number-is f = sym (read f .read-number .ensures) ∙ f .field .given .1
+
 returns-2 : tie.Need-returns-2
-returns-2 c =
-    let a = c .before .before .before .before .before .before .before .before .before .args in
-    rw (
-      ← c .before .before .before .before .before .before .read-number .ensures,
-      c .before .before .before .before .field .given .1,
-      c .before .before .with .ensures,
-      lt-ltb _ _ (c .if1 .taken),
-    )
+returns-2 c = let w = c .before .before in let f = numbered w in
+    Laws.join-rises (read f .before .before .before .args .g) _ _ (w .with .result) (number-is f) (w .with .ensures) (c .if1 .taken)
 
 returns-3 : tie.Need-returns-3
-returns-3 c =
-    let a = c .before .before .before .before .before .before .before .before .before .args in
-    rw (
-      ← c .before .before .before .before .before .before .read-number .ensures,
-      c .before .before .before .before .field .given .1,
-      c .before .before .with .ensures,
-      le-ltb _ _ (c .if1 .left),
-    )
+returns-3 c = let w = c .before .before in let f = numbered w in
+    Laws.join-falls (read f .before .before .before .args .g) _ _ (w .with .result) (number-is f) (w .with .ensures) (c .if1 .left)
 
 pub join-spec : {M : Type 1} → statement M
 join-spec =

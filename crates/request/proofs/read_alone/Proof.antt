@@ -5,27 +5,25 @@ use borrow.Author.Needs.{needs}
 use Rattle.request.proofs.read_alone.Statement.{statement}
 use Rattle.request.proofs.read_alone.Tie as tie
 
+-- where the length is known to be 9
+abbrev nine : tie.After-read-number → tie.Else1
+nine n = n .before .before
+
+abbrev start : tie.Else1 → tie.Start
+start e = e .before .before
+
 returns : tie.Need-returns
-returns c =
-    let a = c .before .before .before .args in
+returns c = let a = c .before .before .before .args in
     c .refusing .ensures ∙ sym (Laws.alone-length (a .verb) (a .line .now) (c .before .if1 .taken))
 
 returns-2 : tie.Need-returns-2
-returns-2 c =
-    let a = c .before .before .before .before .before .before .before .args in
-    c .refusing2 .ensures ∙ sym (Laws.alone-program (a .verb) (a .line .now) (c .before .before .before .before .before .if1 .left)
-    (sym (c .before .before .before .read-number .ensures) ∙ c .before .enum-told .given .1))
-
-cast-t13 : tie.Need-cast-t13
-cast-t13 c =
-    let h = Laws.at-most 1 32 _ _ _ (c .before .before .before .read-number .ensures) (c .before .field .given .1) in
-    search needs
+returns-2 c = let n = c .before .before .before in let e = nine n in let a = start e .args in
+    c .refusing2 .ensures ∙ sym (Laws.alone-program (a .verb) (a .line .now) (e .if1 .left)
+    (sym (n .read-number .ensures) ∙ c .before .enum-told .given .1))
 
 returns-3 : tie.Need-returns-3
-returns-3 c =
-    let a = c .before .before .before .before .before .before .before .args in
-    sym (Laws.alone-good (a .verb) (a .line .now) _ (c .before .before .before .before .before .if1 .left)
-    (sym (c .before .before .before .read-number .ensures) ∙ c .before .field .given .1))
+returns-3 c = let n = c .before .before .before in let e = nine n in let a = start e .args in
+    sym (Laws.alone-good (a .verb) (a .line .now) _ (e .if1 .left) (sym (n .read-number .ensures) ∙ c .before .field .given .1))
 
 pub read-alone-spec : {M : Type 1} → statement M
 read-alone-spec =
@@ -41,5 +39,4 @@ read-alone-spec =
     (λ c. search needs)
     (λ c κs. search needs)
     returns-2
-    cast-t13
     returns-3)

@@ -1,46 +1,53 @@
 -- `read_enter` meets its contract. Assumes nothing.
-use mathlib.Core.Path.{sym, _∙_}
+use Prim.Native.Nat.{ℕ}
+use mathlib.Core.Path.{_≡_, sym, _∙_}
+use mathlib.Core.List.{List}
 use borrow.Author.Tests.{not-true, not-false}
+use lib.ListN.{take, drop}
+use Rattle.columns.specs.declared.Field.{Field}
+use Rattle.columns.specs.Columns.{numberOf}
 use Rattle.request.proofs.Laws
 use borrow.Author.Needs.{needs}
 use Rattle.request.proofs.read_enter.Statement.{statement}
 use Rattle.request.proofs.read_enter.Tie as tie
+
+abbrev line : tie.Else1 → List ℕ
+line e = e .before .before .args .line .now
+
+-- where the line is known to have its first 23 columns
+abbrev long : tie.After-read-number → tie.Else1
+long n = n .before .before
+
+-- where the program's number is known
+abbrev numbered : tie.After-is-label → tie.After-field
+numbered l = l .before .before .before
+
+abbrev read : tie.After-field → tie.After-read-number
+read f = f .before .before
+
+abbrev program : tie.After-field → ℕ
+program f = f .field .given .0 .0
+
+program-is : (f : tie.After-field) → numberOf 1 32 (take 3 (drop 6 (line (long (read f))))) ≡ Field.Number (program f)
+program-is f = sym (read f .read-number .ensures) ∙ f .field .given .1
 
 returns : tie.Need-returns
 returns c =
     c .refusing .ensures ∙ sym (Laws.enter-short _ (c .before .if1 .taken))
 
 returns-2 : tie.Need-returns-2
-returns-2 c =
-    let a = c .before .before .before .before .before .before .before .args in
-    c .refusing2 .ensures ∙ sym (Laws.enter-program (a .line .now) (c .before .before .before .before .before .if1 .left)
-    (sym (c .before .before .before .read-number .ensures) ∙ c .before .enum-told .given .1))
+returns-2 c = let n = c .before .before .before in
+    c .refusing2 .ensures ∙ sym (Laws.enter-program (line (long n)) (long n .if1 .left) (sym (n .read-number .ensures) ∙ c .before .enum-told .given .1))
 
 returns-3 : tie.Need-returns-3
-returns-3 c =
-    let a = c .before .before .before .before .before .before .before .before .before .before .before .args in
-    c .refusing3 .ensures
-    ∙ sym (Laws.enter-label (a .line .now) _
-    (c .before .before .before .before .before .before .before .before .before .if1 .left)
-    (sym (c .before .before .before .before .before .before .before .read-number .ensures)
-    ∙ c .before .before .before .before .before .field .given .1) (sym (c .before .before .is-label .ensures)
-    ∙ not-true _ (c .before .if2 .taken)))
-
-cast-read-counts : tie.Need-cast-read-counts
-cast-read-counts c =
-    let h = Laws.at-most 1 32 _ _ _ (c .before .before .before .before .before .before .read-number .ensures)
-    (c .before .before .before .before .field .given .1) in
-    search needs
+returns-3 c = let l = c .before .before in let f = numbered l in let e = long (read f) in
+    c .refusing3 .ensures ∙ sym (Laws.enter-label (line e) (program f) (e .if1 .left) (program-is f)
+    (sym (l .is-label .ensures) ∙ not-true _ (c .before .if2 .taken)))
 
 returns-4 : tie.Need-returns-4
-returns-4 c =
-    let a = c .before .before .before .before .before .before .before .before .before .before .before .args in
-    c .read-counts .ensures
-    ∙ sym (Laws.enter-good (a .line .now) _
-    (c .before .before .before .before .before .before .before .before .before .if1 .left)
-    (sym (c .before .before .before .before .before .before .before .read-number .ensures)
-    ∙ c .before .before .before .before .before .field .given .1) (sym (c .before .before .is-label .ensures)
-    ∙ not-false _ (c .before .if2 .left)))
+returns-4 c = let l = c .before .before in let f = numbered l in let e = long (read f) in
+    c .read-counts .ensures ∙ sym (Laws.enter-good (line e) (program f) (e .if1 .left) (program-is f)
+    (sym (l .is-label .ensures) ∙ not-false _ (c .before .if2 .left)))
 
 pub read-enter-spec : {M : Type 1} → statement M
 read-enter-spec =
@@ -62,6 +69,5 @@ read-enter-spec =
     (λ c κs. search needs)
     (λ c κs. search needs)
     returns-3
-    cast-read-counts
     (λ c κs. search needs)
     returns-4)

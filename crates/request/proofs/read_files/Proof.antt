@@ -1,76 +1,83 @@
 -- `read_files` meets its contract. Assumes nothing.
-use mathlib.Core.Path.{sym, _∙_}
+use Prim.Native.Nat.{ℕ, _+_, _*_}
+use mathlib.Core.Path.{_≡_, ap, ap₂, sym, _∙_}
+use mathlib.Core.Bool.{true}
+use lib.ListN.{drop}
 use borrow.Author.Tests.{not-true, not-false}
+use Rattle.request.specs.declared.Group.{Group}
+use Rattle.request.specs.Requests.{enterFiles}
+use Rattle.request.specs.Groups.{noGroup, groupFrom}
 use Rattle.request.proofs.Laws
 use borrow.Author.Needs.{needs}
 use Rattle.request.proofs.read_files.Statement.{statement}
 use Rattle.request.proofs.read_files.Tie as tie
 
+abbrev start : tie.After-read-group → tie.Start
+start n = n .before .before
+
+abbrev v : tie.After-read-group → Group
+v n = n .read-group .result
+
+abbrev q : tie.After-read-group2 → Group
+q n = n .read-group2 .result
+
+-- where the files of V are known to be files, then those of Q, and then that V rises
+abbrev read-v : tie.Else1 → tie.After-read-group
+read-v e = e .before .before
+
+abbrev read-q : tie.Else2 → tie.After-read-group2
+read-q e = e .before .before
+
+abbrev both-files : tie.Else3 → tie.Else2
+both-files e = e .before .before
+
+-- the program's number, and the group of V, when that of Q is read
+abbrev program : tie.After-read-group2 → ℕ
+program n = start (read-v (n .before)) .args .program
+
+abbrev v-of : tie.After-read-group2 → Group
+v-of n = v (read-v (n .before))
+
+v-good : (n : tie.After-read-group2) → v-of n .good ≡ true
+v-good n = not-false (v-of n .good) (n .before .if1 .left)
+
+q-good : (e : tie.Else2) → q (read-q e) .good ≡ true
+q-good e = not-false (q (read-q e) .good) (e .if2 .left)
+
+v-rises : (e : tie.Else3) → v-of (read-q (both-files e)) .rising ≡ true
+v-rises e = not-false (v-of (read-q (both-files e)) .rising) (e .if3 .left)
+
+-- what the line says, by the two groups
+by-groups : (n : tie.After-read-group2) → let a = start (read-v (n .before)) .args in
+    enterFiles (a .line .now) (a .program) (a .w) (a .r) ≡ Laws.enterBy (v-of n) (q n) (program n)
+by-groups n = let a = start (read-v (n .before)) .args in
+    Laws.enter-by (a .line .now) (a .program) (a .w) (a .r)
+    ∙ ap₂ (λ (x y : Group). Laws.enterBy x y (program n)) (sym (read-v (n .before) .read-group .ensures)) (sym (n .read-group2 .ensures))
+
 returns : tie.Need-returns
-returns c =
-    let a = c .before .before .before .before .before .args in
+returns c = let n = c .before .before .before in let a = start n .args in
+    let later = groupFrom (a .r) (drop (23 + 3 * a .w) (a .line .now)) noGroup in
     c .refusing .ensures ∙ sym (Laws.enter-by (a .line .now) (a .program) (a .w) (a .r)
-    ∙ rw (
-      ← c .before .before .before .read-group .ensures,
-      not-true (c .before .before .before .read-group .result .good) (c .before .if1 .taken),
-    ))
+    ∙ ap (λ (x : Group). Laws.enterBy x later (a .program)) (sym (n .read-group .ensures))
+    ∙ Laws.v-bad (v n) later (a .program) (not-true (v n .good) (c .before .if1 .taken)))
 
 returns-2 : tie.Need-returns-2
-returns-2 c =
-    let a = c .before .before .before .before .before .before .before .before .args in
-    c .refusing2 .ensures ∙ sym (Laws.enter-by (a .line .now) (a .program) (a .w) (a .r)
-    ∙ rw (
-      ← c .before .before .before .before .before .before .read-group .ensures,
-      ← c .before .before .before .read-group2 .ensures,
-      not-false (c .before .before .before .before .before .before .read-group .result .good)
-          (c .before .before .before .before .if1 .left),
-      not-true (c .before .before .before .read-group2 .result .good)
-          (c .before .if2 .taken),
-    ))
+returns-2 c = let n = c .before .before .before in
+    c .refusing2 .ensures ∙ sym (by-groups n ∙ Laws.q-bad (v-of n) (q n) (program n) (v-good n) (not-true (q n .good) (c .before .if2 .taken)))
 
 returns-3 : tie.Need-returns-3
-returns-3 c =
-    let a = c .before .before .before .before .before .before .before .before .before .before .args in
-    c .refusing3 .ensures ∙ sym (Laws.enter-by (a .line .now) (a .program) (a .w) (a .r)
-    ∙ rw (
-      ← c .before .before .before .before .before .before .before .before .read-group .ensures,
-      ← c .before .before .before .before .before .read-group2 .ensures,
-      not-false (c .before .before .before .before .before .before .before .before .read-group .result .good)
-          (c .before .before .before .before .before .before .if1 .left),
-      not-false (c .before .before .before .before .before .read-group2 .result .good)
-          (c .before .before .before .if2 .left),
-      not-true (c .before .before .before .before .before .before .before .before .read-group .result .rising) (c .before .if3 .taken),
-    ))
+returns-3 c = let e = c .before .before .before in let n = read-q e in
+    c .refusing3 .ensures ∙ sym (by-groups n ∙ Laws.v-falls (v-of n) (q n) (program n) (v-good n) (q-good e)
+    (not-true (v-of n .rising) (c .before .if3 .taken)))
 
 returns-4 : tie.Need-returns-4
-returns-4 c =
-    let a = c .before .before .before .before .before .before .before .before .before .before .before .before .args in
-    c .refusing4 .ensures ∙ sym (Laws.enter-by (a .line .now) (a .program) (a .w) (a .r)
-    ∙ rw (
-      ← c .before .before .before .before .before .before .before .before .before .before .read-group .ensures,
-      ← c .before .before .before .before .before .before .before .read-group2 .ensures,
-      not-false (c .before .before .before .before .before .before .before .before .before .before .read-group .result .good)
-          (c .before .before .before .before .before .before .before .before .if1 .left),
-      not-false (c .before .before .before .before .before .before .before .read-group2 .result .good)
-          (c .before .before .before .before .before .if2 .left),
-      not-false (c .before .before .before .before .before .before .before .before .before .before .read-group .result .rising)
-          (c .before .before .before .if3 .left),
-      not-true (c .before .before .before .before .before .before .before .read-group2 .result .rising) (c .before .if4 .taken),
-    ))
+returns-4 c = let s = c .before .before .before in let e = both-files s in let n = read-q e in
+    c .refusing4 .ensures ∙ sym (by-groups n ∙ Laws.q-falls (v-of n) (q n) (program n) (v-good n) (q-good e) (v-rises s)
+    (not-true (q n .rising) (c .before .if4 .taken)))
 
 returns-5 : tie.Need-returns-5
-returns-5 c =
-    let a = c .before .before .before .before .before .before .before .before .before .before .before .before .before .args in
-    sym (Laws.enter-by (a .line .now) (a .program) (a .w) (a .r)
-    ∙ rw (
-      ← c .before .before .before .before .before .before .before .before .before .before .before .read-group .ensures,
-      ← c .before .before .before .before .before .before .before .before .read-group2 .ensures,
-      not-false (c .before .before .before .before .before .before .before .before .before .before .before .read-group .result .good) (c .before .before .before .before .before .before .before .before .before .if1 .left),
-      not-false (c .before .before .before .before .before .before .before .before .read-group2 .result .good)
-          (c .before .before .before .before .before .before .if2 .left),
-      not-false (c .before .before .before .before .before .before .before .before .before .before .before .read-group .result .rising) (c .before .before .before .before .if3 .left),
-      not-false (c .before .before .before .before .before .before .before .before .read-group2 .result .rising) (c .before .before .if4 .left),
-    ))
+returns-5 c = let f = c .before .before in let s = f .before .before in let e = both-files s in let n = read-q e in
+    sym (by-groups n ∙ Laws.both-good (v-of n) (q n) (program n) (v-good n) (q-good e) (v-rises s) (not-false (q n .rising) (f .if4 .left)))
 
 pub read-files-spec : {M : Type 1} → statement M
 read-files-spec =

@@ -32,8 +32,7 @@ loop-less c = let l = c .before .before .before .before .before .lowest in let s
     rw (c .but-lowest .ensures, sym (l .ensures .0)) (without-lt (s .before .before .loop .rest) (l .result) (s .if1 .taken) (l .ensures .1 .2))
 
 loop-again : tie.Need-loop-again Inv-loop μ-loop
-loop-again c = let l = c .before .before .before .before .before .lowest in
-    let s = c .before .before .before .before .before .before .before .before in let a = s .before .args in
+loop-again c = let p = c .before .before .before .before .before in let l = p .lowest in let s = p .before .before .before in let a = s .before .args in
     rw (c .but-lowest .ensures, sym (l .ensures .0)) (subst (CountedBut (a .rows .now) (a .left) (withoutProgram (s .loop .rest) (l .result)))
     (sym (c .before .raise .ensures ∙ ap (λ (x : ProgramSet). raised x (s .loop .counts)) (c .before .before .before .and .ensures)))
     (counting-more (a .rows .now) (a .left) (s .loop .rest) (s .loop .counts) (s .loop .inv) (l .result) (l .ensures .1 .2)))

@@ -2,7 +2,7 @@
 use mathlib.Core.Path.{_≡_, refl, sym, ap, _∙_}
 use native.Mathlib.Omega.{arith}
 use lib.ListN.{length, getD}
-use Rattle.rules.specs.Lists.{names}
+use Rattle.laws.specs.Lists.{names}
 use Rattle.settling.specs.Writing.{after, admitOne}
 use Rattle.settling.proofs.Laws.{all-waiting}
 use Rattle.settling.proofs.Admitting.{Admitting, overdue-none, overdue-some, admitted-all, first-range, overdue-fits, overdue-is, one-fits, one-more}

@@ -1,12 +1,13 @@
 -- `next_given` meets its contract. Assumes nothing.
-use mathlib.Core.Path.{_≡_, refl, sym, _∙_}
+use mathlib.Core.Path.{_≡_, refl, sym, ap, _∙_}
 use mathlib.Core.Bool.{true}
-use Prim.Native.Nat.{_-_, _≤_}
+use Prim.Native.Nat.{ℕ, _-_, _≤_}
 use native.Mathlib.Numerals.{add-one}
 use native.Mathlib.Omega.{arith}
-use lib.ListN.{length, drop}
-use Rattle.rules.specs.Lists.{all, names}
+use lib.ListN.{length, getD, drop}
+use Rattle.laws.specs.Lists.{all, names}
 use Rattle.rules.specs.Boards.{isProgram}
+use Rattle.search.specs.Gives.{giveIn}
 use Rattle.lines.proofs.Laws.{names-stop, names-end, name-range, names-left}
 use Rattle.settling.proofs.Giving.{asks-none}
 use Rattle.settling.proofs.Laws.{Over, next-none, waiter-can, asks-left, waiter-over}
@@ -15,7 +16,8 @@ use Rattle.settling.proofs.next_given.Statement.{statement}
 use Rattle.settling.proofs.next_given.Tie as tie
 
 abbrev Inv-loop : tie.InvT-loop
-Inv-loop sets asked uses from line k₀ k = (k ≤ 32) × (k₀ ≤ k) × (all isProgram (names (drop k line)) ≡ true) × (length line ≡ 32) × Over sets asked uses line k₀ k
+Inv-loop sets asked uses from line k₀ k = (k ≤ 32) × (k₀ ≤ k) × (all isProgram (names (drop k line)) ≡ true) × (length line ≡ 32)
+    × Over sets asked uses line k₀ k
 
 abbrev μ-loop : tie.MeasureT-loop
 μ-loop sets asked uses from line k₀ k = 32 - k
@@ -34,27 +36,40 @@ returns c = let l = c .before .before .loop in let g = c .before .before .before
       ),
 )
 
-sub-i : tie.Need-sub-i Inv-loop μ-loop
-sub-i c = let l = c .before .before .loop in let g = c .before .before .before .args in let m = l .inv .3 in let n = name-range (g .t4) (l .k) (omega arith) (c .if1 .left) (l .inv .2) in let h = n .0 in let j = n .1 in h
+-- the waiter is a program
+range : (i : tie.Else1 Inv-loop μ-loop) → let l = i .before .before .loop in let p = getD (i .before .before .before .args .t4) (l .k) 0 in
+    (1 ≤ p) × (p ≤ 32)
+range i = let l = i .before .before .loop in let m = l .inv .3 in
+    name-range (i .before .before .before .args .t4) (l .k) (omega arith) (i .if1 .left) (l .inv .2)
 
-cast-i : tie.Need-cast-i Inv-loop μ-loop
-cast-i c = let l = c .before .before .loop in let g = c .before .before .before .args in let m = l .inv .3 in let n = name-range (g .t4) (l .k) (omega arith) (c .if1 .left) (l .inv .2) in let h = n .0 in let j = n .1 in omega arith
-
-element-copy-out-can-give : tie.Need-element-copy-out-can-give Inv-loop μ-loop
-element-copy-out-can-give c = let l = c .before .before .loop in let g = c .before .before .before .args in let m = l .inv .3 in let n = name-range (g .t4) (l .k) (omega arith) (c .if1 .left) (l .inv .2) in let h = n .0 in let j = n .1 in omega arith
+place-of-requires : tie.Need-place-of-requires Inv-loop μ-loop
+place-of-requires c κs = range c
 
 can-give-requires : tie.Need-can-give-requires Inv-loop μ-loop
-can-give-requires c κs = let l = c .before .before .before .loop in let g = c .before .before .before .before .args in let m = l .inv .3 in let n = name-range (g .t4) (l .k) (omega arith) (c .before .if1 .left) (l .inv .2) in let h = n .0 in let j = n .1 in (h, j)
+can-give-requires c κs = range (c .before .before)
+
+-- the waiter is known
+abbrev known : tie.After-can-give Inv-loop μ-loop → tie.Else1 Inv-loop μ-loop
+known g = g .before .before .before
+
+abbrev start : tie.After-can-give Inv-loop μ-loop → tie.Start Inv-loop μ-loop
+start g = known g .before .before .before
+
+-- whether it is given the file that it waits for
+asks : (x : tie.After-can-give Inv-loop μ-loop) → let g = start x .args in let p = getD (g .t4) (known x .before .before .loop .k) 0 in
+    x .can-give .result ≡ giveIn (g .sets .now) (g .uses) p (getD (g .asked .now) (p - 1) 0)
+asks x = let g = start x .args in let p = getD (g .t4) (known x .before .before .loop .k) 0 in
+    x .can-give .ensures ∙ ap (λ (i : ℕ). giveIn (g .sets .now) (g .uses) p (getD (g .asked .now) i 0)) (x .before .before .place-of .ensures .0)
 
 returns-2 : tie.Need-returns-2 Inv-loop μ-loop
 returns-2 c =
-    let l = c .before .before .before .before .before .loop in let i = c .before .before .before in let g = c .before .before .before .before .before .before .args in let m = l .inv .3 in (
+    let x = c .before in let i = known x in let l = i .before .before .loop in let g = start x .args in let m = l .inv .3 in (
       l .inv .1,
       l .inv .0,
       λ b s u r a.
           let (r′, a′, e) = l .inv .4 b s u r a in
-          let t = waiter-can b (g .t4) (l .k) (omega arith) (i .if1 .left) r′ (g .sets .now) (g .asked .now) (g .uses) (c .before .can-give .result)
-          s u a′ (c .before .can-give .ensures) in (
+          let t = waiter-can b (g .t4) (l .k) (omega arith) (i .if1 .left) r′ (g .sets .now) (g .asked .now) (g .uses) (x .can-give .result)
+          s u a′ (asks x) in (
             record {
               onward = l .inv .1;
               within = l .inv .0;
@@ -68,17 +83,17 @@ returns-2 c =
 
 loop-again : tie.Need-loop-again Inv-loop μ-loop
 loop-again c =
-    let l = c .before .before .before .before .before .loop in let i = c .before .before .before in let g = c .before .before .before .before .before .before .args in let m = l .inv .3 in (
+    let x = c .before in let i = known x in let l = i .before .before .loop in let g = start x .args in let m = l .inv .3 in (
       search needs,
       search needs,
       rw (add-one (l .k)) (names-left isProgram (g .t4) (l .k) (omega arith) (i .if1 .left) (l .inv .2)),
       m,
       λ b s u r a.
           let (r′, a′, e) = l .inv .4 b s u r a in
-          let t = waiter-can b (g .t4) (l .k) (omega arith) (i .if1 .left) r′ (g .sets .now) (g .asked .now) (g .uses) (c .before .can-give .result)
-          s u a′ (c .before .can-give .ensures) in
-          let (x, d) = waiter-over b (g .t4) (l .k) (omega arith) (i .if1 .left) r′ (sym t ∙ c .if2 .left) in
-          (x, asks-left b (g .t4) (l .k) (omega arith) (i .if1 .left) r′ (g .asked .now) a′, e ∙ d),
+          let t = waiter-can b (g .t4) (l .k) (omega arith) (i .if1 .left) r′ (g .sets .now) (g .asked .now) (g .uses) (x .can-give .result)
+          s u a′ (asks x) in
+          let (y, d) = waiter-over b (g .t4) (l .k) (omega arith) (i .if1 .left) r′ (sym t ∙ c .if2 .left) in
+          (y, asks-left b (g .t4) (l .k) (omega arith) (i .if1 .left) r′ (g .asked .now) a′, e ∙ d),
     )
 
 returns-3 : tie.Need-returns-3 Inv-loop μ-loop
@@ -101,9 +116,8 @@ next-given-spec =
     loop-holds
     (λ c. search needs)
     returns
-    sub-i
-    cast-i
-    element-copy-out-can-give
+    place-of-requires
+    (λ c. search needs)
     can-give-requires
     returns-2
     (λ c. search needs)

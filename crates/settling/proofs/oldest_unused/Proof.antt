@@ -4,9 +4,11 @@ use mathlib.Core.Option.{Option, Option·getD}
 use Prim.Native.Nat.{ℕ, _-_, _≤_}
 use native.Mathlib.Numerals.{add-one}
 use native.Mathlib.Omega.{arith}
-use lib.ListN.{length, drop}
+use lib.ListN.{length, getD, drop}
 use borrow.Author.Tests.{not-true, not-false}
-use Rattle.rules.specs.Lists.{first, names}
+use Rattle.laws.specs.Lists.{first, names}
+use Rattle.rules.specs.Boards.{noProgram, awaited, awaitedOf}
+use Rattle.rules.specs.Orders.{inUse}
 use Rattle.rules.specs.Settling.{candidate}
 use Rattle.lines.proofs.Laws.{names-stop, names-end}
 use Rattle.settling.specs.Writing.{Ready, unused}
@@ -17,7 +19,8 @@ use Rattle.settling.proofs.oldest_unused.Statement.{statement}
 use Rattle.settling.proofs.oldest_unused.Tie as tie
 
 abbrev Inv-loop : tie.InvT-loop
-Inv-loop b line sets uses k₀ k = (k ≤ 32) × Ready b (names (drop k line)) × (candidate b ≡ first (unused b) (names (drop k line))) × (length line ≡ 32)
+Inv-loop b line sets uses k₀ k = (k ≤ 32) × Ready b (names (drop k line)) × (candidate b ≡ first (unused b) (names (drop k line)))
+    × (length line ≡ 32)
 
 abbrev μ-loop : tie.MeasureT-loop
 μ-loop b line sets uses k₀ k = 32 - k
@@ -28,64 +31,70 @@ returns c = let b = c .before .before .args .t1 in let m : length (b .waiting) �
     sym (ap (λ (x : Option ℕ). Option·getD x 0) (first-none-left (unused b) (names (b .waiting))
     (names-stop (b .waiting) 0 (omega arith) (c .if1 .taken))))
 
+-- ---- stations
+
+-- the sets are taken
+abbrev taken : tie.After-uses-of Inv-loop μ-loop → tie.After-take-sets Inv-loop μ-loop
+taken u = u .before .before
+
+abbrev start : tie.After-uses-of Inv-loop μ-loop → tie.Start Inv-loop μ-loop
+start u = taken u .before .before .before .before
+
+-- a waiter is reached
+abbrev turn : tie.Else2 Inv-loop μ-loop → tie.At-loop Inv-loop μ-loop
+turn i = i .before .before
+
+-- and the file that it waits for is known
+abbrev reached : tie.After-in-use Inv-loop μ-loop → tie.Else2 Inv-loop μ-loop
+reached w = w .before .before .before .before .before
+
 loop-holds : tie.Need-loop-holds Inv-loop μ-loop
 unfolding candidate
-loop-holds c = let a = c .before .before .before .before .before .before in (search needs, ready-all (a .args .t1) (a .pre), refl, search needs)
+loop-holds c = let a = start c in (search needs, ready-all (a .args .t1) (a .pre), refl, search needs)
 
 returns-2 : tie.Need-returns-2 Inv-loop μ-loop
-returns-2 c = let l = c .before .before .loop in let b = c .before .before .before .before .before .before .before .before .before .args .t1 in
-    let m = l .inv .3 in
+returns-2 c = let s = c .before .before in let l = s .loop in let b = start (s .before) .args .t1 in let m = l .inv .3 in
     sym (ap (λ (x : Option ℕ). Option·getD x 0) (l .inv .2 ∙ first-none-left (unused b) (names (drop (l .k) (b .waiting)))
     (names-stop (b .waiting) (l .k) (omega arith) (c .if2 .taken))))
 
-sub-i : tie.Need-sub-i Inv-loop μ-loop
-sub-i c = let l = c .before .before .loop in let g = c .before .before .before .before .before .before .before .before .before .args in
-    let m = l .inv .3 in let n = waiter-range (g .t1) (g .t1 .waiting) (l .k) (omega arith) (c .if2 .left) (l .inv .1) in let h = n .0 in let j = n .1 in h
+-- the waiter is a program
+range : (i : tie.Else2 Inv-loop μ-loop) → let s = turn i in let p = getD (start (s .before) .args .t1 .waiting) (s .loop .k) 0 in (1 ≤ p) × (p ≤ 32)
+range i = let s = turn i in let l = s .loop in let b = start (s .before) .args .t1 in let m = l .inv .3 in
+    waiter-range b (b .waiting) (l .k) (omega arith) (i .if2 .left) (l .inv .1)
 
-cast-i : tie.Need-cast-i Inv-loop μ-loop
-cast-i c = let l = c .before .before .loop in let g = c .before .before .before .before .before .before .before .before .before .args in
-    let m = l .inv .3 in let n = waiter-range (g .t1) (g .t1 .waiting) (l .k) (omega arith) (c .if2 .left) (l .inv .1) in let h = n .0 in let j = n .1 in omega arith
-
-mul-q : tie.Need-mul-q Inv-loop μ-loop
-mul-q c = let l = c .before .before .loop in let g = c .before .before .before .before .before .before .before .before .before .args in
-    let m = l .inv .3 in let n = waiter-range (g .t1) (g .t1 .waiting) (l .k) (omega arith) (c .if2 .left) (l .inv .1) in let h = n .0 in let j = n .1 in omega arith
-
-element-copy-out-q : tie.Need-element-copy-out-q Inv-loop μ-loop
-element-copy-out-q c = let l = c .before .before .loop in let g = c .before .before .before .before .before .before .before .before .before .args in
-    let m = l .inv .3 in let n = waiter-range (g .t1) (g .t1 .waiting) (l .k) (omega arith) (c .if2 .left) (l .inv .1) in let h = n .0 in let j = n .1 in omega arith
+place-of-requires : tie.Need-place-of-requires Inv-loop μ-loop
+place-of-requires c κs = range c
 
 in-use-requires : tie.Need-in-use-requires Inv-loop μ-loop
-in-use-requires c κs = let i = c .before .before .before in let l = i .before .before .loop in
-    let g = i .before .before .before .before .before .before .before .before .before .args in let m = l .inv .3 in
-    waiter-range (g .t1) (g .t1 .waiting) (l .k) (omega arith) (i .if2 .left) (l .inv .1)
+in-use-requires c κs = range (c .before .before .before .before)
+
+-- whether its file is in conflicting use
+used : (w : tie.After-in-use Inv-loop μ-loop) → let s = turn (reached w) in let b = start (s .before) .args .t1 in
+    let p = getD (b .waiting) (s .loop .k) 0 in w .in-use .result ≡ inUse b p (awaited b p)
+used w = let i = reached w in let s = turn i in let u = s .before in let l = s .loop in let b = start u .args .t1 in
+    let a = w .before .before in let q = a .before .before in let m = l .inv .3 in
+    waiter-used b (b .waiting) (l .k) (omega arith) (i .if2 .left) (l .inv .1) (taken u .take-sets .last .1 .0)
+    (u .uses-of .result) (a .awaited .result) (w .in-use .result) (sets-in b _ (taken u .take-sets .ensures)) (u .uses-of .ensures)
+    (a .awaited .ensures ∙ ap (λ (j : ℕ). awaitedOf (getD (b .programs) j noProgram .standing)) (q .place-of .ensures .0)) (w .in-use .ensures)
 
 returns-3 : tie.Need-returns-3 Inv-loop μ-loop
 returns-3 c =
-    let w = c .before in let a = w .before .before in let i = a .before .before in let l = i .before .before .loop in
-    let u = i .before .before .before in let e = u .before .before in let g = e .before .before .before .before .args in let m = l .inv .3 in
-    let t = waiter-used (g .t1) (g .t1 .waiting) (l .k) (omega arith) (i .if2 .left) (l .inv .1) (e .take-sets .last .1 .0)
-    (u .uses-of .result) (a .awaited .result) (w .in-use .result) (sets-in (g .t1) _ (e .take-sets .ensures)) (u .uses-of .ensures) (a .awaited .ensures)
-    (w .in-use .ensures) in
-    sym (rw (sym t ∙ not-true (w .in-use .result) (c .if3 .taken)) at (ap (λ (x : Option ℕ). Option·getD x 0) (l .inv .2
-    ∙ first-names-on (unused (g .t1)) (g .t1 .waiting) (l .k) (omega arith) (i .if2 .left))))
+    let w = c .before in let i = reached w in let s = turn i in let l = s .loop in let b = start (s .before) .args .t1 in let m = l .inv .3 in
+    sym (rw (sym (used w) ∙ not-true (w .in-use .result) (c .if3 .taken)) at (ap (λ (x : Option ℕ). Option·getD x 0) (l .inv .2
+    ∙ first-names-on (unused b) (b .waiting) (l .k) (omega arith) (i .if2 .left))))
 
 loop-again : tie.Need-loop-again Inv-loop μ-loop
 loop-again c =
-    let w = c .before in let a = w .before .before in let i = a .before .before in let l = i .before .before .loop in
-    let u = i .before .before .before in let e = u .before .before in let g = e .before .before .before .before .args in let m = l .inv .3 in
-    let t = waiter-used (g .t1) (g .t1 .waiting) (l .k) (omega arith) (i .if2 .left) (l .inv .1) (e .take-sets .last .1 .0)
-    (u .uses-of .result) (a .awaited .result) (w .in-use .result) (sets-in (g .t1) _ (e .take-sets .ensures)) (u .uses-of .ensures) (a .awaited .ensures)
-    (w .in-use .ensures) in (
+    let w = c .before in let i = reached w in let s = turn i in let l = s .loop in let b = start (s .before) .args .t1 in let m = l .inv .3 in (
       search needs,
-      ready-left (g .t1) (g .t1 .waiting) (l .k) (omega arith) (i .if2 .left) (l .inv .1),
-      rw (add-one (l .k)) (rw (sym t ∙ not-false (w .in-use .result) (c .if3 .left)) at (l .inv .2
-          ∙ first-names-on (unused (g .t1)) (g .t1 .waiting) (l .k) (omega arith) (i .if2 .left))),
+      ready-left b (b .waiting) (l .k) (omega arith) (i .if2 .left) (l .inv .1),
+      rw (add-one (l .k)) (rw (sym (used w) ∙ not-false (w .in-use .result) (c .if3 .left)) at (l .inv .2
+          ∙ first-names-on (unused b) (b .waiting) (l .k) (omega arith) (i .if2 .left))),
       m,
     )
 
 returns-4 : tie.Need-returns-4 Inv-loop μ-loop
-returns-4 c = let l = c .before .loop in let b = c .before .before .before .before .before .before .before .before .args .t1 in
-    let m = l .inv .3 in
+returns-4 c = let s = c .before in let l = s .loop in let b = start (s .before) .args .t1 in let m = l .inv .3 in
     sym (ap (λ (x : Option ℕ). Option·getD x 0) (l .inv .2 ∙ first-none-left (unused b) (names (drop (l .k) (b .waiting)))
     (names-end (b .waiting) (l .k) (omega arith))))
 
@@ -102,10 +111,9 @@ oldest-unused-spec =
     loop-holds
     (λ c. search needs)
     returns-2
-    sub-i
-    cast-i
-    mul-q
-    element-copy-out-q
+    place-of-requires
+    (λ c. search needs)
+    (λ c. search needs)
     (λ c κs. search needs)
     in-use-requires
     returns-3

@@ -6,7 +6,7 @@ use Prim.Native.Nat.{ℕ, _+_, _-_, _≤_}
 use native.Mathlib.Omega.{arith}
 use lib.ListN.{length, drop, drop-of-length-le}
 use borrow.Author.Needs.{needs}
-use Rattle.rules.specs.Lists.{keep}
+use Rattle.laws.specs.Lists.{keep}
 use Rattle.sound.specs.Parts.{isName}
 use Rattle.sound.proofs.Named.{named-step}
 use Rattle.sound.proofs.count_named.Statement.{statement}

@@ -5,7 +5,7 @@ use native.Mathlib.Numerals.{add-one}
 use native.Mathlib.Omega.{arith}
 use borrow.Author.Tests.{not-true, not-false}
 use borrow.Author.Needs.{needs}
-use Rattle.rules.specs.Lists.{all, rising}
+use Rattle.laws.specs.Lists.{all, rising}
 use Rattle.rules.specs.Boards.{everyone}
 use Rattle.tables.proofs.Laws.{all-step, all-end}
 use Rattle.rules.specs.Soundness.{countSound}

@@ -6,7 +6,7 @@ use native.Mathlib.Omega.{arith}
 use lib.Dec.{eqb}
 use lib.ListN.{length, drop}
 use borrow.Author.Needs.{needs}
-use Rattle.rules.specs.Lists.{all}
+use Rattle.laws.specs.Lists.{all}
 use Rattle.sound.proofs.Blank.{none, blank-more, blank-all}
 use Rattle.sound.proofs.is_blank.Statement.{statement}
 use Rattle.sound.proofs.is_blank.Tie as tie

@@ -3,18 +3,19 @@ use mathlib.Core.Path.{_≡_, sym, ap, _∙_}
 use mathlib.Core.Bool.{Bool, true, false, _&&_}
 use borrow.Author.Tests.{not-true, not-false}
 use borrow.Author.Needs.{needs}
-use Rattle.files.proofs.Tests.{and-both, and-right}
+use Rattle.laws.specs.Tests.{and-both, and-right}
 use Rattle.rules.specs.declared.Board.{Board}
-use Rattle.rules.specs.Lists.{all, names, found}
+use Rattle.laws.specs.Lists.{all, names, found}
 use Rattle.rules.specs.Boards.{everyone}
 use Rattle.rules.specs.Orders.{carried}
 use Rattle.rules.specs.Soundness.{noConflict, lineSound, sound}
 use Rattle.tables.specs.declared.ProgramSet.{ProgramSet}
 use Rattle.tables.specs.ProgramSets.{hasProgram}
-use Rattle.search.specs.declared.Uses.{Uses}
+use Rattle.search.specs.Gives.{usesIn}
 use Rattle.sound.specs.Parts.{isSoundAt, standsAt, waiterAt}
-use Rattle.sound.proofs.Laws.{line-waiters}
+use Rattle.sound.proofs.Laws.{line-waiters as named-waiters}
 use Rattle.sound.proofs.Taken.{line-packed}
+use Rattle.sound.proofs.Conflicts.{no-conflict-is}
 use Rattle.sound.proofs.is_sound_by.Statement.{statement}
 use Rattle.sound.proofs.is_sound_by.Tie as tie
 
@@ -35,41 +36,61 @@ first5 b = first4 b && lineSound (b .entry) (standsAt b true)
 abbrev first6 : Board → Bool
 first6 b = first5 b && all (waiterAt b) (names (b .waiting))
 
+-- the start, from the place after each test
+abbrev s1 : tie.Else1 → tie.Start
+s1 c = c .before .before
+
+abbrev s2 : tie.Else2 → tie.Start
+s2 c = s1 (c .before .before)
+
+abbrev s3 : tie.Else3 → tie.Start
+s3 c = s2 (c .before)
+
+abbrev s4 : tie.Else4 → tie.Start
+s4 c = s3 (c .before .before .before)
+
+abbrev s5 : tie.Else5 → tie.Start
+s5 c = s4 (c .before .before .before)
+
+abbrev s6 : tie.Else6 → tie.Start
+s6 c = s5 (c .before .before)
+
+-- the board there
 abbrev b1 : tie.Else1 → Board
-b1 c = c .before .before .args .b
+b1 c = s1 c .args .b
 
 abbrev b2 : tie.Else2 → Board
-b2 c = b1 (c .before .before)
+b2 c = s2 c .args .b
 
 abbrev b3 : tie.Else3 → Board
-b3 c = b2 (c .before)
+b3 c = s3 c .args .b
 
 abbrev b4 : tie.Else4 → Board
-b4 c = b3 (c .before .before .before)
+b4 c = s4 c .args .b
 
 abbrev b5 : tie.Else5 → Board
-b5 c = b4 (c .before .before .before)
+b5 c = s5 c .args .b
 
 abbrev b6 : tie.Else6 → Board
-b6 c = b5 (c .before .before)
+b6 c = s6 c .args .b
 
 past1 : (c : tie.Else1) → all (isSoundAt (b1 c)) everyone ≡ true
 past1 c = sym (c .before .programs-sound .ensures) ∙ not-false (c .before .programs-sound .result) (c .if1 .left)
 
 conflicts : (c : tie.After-no-conflict) → c .no-conflict .result ≡ noConflict (b1 (c .before))
-conflicts c = let e = c .before in c .no-conflict .ensures (b1 e) (e .before .before .pre .0) (past1 e)
+conflicts c = let s = s1 (c .before) in c .no-conflict .ensures ∙ no-conflict-is (s .args .b) (s .args .sets .now) (s .pre .0)
 
 past2 : (c : tie.Else2) → first2 (b2 c) ≡ true
 past2 c = and-both (all (isSoundAt (b2 c)) everyone) (noConflict (b2 c)) (past1 (c .before .before))
     (sym (conflicts (c .before)) ∙ not-false (c .before .no-conflict .result) (c .if2 .left))
 
 past3 : (c : tie.Else3) → first3 (b3 c) ≡ true
-past3 c = let s = c .before .before .before .before .before in
+past3 c = let s = s3 c in
     and-both (first2 (b3 c)) (found (carried (b3 c))) (past2 (c .before)) (sym (s .pre .2) ∙ not-false (s .args .ordered) (c .if3 .left))
 
 waiting-line : (c : tie.After-line-sound) → let b = b3 (c .before .before) in
     c .line-sound .result ≡ lineSound (b .waiting) (standsAt b false)
-waiting-line c = let b = b3 (c .before .before) in let s = c .before .before .before .before .before .before .before in c .line-sound .ensures
+waiting-line c = let s = s3 (c .before .before) in let b = s .args .b in c .line-sound .ensures
     ∙ ap (λ (s : ProgramSet). lineSound (b .waiting) (hasProgram s)) (s .pre .3)
     ∙ line-packed (b .waiting) (standsAt b false)
 
@@ -79,8 +100,7 @@ past4 c = and-both (first3 (b4 c)) (lineSound (b4 c .waiting) (standsAt (b4 c) f
 
 entry-line : (c : tie.After-line-sound2) → let b = b4 (c .before .before) in
     c .line-sound2 .result ≡ lineSound (b .entry) (standsAt b true)
-entry-line c = let b = b4 (c .before .before) in
-    let s = c .before .before .before .before .before .before .before .before .before .before in c .line-sound2 .ensures
+entry-line c = let s = s4 (c .before .before) in let b = s .args .b in c .line-sound2 .ensures
     ∙ ap (λ (s : ProgramSet). lineSound (b .entry) (hasProgram s)) (s .pre .4)
     ∙ line-packed (b .entry) (standsAt b true)
 
@@ -90,7 +110,7 @@ past5 c = and-both (first4 (b5 c)) (lineSound (b5 c .entry) (standsAt (b5 c) tru
 
 past6 : (c : tie.Else6) → first6 (b6 c) ≡ true
 past6 c = and-both (first5 (b6 c)) (all (waiterAt (b6 c)) (names (b6 c .waiting))) (past5 (c .before .before))
-    (sym (c .before .waiters-sound .ensures) ∙ not-false (c .before .waiters-sound .result) (c .if6 .left))
+    (sym (c .before .line-waiters .ensures) ∙ not-false (c .before .line-waiters .result) (c .if6 .left))
 
 -- ---- the returns
 
@@ -107,7 +127,7 @@ returns-2 c = rw (
 
 returns-3 : tie.Need-returns-3
 unfolding sound
-returns-3 c = let s = c .before .before .before .before .before in
+returns-3 c = let s = s2 (c .before) in
     rw (past2 (c .before), sym (s .pre .2) ∙ not-true (s .args .ordered) (c .if3 .taken))
 
 returns-4 : tie.Need-returns-4
@@ -124,38 +144,37 @@ returns-5 c = rw (
   sym (entry-line (c .before)) ∙ not-true (c .before .line-sound2 .result) (c .if5 .taken),
 )
 
-waiters-sound-requires : tie.Need-waiters-sound-requires
-waiters-sound-requires c κs = let l = c .before .before .before in
-    let e = l .before .before .before in let s = e .before .before .before .before .before in (
+line-waiters-requires : tie.Need-line-waiters-requires
+line-waiters-requires c κs = let l = c .before .before .before in
+    let e = l .before .before .before in let s = s3 e in (
       record {
         in-sets = s .pre .0;
-        in-use = s .pre .1;
+        in-use = ap (λ (x : ProgramSet). usesIn x (s .args .sets .now)) (s .pre .1);
         apart = and-right (all (isSoundAt (b5 c)) everyone) (noConflict (b5 c)) (past2 (e .before));
         ordered = and-right (first2 (b5 c)) (found (carried (b5 c))) (past3 e);
       },
-      line-waiters (b5 c) (b5 c .waiting) (sym (waiting-line (l .before)) ∙ not-false (l .before .line-sound .result) (l .if4 .left)),
+      named-waiters (b5 c) (b5 c .waiting) (sym (waiting-line (l .before)) ∙ not-false (l .before .line-sound .result) (l .if4 .left)),
     )
 
 returns-6 : tie.Need-returns-6
 unfolding sound
 returns-6 c = rw (
   past5 (c .before .before),
-  sym (c .before .waiters-sound .ensures) ∙ not-true (c .before .waiters-sound .result) (c .if6 .taken),
+  sym (c .before .line-waiters .ensures) ∙ not-true (c .before .line-waiters .result) (c .if6 .taken),
 )
 
 favour-sound-requires : tie.Need-favour-sound-requires
-favour-sound-requires c κs = let s = c .before .before .before .before .before .before .before .before .before .before .before .before .before .before in
-    (s .pre .3, s .pre .4, ap (λ (u : Uses). u .admitted) (s .pre .1))
+favour-sound-requires c κs = let s = s6 c in (s .pre .3, s .pre .4, s .pre .1)
 
 returns-7 : tie.Need-returns-7
 unfolding sound
 returns-7 c = let f = c .before in
-    rw (past6 (f .before .before), sym (f .favour-sound .ensures) ∙ not-true (f .favour-sound .result) (c .if7 .taken))
+    rw (past6 (f .before), sym (f .favour-sound .ensures) ∙ not-true (f .favour-sound .result) (c .if7 .taken))
 
 returns-8 : tie.Need-returns-8
 unfolding sound
 returns-8 c = let i = c .before in let f = i .before in
-    rw (past6 (f .before .before), sym (f .favour-sound .ensures) ∙ not-false (f .favour-sound .result) (i .if7 .left)) (c .counts-sound .ensures)
+    rw (past6 (f .before), sym (f .favour-sound .ensures) ∙ not-false (f .favour-sound .result) (i .if7 .left)) (c .counts-sound .ensures)
 
 pub is-sound-by-spec : {M : Type 1} → statement M
 is-sound-by-spec =
@@ -170,7 +189,7 @@ is-sound-by-spec =
     returns-4
     (λ c κs. search needs)
     returns-5
-    waiters-sound-requires
+    line-waiters-requires
     returns-6
     favour-sound-requires
     returns-7

@@ -6,7 +6,7 @@ use lib.Dec.{eqb}
 use lib.ListN.{length}
 use borrow.Author.Tests.{not-true, not-false}
 use borrow.Author.Needs.{needs}
-use Rattle.rules.specs.Lists.{all, names, listed, distinct}
+use Rattle.laws.specs.Lists.{all, names, listed, distinct}
 use Rattle.rules.specs.Boards.{isProgram, everyone}
 use Rattle.rules.specs.Soundness.{lineSound}
 use Rattle.tables.specs.ProgramSets.{hasProgram}
@@ -17,9 +17,10 @@ use Rattle.sound.proofs.line_sound.Statement.{statement}
 use Rattle.sound.proofs.line_sound.Tie as tie
 
 -- the names are the programs of the set, each once
-right : (c : tie.After-takes-all) → (all (λ p. isProgram p && hasProgram (c .before .before .before .args .set) p) (names (c .before .before .before .args .line))
-    && all (λ p. not (hasProgram (c .before .before .before .args .set) p) || listed p (names (c .before .before .before .args .line))) everyone
-    && distinct (names (c .before .before .before .args .line))) ≡ c .takes-all .result
+right : (c : tie.After-takes-all) → let a = c .before .before .before .args in
+    (all (λ p. isProgram p && hasProgram (a .set) p) (names (a .line))
+    && all (λ p. not (hasProgram (a .set) p) || listed p (names (a .line))) everyone
+    && distinct (names (a .line))) ≡ c .takes-all .result
 right c = let a = c .before .before .before .args in let h : a .set .bits < 2 ^ 32 = search needs in
     sym (c .takes-all .ensures ∙ takes-is (names (a .line)) (a .set) h)
 

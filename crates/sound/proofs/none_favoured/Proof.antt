@@ -3,7 +3,7 @@ use mathlib.Core.Path.{_≡_, sym, ap, _∙_}
 use mathlib.Core.Bool.{true, not}
 use lib.Dec.{eqb}
 use borrow.Author.Tests.{eq-eqb, ne-eqb}
-use Rattle.rules.specs.Lists.{any}
+use Rattle.laws.specs.Lists.{any}
 use Rattle.rules.specs.Boards.{everyone}
 use Rattle.rules.specs.Soundness.{noneFavoured}
 use Rattle.tables.specs.declared.ProgramSet.{ProgramSet}

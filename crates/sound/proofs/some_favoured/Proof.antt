@@ -5,9 +5,9 @@ use Prim.Native.Nat.{_+_}
 use borrow.Author.Tests.{not-true, not-false, eq-eqb, ne-eqb}
 use borrow.Author.Needs.{needs}
 use lib.ListN.{length}
-use Rattle.rules.specs.Lists.{keep}
+use Rattle.laws.specs.Lists.{keep}
 use Rattle.rules.specs.Boards.{isProgram, everyone, admitted}
-use Rattle.search.proofs.Laws.{admitted-is}
+use Rattle.tables.proofs.Laws.{admitted-those}
 use Rattle.rules.specs.Soundness.{someFavoured}
 use Rattle.tables.specs.declared.ProgramSet.{ProgramSet}
 use Rattle.tables.specs.ProgramSets.{hasProgram}
@@ -26,7 +26,7 @@ right c = let a = c .before .args in c .has .ensures
 -- the programs of the set are the admitted ones
 counted : (c : tie.After-count) → length (admitted (c .before .before .before .args .b)) ≡ c .count .result
 counted c = let h = c .before .before .before in
-    sym (c .count .ensures .0 ∙ ap (λ (s : ProgramSet). length (keep (hasProgram s) everyone)) (h .pre .1) ∙ ap length (sym (admitted-is (h .args .b))))
+    sym (c .count .ensures .0 ∙ ap (λ (s : ProgramSet). length (keep (hasProgram s) everyone)) (h .pre .1) ∙ ap length (admitted-those (h .args .b)))
 
 returns : tie.Need-returns
 unfolding someFavoured

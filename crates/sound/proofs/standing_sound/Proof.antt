@@ -1,7 +1,7 @@
 -- `standing_sound` meets its contract. Assumes nothing.
 use mathlib.Core.Path.{sym, _∙_}
 use borrow.Author.Tests.{not-true, not-false}
-use Rattle.files.proofs.Tests.{and-true}
+use Rattle.laws.specs.Tests.{and-true}
 use Rattle.rules.specs.Soundness.{setsSound, standingSound}
 use Rattle.sound.proofs.Blank.{absent-no, absent-is, held-no, held-is}
 use borrow.Author.Needs.{needs}

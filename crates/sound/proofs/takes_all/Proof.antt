@@ -6,7 +6,7 @@ use native.Mathlib.Omega.{arith}
 use lib.ListN.{length, drop}
 use borrow.Author.Tests.{not-true, not-false}
 use borrow.Author.Needs.{needs}
-use Rattle.rules.specs.Lists.{names}
+use Rattle.laws.specs.Lists.{names}
 use Rattle.rules.specs.Settling.{line}
 use Rattle.tables.specs.declared.ProgramSet.{ProgramSet}
 use Rattle.sound.specs.Parts.{takes}

@@ -28,7 +28,8 @@ returns-3 c = λ b e k a. let j = c .before in let i = j .before .before in let 
     let o : hasOpen (at b (s .args .p)) (s .args .f) ≡ false = ap (λ (z : Program). hasOpen z (s .args .f)) (sym e)
     ∙ sym (j .before .has-open .ensures) ∙ j .if2 .left in
     rw (ap (λ (z : Program). claims z (s .args .f)) (sym e) ∙ sym (i .before .claims .ensures) ∙ not-false (i .before .claims .result) (i .if1 .left), o)
-    (ap not (give-by _ _ _ _ _ (search needs) (search needs) (c .can-give .ensures) b (k .in-sets) (k .in-use) (k .apart) (k .ordered) a o))
+    (ap not (give-by (s .args .sets .now) (s .args .uses) (s .args .p) (s .args .f) _ (search needs) (search needs)
+    (c .can-give .ensures) b (k .in-sets) (k .in-use) (k .apart) (k .ordered) a))
 
 pub waiter-sound-spec : {M : Type 1} → statement M
 waiter-sound-spec =

@@ -1,13 +1,15 @@
 -- `waiters_sound` meets its contract. Assumes nothing.
 use mathlib.Core.Path.{_≡_, refl, sym, ap, _∙_}
 use mathlib.Core.Bool.{true, false}
-use Prim.Native.Nat.{_-_, _≤_}
+use Prim.Native.Nat.{ℕ, _-_, _≤_}
 use native.Mathlib.Numerals.{add-one}
 use native.Mathlib.Omega.{arith}
 use lib.ListN.{length, getD, drop}
 use borrow.Author.Tests.{not-true, not-false}
-use Rattle.rules.specs.Lists.{all, names}
+use Rattle.laws.specs.Lists.{all, names}
+use Rattle.rules.specs.Boards.{noProgram, awaitedOf}
 use Rattle.rules.specs.Soundness.{waiterSound}
+use Rattle.tables.specs.Boards.{admits}
 use Rattle.sound.specs.Parts.{rightName, waiterAt}
 use Rattle.lines.proofs.Laws.{names-left}
 use Rattle.lines.proofs.Laws.{all-names-on, all-names-stop, all-names-end}
@@ -30,45 +32,46 @@ returns : tie.Need-returns Inv-loop μ-loop
 returns c = let l = c .before .before .loop in let a = c .before .before .before .args in let m = l .inv .3 in
     sym (l .inv .2 ∙ all-names-stop (a .t4) (l .k) (waiterAt (a .t1)) (omega arith) (c .if1 .taken))
 
-sub-i : tie.Need-sub-i Inv-loop μ-loop
-sub-i c = let l = c .before .before .loop in let a = c .before .before .before .args in
-    let n = waiter-named (a .t1) (a .t4) (l .k) (omega (arith, l .inv .3)) (c .if1 .left) (l .inv .1) in n .0 .0
+-- a waiter is reached
+abbrev at : tie.Else1 Inv-loop μ-loop → tie.At-loop Inv-loop μ-loop
+at e = e .before .before
 
-cast-i : tie.Need-cast-i Inv-loop μ-loop
-cast-i c = let l = c .before .before .loop in let a = c .before .before .before .args in
-    let n = waiter-named (a .t1) (a .t4) (l .k) (omega (arith, l .inv .3)) (c .if1 .left) (l .inv .1) in let h = n .0 .1 in omega arith
+abbrev start : tie.Else1 Inv-loop μ-loop → tie.Start Inv-loop μ-loop
+start e = at e .before
 
-mul-q : tie.Need-mul-q Inv-loop μ-loop
-mul-q c = let l = c .before .before .loop in let a = c .before .before .before .args in
-    let n = waiter-named (a .t1) (a .t4) (l .k) (omega (arith, l .inv .3)) (c .if1 .left) (l .inv .1) in let h = n .0 .1 in omega arith
+-- it is an admitted program
+named : (e : tie.Else1 Inv-loop μ-loop) → let p = getD (start e .args .t4) (at e .loop .k) 0 in ((1 ≤ p) × (p ≤ 32)) × (admits (start e .args .t1) p ≡ true)
+named e = let l = at e .loop in waiter-named (start e .args .t1) (start e .args .t4) (l .k) (omega (arith, l .inv .3)) (e .if1 .left) (l .inv .1)
 
-element-copy-out-q : tie.Need-element-copy-out-q Inv-loop μ-loop
-element-copy-out-q c = let l = c .before .before .loop in let a = c .before .before .before .args in
-    let n = waiter-named (a .t1) (a .t4) (l .k) (omega (arith, l .inv .3)) (c .if1 .left) (l .inv .1) in omega (arith, n .0 .0, n .0 .1)
+place-of-requires : tie.Need-place-of-requires Inv-loop μ-loop
+place-of-requires c κs = named c .0
 
 waiter-sound-requires : tie.Need-waiter-sound-requires Inv-loop μ-loop
-waiter-sound-requires c κs = let e = c .before .before in let l = e .before .before .loop in let a = e .before .before .before .args in
-    waiter-named (a .t1) (a .t4) (l .k) (omega (arith, l .inv .3)) (e .if1 .left) (l .inv .1) .0
+waiter-sound-requires c κs = named (c .before .before .before) .0
+
+abbrev reached : tie.After-waiter-sound Inv-loop μ-loop → tie.Else1 Inv-loop μ-loop
+reached w = w .before .before .before .before
+
+-- whether its waiting is sound
+judged : (w : tie.After-waiter-sound Inv-loop μ-loop) → let e = reached w in
+    w .waiter-sound .result ≡ waiterAt (start e .args .t1) (getD (start e .args .t4) (at e .loop .k) 0)
+judged w = let e = reached w in let b = start e .args .t1 in let p = getD (start e .args .t4) (at e .loop .k) 0 in let i = w .before .before .before in
+    w .waiter-sound .ensures b (ap (λ (j : ℕ). getD (b .programs) j noProgram) (i .place-of .ensures .0)) (start e .pre .0) (named e .1)
+    ∙ ap (waiterSound b p) (w .before .awaited .ensures ∙ ap (λ (j : ℕ). awaitedOf (getD (b .programs) j noProgram .standing)) (i .place-of .ensures .0))
 
 returns-2 : tie.Need-returns-2 Inv-loop μ-loop
-returns-2 c = let w = c .before in let e = w .before .before .before in let l = e .before .before .loop in let s = e .before .before .before in let a = s .args in
-    let n = waiter-named (a .t1) (a .t4) (l .k) (omega (arith, l .inv .3)) (e .if1 .left) (l .inv .1) in
-    let t : w .waiter-sound .result ≡ waiterAt (a .t1) (getD (a .t4) (l .k) 0) = w .waiter-sound .ensures (a .t1) refl (s .pre .0) (n .1)
-    ∙ ap (waiterSound (a .t1) (getD (a .t4) (l .k) 0)) (w .before .awaited .ensures) in
-    sym (rw (sym t ∙ not-true (w .waiter-sound .result) (c .if2 .taken)) at (l .inv .2
+returns-2 c = let w = c .before in let e = reached w in let l = at e .loop in let a = start e .args in
+    sym (rw (sym (judged w) ∙ not-true (w .waiter-sound .result) (c .if2 .taken)) at (l .inv .2
     ∙ all-names-on (a .t4) (l .k) (waiterAt (a .t1)) (omega (arith, l .inv .3)) (e .if1 .left)))
 
 loop-again : tie.Need-loop-again Inv-loop μ-loop
-loop-again c = let w = c .before in let e = w .before .before .before in let l = e .before .before .loop in let s = e .before .before .before in let a = s .args in
-    let n = waiter-named (a .t1) (a .t4) (l .k) (omega (arith, l .inv .3)) (e .if1 .left) (l .inv .1) in
-    let t : w .waiter-sound .result ≡ waiterAt (a .t1) (getD (a .t4) (l .k) 0) = w .waiter-sound .ensures (a .t1) refl (s .pre .0) (n .1)
-    ∙ ap (waiterSound (a .t1) (getD (a .t4) (l .k) 0)) (w .before .awaited .ensures) in (
-      search needs,
-      rw (add-one (l .k)) (names-left (rightName (a .t1) false) (a .t4) (l .k) (omega (arith, l .inv .3)) (e .if1 .left) (l .inv .1)),
-      rw (add-one (l .k)) (rw (sym t ∙ not-false (w .waiter-sound .result) (c .if2 .left)) at (l .inv .2
-          ∙ all-names-on (a .t4) (l .k) (waiterAt (a .t1)) (omega (arith, l .inv .3)) (e .if1 .left))),
-      l .inv .3,
-    )
+loop-again c = let w = c .before in let e = reached w in let l = at e .loop in let a = start e .args in (
+  search needs,
+  rw (add-one (l .k)) (names-left (rightName (a .t1) false) (a .t4) (l .k) (omega (arith, l .inv .3)) (e .if1 .left) (l .inv .1)),
+  rw (add-one (l .k)) (rw (sym (judged w) ∙ not-false (w .waiter-sound .result) (c .if2 .left)) at (l .inv .2
+      ∙ all-names-on (a .t4) (l .k) (waiterAt (a .t1)) (omega (arith, l .inv .3)) (e .if1 .left))),
+  l .inv .3,
+)
 
 returns-3 : tie.Need-returns-3 Inv-loop μ-loop
 returns-3 c = let l = c .before .loop in let a = c .before .before .args in let m = l .inv .3 in
@@ -83,10 +86,9 @@ waiters-sound-spec =
     loop-holds
     (λ c. search needs)
     returns
-    sub-i
-    cast-i
-    mul-q
-    element-copy-out-q
+    place-of-requires
+    (λ c. search needs)
+    (λ c. search needs)
     (λ c κs. search needs)
     waiter-sound-requires
     returns-2

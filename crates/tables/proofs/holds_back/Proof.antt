@@ -1,39 +1,35 @@
 -- `holds_back` meets its contract. Assumes nothing.
-use mathlib.Core.Path.{ap, _∙_}
-use mathlib.Core.Bool.{Bool, not, _||_}
-use Prim.Native.Nat.{_+_, _-_}
-use lib.Bits.{bitAnd, bitOr}
-use lib.Dec.{eqb}
-use lib.ListN.{getD}
-use Rattle.files.proofs.Bits.{or-none}
+use mathlib.Core.Path.{_≡_, _∙_}
+use Rattle.rules.specs.Modes.{Mode, Write, Read, byMode}
+use Rattle.theory.specs.Modes.{touching-same}
+use Rattle.tables.specs.Sets.{claimAt, openAt}
 use borrow.Author.Needs.{needs}
 use Rattle.tables.proofs.holds_back.Statement.{statement}
 use Rattle.tables.proofs.holds_back.Tie as tie
 
+module _ (c : tie.After-readable) where
+  abbrev start : tie.Start
+  start = c .before .before .before .before
+
+  open-read : (m : Mode) → byMode (c .before .before .before .writing .result) (c .before .before .reading .result) m
+      ≡ openAt (start .args .sets .now) (start .args .p) m
+  open-read Write = c .before .before .before .writing .ensures
+  open-read Read = c .before .before .reading .ensures
+
+  claims-read : (m : Mode) → byMode (c .before .writable .result) (c .readable .result) m ≡ claimAt (start .args .sets .now) (start .args .q) m
+  claims-read Write = c .before .writable .ensures
+  claims-read Read = c .readable .ensures
+
 returns : tie.Need-returns
-returns c = let a = c .before .before .before .before .args in let l = a .sets .now in
-    let w = getD l (64 + (a .p - 1)) 0 in let r = getD l (96 + (a .p - 1)) 0 in
-    let v = getD l (a .q - 1) 0 in let q = getD l (32 + (a .q - 1)) 0 in
-    or-none (bitOr (bitAnd w v) (bitAnd w q)) (bitAnd r v)
-    ∙ ap (λ (x : Bool). x || not (eqb (bitAnd r v) 0)) (or-none (bitAnd w v) (bitAnd w q))
+returns c = c .touches .ensures ∙ touching-same _ _ _ _ (open-read (c .before)) (claims-read (c .before))
 
 pub holds-back-spec : {M : Type 1} → statement M
 holds-back-spec =
     tie.close
     (tie.spec
-    (λ c. search needs)
-    (λ c. search needs)
-    (λ c. search needs)
-    (λ c. search needs)
-    (λ c. search needs)
-    (λ c. search needs)
-    (λ c. search needs)
-    (λ c. search needs)
-    (λ c. search needs)
-    (λ c. search needs)
-    (λ c. search needs)
-    (λ c. search needs)
-    (λ c. search needs)
-    (λ c. search needs)
-    (λ c. search needs)
+    (λ c κs. search needs)
+    (λ c κs. search needs)
+    (λ c κs. search needs)
+    (λ c κs. search needs)
+    (λ c κs. search needs)
     returns)

@@ -5,13 +5,28 @@ use borrow.Author.Needs.{needs}
 use Rattle.writer.proofs.put_entry.Statement.{statement}
 use Rattle.writer.proofs.put_entry.Tie as tie
 
+-- where the columns of w are written, those of the label before it, and those of verb and program before that
+abbrev with-w : tie.After-put-number2 → tie.After-put-number
+with-w r = r .before .before .before .before
+
+abbrev with-label : tie.After-put-number → tie.After-put
+with-label w = w .before .before .before .before
+
+abbrev with-head : tie.After-put → tie.After-put-head
+with-head l = l .before .before .before .before
+
+abbrev start : tie.After-put-head → tie.Start
+start h = h .before .before .before .before
+
 returns : tie.Need-returns
 returns c =
-    let r = c .before .before .put-number2 in
-    let w = c .before .before .before .before .before .before .put-number in
-    let l = c .before .before .before .before .before .before .before .before .before .before .put in
-    let h = c .before .before .before .before .before .before .before .before .before .before .before .before .before .before .put-head in
-    let s = c .before .before .before .before .before .before .before .before .before .before .before .before .before .before .before .before .before .before in
+    let k = c .before .before in
+    let r = k .put-number2 in
+    let w = with-w k .put-number in
+    let l = with-label (with-w k) .put in
+    let p = with-head (with-label (with-w k)) in
+    let h = p .put-head in
+    let s = start p in
     let a = s .args in (
       omega (arith, r .ensures .0, w .ensures .0, l .ensures .0, h .ensures .0, s .pre .1),
       entry-put (a .program) (a .w) (a .r) (a .label .now) (a .line .now) (h .last .0) (l .last .0) (w .last .0) (r .last .0)

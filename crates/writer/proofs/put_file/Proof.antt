@@ -4,8 +4,8 @@ use mathlib.Core.Bool.{true}
 use mathlib.Core.List.{List}
 use Prim.Native.Nat.{ℕ}
 use native.Mathlib.Omega.{arith}
+use Rattle.columns.specs.Columns.{putAt}
 use Rattle.files.specs.Sets.{member}
-use Rattle.writer.specs.Rows.{putAt}
 use Rattle.writer.proofs.Laws.{columns-in, columns-out, put-none}
 use borrow.Author.Needs.{needs}
 use Rattle.writer.proofs.put_file.Statement.{statement}

@@ -5,7 +5,7 @@ use native.Mathlib.Omega.{arith}
 use lib.ListN.{length}
 use Rattle.files.specs.Sets.{member}
 use Rattle.request.specs.Requests.{filesOf, filesColumns}
-use Rattle.writer.specs.Rows.{putAt}
+use Rattle.columns.specs.Columns.{putAt}
 use Rattle.writer.proofs.Laws.{filesFrom, count-more, columns-if, files-end, put-step, ends}
 use Rattle.writer.proofs.put_files.Statement.{statement}
 use Rattle.writer.proofs.put_files.Tie as tie

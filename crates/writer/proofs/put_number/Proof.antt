@@ -2,7 +2,7 @@
 use mathlib.Core.Path.{ap, _∙_}
 use lib.ListN.{length}
 use native.Mathlib.Omega.{arith}
-use Rattle.writer.proofs.Laws.{columns-length}
+use Rattle.columns.proofs.Laws.{columns-length}
 use borrow.Author.Needs.{needs}
 use Rattle.writer.proofs.put_number.Statement.{statement}
 use Rattle.writer.proofs.put_number.Tie as tie

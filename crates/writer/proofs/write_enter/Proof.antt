@@ -10,19 +10,31 @@ returns : tie.Need-returns
 returns c = let a = c .before .before .before .args in
     enter-refused (a .program) (a .writable) (a .readable) (a .label .now) (a .line .now) (label-size (a .label .now) (c .if1 .taken))
 
+-- where the label has eight bytes
+abbrev eight : tie.After-is-label → tie.Else1
+eight k = k .before
+
+abbrev start : tie.Else1 → tie.Start
+start e = e .before .before .before
+
 returns-2 : tie.Need-returns-2
-returns-2 c = let k = c .before .is-label in let a = c .before .before .before .before .before .args in
+returns-2 c = let k = c .before .is-label in let a = start (eight (c .before)) .args in
     enter-refused (a .program) (a .writable) (a .readable) (a .label .now) (a .line .now)
     (label-bad (a .label .now) (sym (k .ensures) ∙ not-true (k .result) (c .if2 .taken)))
+
+-- where all of them are label bytes
+abbrev good : tie.After-write-entry → tie.Else2
+good w = w .before .before
 
 returns-3 : tie.Need-returns-3
 returns-3 c =
     let w = c .before .before .write-entry in
-    let i = c .before .before .before .before in
+    let i = good (c .before .before) in
     let k = i .before .is-label in
-    let a = i .before .before .before .before .before .args in
+    let e = eight (i .before) in
+    let a = start e .args in
     enter-placed (a .program) (a .writable) (a .readable) (a .label .now) (a .line .now) (w .result) _
-    (label-good (a .label .now) (i .before .before .if1 .left) (sym (k .ensures) ∙ not-false (k .result) (i .if2 .left)))
+    (label-good (a .label .now) (e .if1 .left) (sym (k .ensures) ∙ not-false (k .result) (i .if2 .left)))
     (w .ensures .0, w .ensures .1)
 
 pub write-enter-spec : {M : Type 1} → statement M

@@ -2,23 +2,26 @@
 use Prim.Native.Nat.{ℕ, _+_, _*_, _≤_}
 use mathlib.Core.Path.{_≡_, ap₂, _∙_}
 use lib.ListN.{length}
+use Rattle.columns.specs.Columns.{putAt}
 use Rattle.rules.specs.Calls.{Enter}
 use Rattle.request.specs.Requests.{filesOf, lineOf}
 use native.Mathlib.Omega.{arith}
 use Rattle.request.proofs.Groups.{files-length}
-use Rattle.writer.specs.Rows.{putAt, entryColumns}
+use Rattle.writer.specs.Rows.{entryColumns}
 use Rattle.writer.proofs.Laws.{enter-length, enter-put, placed-short, placed-all}
 use borrow.Author.Needs.{needs}
 use Rattle.writer.proofs.write_entry.Statement.{statement}
 use Rattle.writer.proofs.write_entry.Tie as tie
 
+-- where the counts are known
+abbrev start : tie.After-count2 → tie.Start
+start k = k .before .before .before .before
+
 -- a set has at most 64 files
-few : (c : tie.After-count2) → (c .before .count .result ≤ 64) × (c .count2 .result ≤ 64)
-few c =
-    let a = c .before .before .before .before .args in
-    let v = files-length (a .writable) in
-    let q = files-length (a .readable) in
-    (omega (arith, v, c .before .count .ensures), omega (arith, q, c .count2 .ensures))
+few : (k : tie.After-count2) → (k .before .count .result ≤ 64) × (k .count2 .result ≤ 64)
+few k = let a = start k .args in
+    let v = files-length (a .writable) in let q = files-length (a .readable) in
+    (omega (arith, v, k .before .count .ensures), omega (arith, q, k .count2 .ensures))
 
 add-len : tie.Need-add-len
 add-len c = let n = few c in search (needs, n)
@@ -32,27 +35,38 @@ add-len-2 c = let n = few c in search (needs, n)
 returns : tie.Need-returns
 returns c =
     let k = c .before in
-    let s = c .before .before .before .before .before in
+    let s = start k in
     let a = s .args in
     placed-short (lineOf (Enter (a .program) (a .writable) (a .readable)) (a .label .now)) (a .line .now)
     (23 + 3 * (length (filesOf (a .writable)) + length (filesOf (a .readable))))
     (enter-length (a .program) (a .writable) (a .readable) (a .label .now) (s .pre))
     (omega (arith, c .if1 .taken, k .before .count .ensures, k .count2 .ensures))
 
+-- where the files of V are written, and the columns before them
+abbrev with-v : tie.After-put-files2 → tie.After-put-files
+with-v y = y .before .before .before .before
+
+abbrev with-entry : tie.After-put-files → tie.After-put-entry
+with-entry x = x .before .before .before .before
+
+-- where the line is known to fit
+abbrev fits : tie.After-put-entry → tie.Else1
+fits h = h .before .before
+
 returns-2 : tie.Need-returns-2
 returns-2 c =
     let y = c .before .before .put-files2 in
-    let x = c .before .before .before .before .before .before .put-files in
-    let h = c .before .before .before .before .before .before .before .before .before .before .put-entry in
-    let i = c .before .before .before .before .before .before .before .before .before .before .before .before in
-    let k = i .before in
-    let s = k .before .before .before .before in
+    let x = with-v (c .before .before) .put-files in
+    let p = with-entry (with-v (c .before .before)) in
+    let h = p .put-entry in
+    let k = fits p .before in
+    let s = start k in
     let a = s .args in
     let v = a .writable in
     let q = a .readable in
     let n = k .before .count .ensures in
     let m = k .count2 .ensures in
-    let room : 23 + 3 * (length (filesOf v) + length (filesOf q)) ≤ length (a .line .now) = omega (arith, i .if1 .left, n, m) in
+    let room : 23 + 3 * (length (filesOf v) + length (filesOf q)) ≤ length (a .line .now) = omega (arith, fits p .if1 .left, n, m) in
     let e : h .last .0 ≡ putAt 0 (entryColumns (a .program) (a .label .now) (length (filesOf v)) (length (filesOf q))) (a .line .now) =
     h .ensures .1 ∙ ap₂ (λ (x y : ℕ). putAt 0 (entryColumns (a .program) (a .label .now) x y) (a .line .now)) n m in
     placed-all (lineOf (Enter (a .program) v q) (a .label .now)) (a .line .now) (y .last .0)

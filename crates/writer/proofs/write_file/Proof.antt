@@ -14,21 +14,32 @@ returns : tie.Need-returns
 returns c = let k = c .before .is-number in let a = c .before .before .before .args in
     file-refused (a .verb) (a .program) (a .file) (a .line .now) (sym (k .ensures) ∙ not-true (k .result) (c .if1 .taken))
 
+abbrev start : tie.Else1 → tie.Start
+start e = e .before .before .before
+
 -- the file is one
-is-file : (c : tie.Else1) → isFile (c .before .before .before .args .file) ≡ true
+is-file : (c : tie.Else1) → isFile (start c .args .file) ≡ true
 is-file c = let k = c .before .is-number in sym (k .ensures) ∙ not-false (k .result) (c .if1 .left)
 
 returns-2 : tie.Need-returns-2
-returns-2 c = let a = c .before .before .before .before .args in
+returns-2 c = let a = start (c .before) .args in
     file-placed (a .verb) (a .program) (a .file) (a .line .now) _ _ (is-file (c .before))
     (placed-short (fileLine (a .verb) (a .program) (a .file)) (a .line .now) 12 (file-length (a .verb) (a .program) (a .file)) (c .if2 .taken))
+
+-- where the line is known to fit, and the columns of verb and program are written
+abbrev with-head : tie.After-put-number → tie.After-put-head
+with-head k = k .before .before .before .before
+
+abbrev fits : tie.After-put-head → tie.Else2
+fits h = h .before .before
 
 returns-3 : tie.Need-returns-3
 returns-3 c =
     let k = c .before .before .put-number in
-    let h = c .before .before .before .before .before .before .put-head in
-    let i = c .before .before .before .before .before .before .before .before in
-    let a = i .before .before .before .before .args in
+    let p = with-head (c .before .before) in
+    let h = p .put-head in
+    let i = fits p in
+    let a = start (i .before) .args in
     let e = file-put (a .verb) (a .program) (a .file) (h .result) (a .line .now) (h .last .0) (k .last .0)
     (i .if2 .left) (h .ensures .0) (h .ensures .1) (k .ensures .1) in
     file-placed (a .verb) (a .program) (a .file) (a .line .now) _ _ (is-file (i .before))

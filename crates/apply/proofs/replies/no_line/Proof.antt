@@ -1,6 +1,6 @@
 -- `no_line` meets its contract. Assumes nothing.
 use mathlib.Core.Path.{refl}
-use Rattle.rules.specs.Lists.{padded}
+use Rattle.laws.specs.Lists.{padded}
 use Rattle.apply.proofs.replies.no_line.Statement.{statement}
 use Rattle.apply.proofs.replies.no_line.Tie as tie
 

@@ -1,6 +1,6 @@
 -- `one_line` meets its contract. Assumes nothing.
 use mathlib.Core.Path.{refl}
-use Rattle.rules.specs.Lists.{padded}
+use Rattle.laws.specs.Lists.{padded}
 use borrow.Author.Needs.{needs}
 use Rattle.apply.proofs.replies.one_line.Statement.{statement}
 use Rattle.apply.proofs.replies.one_line.Tie as tie

@@ -1,6 +1,6 @@
 -- `refused_unsound` meets its contract. Assumes nothing.
 use mathlib.Core.Path.{refl}
-use Rattle.rules.specs.Lists.{padded}
+use Rattle.laws.specs.Lists.{padded}
 use Rattle.rules.specs.Replies.{refuseUnsound}
 use Rattle.apply.proofs.replies.refused_unsound.Statement.{statement}
 use Rattle.apply.proofs.replies.refused_unsound.Tie as tie

@@ -77,8 +77,11 @@ walk-back-returns-2 : (t : ℕ) → walk-back-lts.Need-returns-2 (
   walk-back-below t,
   walk-back.Post,
 ) (walk-back-at t) walk-back.Post
-walk-back-returns-2 t c = let a = c .before .before .before .args in let y = c .before .lowest-holder in
-    (walk-alone (a .rows .now) (a .set) (a .x) (is-x t (c .before .before .before)) (a .n) (drop (a .k) (a .at)) (y .result) (c .before .before .if1 .left) (y .ensures .0) (c .if2 .taken), omega arith)
+walk-back-returns-2 t c = let a = c .before .before .before .args in let y = c .before .lowest-holder in (
+  walk-alone (a .rows .now) (a .set) (a .x) (is-x t (c .before .before .before)) (a .n) (drop (a .k) (a .at)) (y .result)
+      (c .before .before .if1 .left) (y .ensures .0) (c .if2 .taken),
+  omega arith,
+)
 
 walk-back-returns-3 : (t : ℕ) → walk-back-lts.Need-returns-3 (
   lowest-holder-reads.Asked,
@@ -93,7 +96,8 @@ walk-back-returns-3 : (t : ℕ) → walk-back-lts.Need-returns-3 (
 walk-back-returns-3 t c = let j = c .before .before in let y = j .before .before in let a = y .before .before .args in
     let l = at-length t (y .before .before) in
     let z : a .n ≢ 0 = y .before .if1 .left in (
-      c .loop-at .ensures .0 ∙ walk-found (a .rows .now) (a .set) (a .x) (is-x t (y .before .before)) (a .at) (a .k) (y .lowest-holder .result) (j .place-of .result) l (omega arith) (omega arith)
+      c .loop-at .ensures .0 ∙ walk-found (a .rows .now) (a .set) (a .x) (is-x t (y .before .before)) (a .at) (a .k)
+          (y .lowest-holder .result) (j .place-of .result) l (omega arith) (omega arith)
           (y .lowest-holder .ensures .0) (j .before .if2 .left) (j .place-of .ensures) (a .n) z (c .before .if3 .taken),
       c .loop-at .ensures .1,
     )
@@ -111,8 +115,9 @@ walk-back-returns-4 : (t : ℕ) → walk-back-lts.Need-returns-4 (
 walk-back-returns-4 t c = let j = c .before .before in let y = j .before .before in let a = y .before .before .args in
     let l = at-length t (y .before .before) in
     let z : a .n ≢ 0 = y .before .if1 .left in (
-      c .walk-back .ensures .0 ∙ walk-on (a .rows .now) (a .set) (a .x) (is-x t (y .before .before)) (a .at) (a .k) (y .lowest-holder .result) (j .place-of .result) l
-          (omega arith) (omega arith) (y .lowest-holder .ensures .0) (j .before .if2 .left) (j .place-of .ensures) (a .n) z (omega (arith, c .before .if3 .left)),
+      c .walk-back .ensures .0 ∙ walk-on (a .rows .now) (a .set) (a .x) (is-x t (y .before .before)) (a .at) (a .k)
+          (y .lowest-holder .result) (j .place-of .result) l (omega arith) (omega arith) (y .lowest-holder .ensures .0)
+          (j .before .if2 .left) (j .place-of .ensures) (a .n) z (omega (arith, c .before .if3 .left)),
       c .walk-back .ensures .1,
     )
 

@@ -11,7 +11,8 @@ close-rows-requires : tie.Need-close-rows-requires
 close-rows-requires c κs = let f = c .before in let b = f .before .before .args .b in ap length (f .fill-steps .ensures ∙ steps-are b) ∙ says-length (step b)
 
 returns : tie.Need-returns
-returns c = let r = c .before .before .before in let f = r .before .before in let b = f .before .before .args .b in let e = f .fill-steps .ensures ∙ steps-are b in
+returns c = let r = c .before .before .before in let f = r .before .before in let b = f .before .before .args .b in
+    let e = f .fill-steps .ensures ∙ steps-are b in
     c .find-in .ensures b e (matrix-of b _ (r .close-rows .ensures .1 (step b) e))
 
 pub find-spec : {M : Type 1} → statement M

@@ -5,7 +5,7 @@ use borrow.Author.Tests.{not-true, not-false}
 use borrow.Author.Needs.{needs}
 use Rattle.tables.specs.ProgramSets.{hasProgram}
 use Rattle.theory.specs.Programs.{Is}
-use Rattle.digraph.proofs.LoopLaws.{is-in}
+use Rattle.tables.proofs.Laws.{set-is}
 use Rattle.digraph.proofs.loops.follows.Statement.{statement}
 use Rattle.digraph.proofs.loops.follows.Tie as tie
 
@@ -13,7 +13,7 @@ left-has : (c : tie.Else1) → let a = c .before .before .args in hasProgram (a 
 left-has c = let h = c .before .has in sym (h .ensures) ∙ not-false (h .result) (c .if1 .left)
 
 is-program : (c : tie.Else1) → Is (c .before .before .args .p)
-is-program c = let a = c .before .before .args in is-in (a .left) (a .p) (left-has c)
+is-program c = let a = c .before .before .args in set-is (a .left) (a .p) (left-has c)
 
 returns : tie.Need-returns
 returns c = let h = c .before .has in rw (sym (h .ensures) ∙ not-true (h .result) (c .if1 .taken))

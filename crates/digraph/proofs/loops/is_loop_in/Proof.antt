@@ -26,19 +26,21 @@ loop-holds : tie.Need-loop-holds Inv-loop μ-loop
 loop-holds c = let a = c .before .before .before .args in let h = c .before .if1 .left in
     (search needs, goes-is (a .rows .now) (a .l .now) (omega (arith, h)))
 
+abbrev start : tie.At-loop Inv-loop μ-loop → tie.Start Inv-loop μ-loop
+start s = s .before .before .before .before
+
 returns-2 : tie.Need-returns-2 Inv-loop μ-loop
-returns-2 c = let l = c .before .before .before .before .loop in let a = c .before .before .before .before .before .before .before .before .args in
-    let f = c .before .follows in
-    sym (l .inv .1 ∙ goes-fail (a .rows .now) (a .l .now) (l .i) (l .left) (l .before) (omega arith) (sym (f .ensures) ∙ not-true (f .result) (c .if2 .taken)))
+returns-2 c = let s = c .before .before .before .before in let l = s .loop in let a = start s .args in let f = c .before .follows in
+    sym (l .inv .1 ∙ goes-fail (a .rows .now) (a .l .now) (l .i) (l .left) (l .before) (omega arith)
+    (sym (f .ensures) ∙ not-true (f .result) (c .if2 .taken)))
 
 loop-again : tie.Need-loop-again Inv-loop μ-loop
-loop-again c = let l = c .before .before .before .before .before .loop in
-    let a = c .before .before .before .before .before .before .before .before .before .args in let f = c .before .before .follows in (
-      search needs,
-      l .inv .1 ∙ goes-pass (a .rows .now) (a .l .now) (l .i) (l .left) (l .before) (omega arith)
-          (sym (f .ensures) ∙ not-false (f .result) (c .before .if2 .left))
-          ∙ ap (λ (s : ProgramSet). goes (a .rows .now) s (getD (a .l .now) (l .i) 0) (drop (l .i + 1) (a .l .now))) (sym (c .without .ensures)),
-    )
+loop-again c = let s = c .before .before .before .before .before in let l = s .loop in let a = start s .args in let f = c .before .before .follows in (
+  search needs,
+  l .inv .1 ∙ goes-pass (a .rows .now) (a .l .now) (l .i) (l .left) (l .before) (omega arith)
+      (sym (f .ensures) ∙ not-false (f .result) (c .before .if2 .left))
+      ∙ ap (λ (s : ProgramSet). goes (a .rows .now) s (getD (a .l .now) (l .i) 0) (drop (l .i + 1) (a .l .now))) (sym (c .without .ensures)),
+)
 
 returns-3 : tie.Need-returns-3 Inv-loop μ-loop
 returns-3 c = let l = c .before .loop in let a = c .before .before .before .before .before .args in

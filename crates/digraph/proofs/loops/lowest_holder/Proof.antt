@@ -12,7 +12,8 @@ use Rattle.digraph.proofs.loops.lowest_holder.Statement.{statement}
 use Rattle.digraph.proofs.loops.lowest_holder.Tie as tie
 
 -- those of the set that hold back x
-by-is : (c : tie.After-and) → let a = c .before .before .before .args in c .and .result ≡ commonOf (withoutProgram (rowOf (a .rows .now) (a .x)) (a .x)) (a .set)
+by-is : (c : tie.After-and) → let a = c .before .before .before .args in
+    c .and .result ≡ commonOf (withoutProgram (rowOf (a .rows .now) (a .x)) (a .x)) (a .set)
 by-is c = c .and .ensures ∙ ap (λ (s : ProgramSet). commonOf s (c .before .before .before .args .set)) (c .before .without .ensures)
 
 is-x : (s : tie.Start) → isProgram (s .args .x) ≡ true

@@ -10,7 +10,8 @@ put-order-requires : tie.Need-put-order-requires
 put-order-requires c κs = c .before .before .find-for .ensures .fits
 
 returns : tie.Need-returns
-returns c = let f = c .before .before .before .before .before .find-for in let a = c .before .before .before .before .before .before .before .args in let p = c .before .before .put-order in
+returns c = let p = c .before .before .put-order in let s = c .before .before .before .before .before in
+    let f = s .find-for in let a = s .before .before .args in
     let n : length (f .result .at) ≡ 32 = search needs in
     loop-placed (a .b) (a .p) (f .result) (a .list .now) _ (p .result) (f .ensures) n (search needs) (p .ensures .0) (p .ensures .1)
 

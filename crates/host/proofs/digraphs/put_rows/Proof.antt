@@ -26,12 +26,21 @@ loop-holds c = (omega arith, refl, refl)
 put-at-requires : tie.Need-put-at-requires Inv-loop μ-loop
 put-at-requires c κs = omega (arith, ap length (c .before .before .row-bytes .ensures) ∙ row-length _)
 
+-- where a row's bytes are known, and the turn they are for
+abbrev bytes : tie.After-put-at Inv-loop μ-loop → tie.After-row-bytes Inv-loop μ-loop
+bytes p = p .before .before .before
+
+abbrev turn : tie.After-row-bytes Inv-loop μ-loop → tie.At-loop Inv-loop μ-loop
+turn r = r .before .before
+
 loop-again : tie.Need-loop-again Inv-loop μ-loop
-loop-again c = let l = c .before .before .before .before .before .before .before .loop in let a = c .before .before .before .before .before .before .before .before .before .args in let r = c .before .before .before .before .before .row-bytes in let p = c .before .before .put-at in
+loop-again c = let p = c .before .before in let r = bytes p in let t = turn r in
+    let l = t .loop in let a = t .before .before .args in
     let n : length (a .t2) ≡ 32 = search needs in (
       omega arith,
-      p .kept .0 ∙ l .inv .1,
-      put-row (bytesN 4) 4 row-length (a .out .now) (l .out) (p .last .0) (r .result) (a .t2) 0 (l .i) (omega (arith, n)) (l .inv .2) (r .ensures) (p .ensures),
+      p .put-at .kept .0 ∙ l .inv .1,
+      put-row (bytesN 4) 4 row-length (a .out .now) (l .out) (p .put-at .last .0) (r .row-bytes .result) (a .t2) 0 (l .i)
+          (omega (arith, n)) (l .inv .2) (r .row-bytes .ensures) (p .put-at .ensures),
     )
 
 same-length : tie.Need-same-length Inv-loop μ-loop

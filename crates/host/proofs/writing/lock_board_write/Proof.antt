@@ -8,6 +8,9 @@ use borrow.Author.Needs.{needs}
 use Rattle.host.proofs.writing.lock_board_write.Statement.{statement}
 use Rattle.host.proofs.writing.lock_board_write.Tie as tie
 
+abbrev start : tie.Else1 → tie.Start
+start e = e .before .before .before
+
 returns : tie.Need-returns
 returns c =
     let a = c .before .before .before .before .args in
@@ -17,17 +20,25 @@ returns c =
 
 returns-2 : tie.Need-returns-2
 returns-2 c =
-    let a = c .before .before .before .before .before .args in
+    let a = start (c .before .before) .args in
     let e = write-refused (a .verb) (a .program) (a .file) (a .writable) (a .readable) (a .label .now) (a .line .now)
     (far-number 6 (a .verb) (c .before .if2 .taken)) in
     (c .refusal-answer2 .ensures ∙ e .0, e .1)
 
+-- where the number is known to be a verb's, and the verb is known
+abbrev known : tie.After-write → tie.After-verb-of
+known w = w .before .before
+
+abbrev in-range : tie.After-verb-of → tie.Else2
+in-range v = v .before
+
 returns-3 : tie.Need-returns-3
 returns-3 c =
     let w = c .before .before .before .write in
-    let v = c .before .before .before .before .before .verb-of in
-    let i = c .before .before .before .before .before .before in
-    let a = i .before .before .before .before .args in
+    let k = known (c .before .before .before) in
+    let v = k .verb-of in
+    let i = in-range k in
+    let a = start (i .before) .args in
     write-done (a .verb) (a .program) (a .file) (a .writable) (a .readable) (a .label .now) (a .line .now)
     (v .result) (w .result) (c .answer-of .result) (w .last .1 .1 .0) (is-number 6 (a .verb) (omega (arith, i .before .if1 .left)) (i .if2 .left))
     (v .ensures) (w .ensures .0) (c .answer-of .ensures) (w .ensures .1)

@@ -1,45 +1,62 @@
 -- `in_use` meets its contract. Assumes nothing.
-use mathlib.Core.Path.{_≡_, sym, ap₂, _∙_}
-use mathlib.Core.Bool.{Bool, true, false, _&&_, _||_}
-use Prim.Native.Nat.{_-_}
-use lib.ListN.{getD}
+use mathlib.Core.Path.{_≡_, sym, ap, _∙_}
 use borrow.Author.Tests.{not-true, not-false}
+use Rattle.files.specs.declared.FileSet.{FileSet}
 use Rattle.files.specs.Sets.{member}
-use Rattle.files.proofs.Tests.{or-left}
+use Rattle.laws.specs.Tests.{by-test}
+use Rattle.rules.specs.Modes.{Write}
+use Rattle.tables.specs.Sets.{claimAt, openAt}
+use Rattle.tables.specs.Shared.{othersOf}
 use borrow.Author.Needs.{needs}
 use Rattle.search.proofs.gives.in_use.Statement.{statement}
 use Rattle.search.proofs.gives.in_use.Tie as tie
 
+abbrev start : tie.After-has → tie.Start
+start h = h .before .before .before .before
+
+-- whether another has f open for writing
+written : (h : tie.After-has) → let a = start h .args in
+    h .has .result ≡ member (othersOf (a .u .files .writing) (openAt (a .sets .now) (a .p) Write)) (a .f)
+written h = let o = h .before in let a = start h .args in
+    h .has .ensures ∙ ap (λ (s : FileSet). member s (a .f)) (o .by-others .ensures
+    ∙ ap (othersOf (a .u .files .writing)) (o .before .before .writing .ensures))
+
+-- whether p may write f
+abbrev looked : tie.After-has2 → tie.After-has
+looked h = h .before .before .before
+
+may-write : (h : tie.After-has2) → let a = start (looked h) .args in
+    h .has2 .result ≡ member (claimAt (a .sets .now) (a .p) Write) (a .f)
+may-write h = let a = start (looked h) .args in
+    h .has2 .ensures ∙ ap (λ (s : FileSet). member s (a .f)) (h .before .writable .ensures)
+
 returns : tie.Need-returns
-returns c = let g = c .before .before .before .args in
-    let w : member (g .u .written) (g .f) ≡ true = sym (c .before .has .ensures) ∙ c .if1 .taken in
-    sym (or-left (member (g .u .written) (g .f)) _ w)
+returns c = let h = c .before in let a = start h .args in
+    by-test (member (claimAt (a .sets .now) (a .p) Write) (a .f))
+    (λ t. rw (t, sym (written h) ∙ c .if1 .taken)) (λ t. rw (t, sym (written h) ∙ c .if1 .taken))
 
 returns-2 : tie.Need-returns-2
-returns-2 c = let i = c .before .before .before in let g = i .before .before .before .args in
-    let w : member (g .u .written) (g .f) ≡ false = sym (i .before .has .ensures) ∙ i .if1 .left in
-    let v : member (record { bits = getD (g .sets .now) (g .p - 1) 0 }) (g .f) ≡ false = sym (c .before .has2 .ensures)
-    ∙ not-true (c .before .has2 .result) (c .if2 .taken) in
-    sym (ap₂ (λ (x y : Bool). x || (y && member (g .u .read) (g .f))) w v)
+returns-2 c = let m = c .before in
+    rw (sym (may-write m) ∙ not-true (m .has2 .result) (c .if2 .taken), sym (written (looked m)) ∙ m .before .before .if1 .left)
 
 returns-3 : tie.Need-returns-3
-returns-3 c = let j = c .before .before in let i = j .before .before .before in let g = i .before .before .before .args in
-    let w : member (g .u .written) (g .f) ≡ false = sym (i .before .has .ensures) ∙ i .if1 .left in
-    let v : member (record { bits = getD (g .sets .now) (g .p - 1) 0 }) (g .f) ≡ true = sym (j .before .has2 .ensures)
-    ∙ not-false (j .before .has2 .result) (j .if2 .left) in
-    c .has3 .ensures ∙ sym (ap₂ (λ (x y : Bool). x || (y && member (g .u .read) (g .f))) w v)
+returns-3 c = let o = c .before in let j = o .before .before .before in let m = j .before in let a = start (looked m) .args in
+    rw (sym (may-write m) ∙ not-false (m .has2 .result) (j .if2 .left), sym (written (looked m)) ∙ m .before .before .if1 .left)
+    (c .has3 .ensures ∙ ap (λ (s : FileSet). member s (a .f)) (o .by-others2 .ensures
+    ∙ ap (othersOf (a .u .files .reading)) (o .before .before .reading .ensures)))
 
 pub in-use-spec : {M : Type 1} → statement M
 in-use-spec =
     tie.close
     (tie.spec
     (λ c κs. search needs)
+    (λ c κs. search needs)
+    (λ c κs. search needs)
     returns
-    (λ c. search needs)
-    (λ c. search needs)
-    (λ c. search needs)
-    (λ c. search needs)
+    (λ c κs. search needs)
     (λ c κs. search needs)
     returns-2
+    (λ c κs. search needs)
+    (λ c κs. search needs)
     (λ c κs. search needs)
     returns-3)

@@ -16,5 +16,4 @@ returns c = let g = c .before .before .before .before .before in let a = g .befo
 )
 
 pub order-given-spec : {M : Type 1} → statement M
-order-given-spec =
-    tie.close (tie.spec (λ c. search needs) (λ c. search needs) (λ c κs. search needs) (λ c κs. search needs) (λ c κs. search needs) returns)
+order-given-spec = tie.close (tie.spec (λ c κs. search needs) (λ c κs. search needs) (λ c κs. search needs) returns)

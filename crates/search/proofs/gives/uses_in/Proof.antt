@@ -4,7 +4,7 @@ use Rattle.search.proofs.gives.uses_in.Statement.{statement}
 use Rattle.search.proofs.gives.uses_in.Tie as tie
 
 returns : tie.Need-returns
-returns c = rw (c .opened2 .ensures, c .before .opened .ensures)
+returns c = rw (c .opened .ensures)
 
 pub uses-in-spec : {M : Type 1} → statement M
-uses-in-spec = tie.close (tie.spec (λ c κs. search needs) (λ c κs. search needs) returns)
+uses-in-spec = tie.close (tie.spec (λ c κs. search needs) returns)

@@ -5,9 +5,9 @@ use mathlib.Core.Option.{Option, Option·getD}
 use Prim.Native.Nat.{ℕ, _-_, _≤_}
 use native.Mathlib.Numerals.{add-one}
 use native.Mathlib.Omega.{arith}
-use lib.ListN.{length, drop}
+use lib.ListN.{length, getD, drop}
 use borrow.Author.Tests.{eq-eqb, ne-eqb}
-use Rattle.rules.specs.Lists.{all, first, names}
+use Rattle.laws.specs.Lists.{all, first, names}
 use Rattle.rules.specs.Boards.{isProgram}
 use Rattle.rules.specs.Settling.{overdue}
 use Rattle.lines.proofs.Laws.{names-stop, names-end, name-range, names-left}
@@ -33,30 +33,24 @@ returns c = let l = c .before .before .loop in let b = c .before .before .before
     sym (ap (λ (x : Option ℕ). Option·getD x 0) (l .inv .2 ∙ first-none-left (due b) (names (drop (l .k) (b .waiting)))
     (names-stop (b .waiting) (l .k) (omega arith) (c .if1 .taken))))
 
-sub-i : tie.Need-sub-i Inv-loop μ-loop
-sub-i c = let l = c .before .before .loop in let b = c .before .before .before .before .args .t1 in let m = l .inv .3 in
-    let n = name-range (b .waiting) (l .k) (omega arith) (c .if1 .left) (l .inv .1) in let h = n .0 in let j = n .1 in h
-
-cast-i : tie.Need-cast-i Inv-loop μ-loop
-cast-i c = let l = c .before .before .loop in let b = c .before .before .before .before .args .t1 in let m = l .inv .3 in
-    let n = name-range (b .waiting) (l .k) (omega arith) (c .if1 .left) (l .inv .1) in let h = n .0 in let j = n .1 in omega arith
-
-element-copy-out-if2 : tie.Need-element-copy-out-if2 Inv-loop μ-loop
-element-copy-out-if2 c = let l = c .before .before .loop in let b = c .before .before .before .before .args .t1 in let m = l .inv .3 in
-    let n = name-range (b .waiting) (l .k) (omega arith) (c .if1 .left) (l .inv .1) in let h = n .0 in let j = n .1 in omega arith
+place-of-requires : tie.Need-place-of-requires Inv-loop μ-loop
+place-of-requires c κs = let l = c .before .before .loop in let b = c .before .before .before .before .args .t1 in let m = l .inv .3 in
+    name-range (b .waiting) (l .k) (omega arith) (c .if1 .left) (l .inv .1)
 
 returns-2 : tie.Need-returns-2 Inv-loop μ-loop
 returns-2 c =
-    let i = c .before .before in let l = i .before .before .loop in let b = i .before .before .before .before .args .t1 in let m = l .inv .3 in
-    sym (rw (eq-eqb _ 8 (c .if2 .taken)) at (ap (λ (x : Option ℕ). Option·getD x 0) (l .inv .2
-    ∙ first-names-on (due b) (b .waiting) (l .k) (omega arith) (i .if1 .left))))
+    let i = c .before .before .before in let l = i .before .before .loop in let b = i .before .before .before .before .args .t1 in let m = l .inv .3 in
+    sym (rw (eq-eqb (getD (b .passed) (getD (b .waiting) (l .k) 0 - 1) 0) 8
+    (ap (λ (j : ℕ). getD (b .passed) j 0) (sym (c .before .before .place-of .ensures .0)) ∙ c .if2 .taken)) at
+    (ap (λ (x : Option ℕ). Option·getD x 0) (l .inv .2 ∙ first-names-on (due b) (b .waiting) (l .k) (omega arith) (i .if1 .left))))
 
 loop-again : tie.Need-loop-again Inv-loop μ-loop
 loop-again c =
-    let i = c .before .before in let l = i .before .before .loop in let b = i .before .before .before .before .args .t1 in let m = l .inv .3 in (
+    let i = c .before .before .before in let l = i .before .before .loop in let b = i .before .before .before .before .args .t1 in let m = l .inv .3 in (
       search needs,
       rw (add-one (l .k)) (names-left isProgram (b .waiting) (l .k) (omega arith) (i .if1 .left) (l .inv .1)),
-      rw (add-one (l .k)) (rw (ne-eqb _ 8 (c .if2 .left)) at (l .inv .2
+      rw (add-one (l .k)) (rw (ne-eqb (getD (b .passed) (getD (b .waiting) (l .k) 0 - 1) 0) 8
+          (λ d. c .if2 .left (ap (λ (j : ℕ). getD (b .passed) j 0) (c .before .before .place-of .ensures .0) ∙ d))) at (l .inv .2
           ∙ first-names-on (due b) (b .waiting) (l .k) (omega arith) (i .if1 .left))),
       m,
     )
@@ -75,9 +69,8 @@ oldest-overdue-spec =
     loop-holds
     (λ c. search needs)
     returns
-    sub-i
-    cast-i
-    element-copy-out-if2
+    place-of-requires
+    (λ c. search needs)
     returns-2
     (λ c. search needs)
     (λ c. search needs)

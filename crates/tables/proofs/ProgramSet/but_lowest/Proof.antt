@@ -1,6 +1,6 @@
 -- `but_lowest` meets its contract. Assumes nothing.
 use mathlib.Core.Path.{ap}
-use Prim.Native.Nat.{ℕ, _^_, _<_}
+use Prim.Native.Nat.{_^_, _<_}
 use Rattle.tables.specs.declared.ProgramSet.{ProgramSet}
 use borrow.Author.Needs.{needs}
 use Rattle.tables.proofs.Digits.{lowest-cleared}

@@ -41,8 +41,9 @@ loop-less c = let l = c .before .before .lowest in let s = c .before .before .be
 loop-again : tie.Need-loop-again Inv-loop μ-loop
 loop-again c = let l = c .before .before .lowest in let s = c .before .before .before .before .before in let a = s .before .before .args in
     let z : l .result ≡ suc (l .result - 1) = omega (arith, l .ensures .1 .0) in
-    rw (c .but-lowest .ensures, sym (l .ensures .0)) (wrote-more (a .admitted) (rowBits (a .sets .now) (a .admitted)) (a .rows .now) (s .loop .rest) (s .loop .rows) (l .result)
-    (c .before .row-of .result .bits) (s .loop .inv) (l .ensures .1) (ap (λ (r : ProgramSet). r .bits) (c .before .row-of .ensures)
+    rw (c .but-lowest .ensures, sym (l .ensures .0)) (wrote-more (a .admitted) (rowBits (a .sets .now) (a .admitted)) (a .rows .now)
+    (s .loop .rest) (s .loop .rows) (l .result) (c .before .row-of .result .bits) (s .loop .inv) (l .ensures .1)
+    (ap (λ (r : ProgramSet). r .bits) (c .before .row-of .ensures)
     ∙ ap (λ (n : ℕ). packed (heldBy (a .sets .now) n (withoutProgram (a .admitted) n)) 32 .bits) z))
 
 returns : tie.Need-returns Inv-loop μ-loop

@@ -1,0 +1,20 @@
+-- `reply_to` meets its contract. Assumes nothing.
+use Rattle.linecall.specs.LineCall.{replyTo}
+use borrow.Author.Needs.{needs}
+use Rattle.linecall.proofs.known.reply_to.Statement.{statement}
+use Rattle.linecall.proofs.known.reply_to.Tie as tie
+
+returns : tie.Need-returns
+unfolding replyTo
+returns c =
+    rw (c .before .enum-told .given .1) (c .call .ensures)
+
+returns-2 : tie.Need-returns-2
+unfolding replyTo
+returns-2 c =
+    rw (c .before .before .reading .given .1) (c .refused .ensures)
+
+pub reply-to-spec : {M : Type 1} → statement M
+reply-to-spec =
+    tie.close
+    (tie.spec (λ c. search needs) (λ c κs. search needs) (λ c. search needs) (λ c κs. search needs) returns returns-2)

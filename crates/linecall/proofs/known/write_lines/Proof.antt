@@ -1,0 +1,64 @@
+-- `write_lines` meets its contract. Assumes nothing.
+use mathlib.Core.Path.{_≡_, ap, sym, _∙_}
+use native.Mathlib.Omega.{arith}
+use lib.ListN.{length, length-map}
+use Rattle.apply.specs.Replies.{replyOf}
+use Rattle.linecall.specs.LineCall.{refuseLine}
+use Rattle.linecall.proofs.Laws.{own-lines, own-count, refused-lines, put-one}
+use borrow.Author.Needs.{needs}
+use Rattle.linecall.proofs.known.write_lines.Statement.{statement}
+use Rattle.linecall.proofs.known.write_lines.Tie as tie
+
+-- there are 32 places for lines
+places : (s : tie.Start) → length (s .args .c .written .lines) ≡ 32
+places s = sym (length-map (s .args .c .written .lines) _) ∙ s .good .1 .1 .1 .0 .1 .1 .0 .1 .1 .1 .0 .1 .0 .1
+
+-- where the answer's number is known
+abbrev start : tie.After-refusal → tie.Start
+start r = r .before .before
+
+-- where it is 0
+abbrev accepted : tie.After-put-lines → tie.Then1
+accepted p = p .before .before .before .before .before
+
+returns : tie.Need-returns
+returns c =
+    let p = c .before .before in
+    let t = accepted p in
+    let s = start (t .before) in
+    let e = sym (t .before .refusal .ensures) ∙ t .if1 .taken in
+    let n = own-count (s .args .q) (replyOf (s .args .c)) e (omega (arith, places s, s .pre .1)) in
+    (rw n (p .put-lines .ensures .0), rw (own-lines (s .args .q) (replyOf (s .args .c)) e) (p .put-lines .ensures .1))
+
+-- where the REFUSE line is known
+abbrev refused : tie.After-put-line → tie.After-refuse-line
+refused p = p .before .before
+
+returns-2 : tie.Need-returns-2
+returns-2 c =
+    let p = c .before .before in
+    let l = refused p in
+    let i = l .before in
+    let s = start (i .before) in
+    let m = i .before .refusal .ensures in
+    let e = refused-lines (s .args .q) (replyOf (s .args .c)) (λ z. i .if1 .left (m ∙ z)) in
+    let k = l .refuse-line .ensures ∙ ap (refuseLine (s .args .q)) m in
+    (rw e, rw (e, ← k) (put-one (s .args .journal .now) (p .put-line .last .0) _ (s .args .place) (p .put-line .ensures)))
+
+pub write-lines-spec : {M : Type 1} → statement M
+write-lines-spec =
+    tie.close
+    (tie.spec
+    (λ c κs. search needs)
+    (λ c. search needs)
+    (λ c κs. search needs)
+    (λ c. search needs)
+    returns
+    (λ c κs. search needs)
+    (λ c. search needs)
+    (λ c. search needs)
+    (λ c. search needs)
+    (λ c κs. search needs)
+    (λ c. search needs)
+    (λ c. search needs)
+    returns-2)

@@ -1,0 +1,2 @@
+-- The definitions that the contracts of linecall cite.
+pub mod LineCall

@@ -1,0 +1,106 @@
+// A request line on a board that is known to be sound: check 2, the line, the direct call that it asks for,
+// and its lines in the journal.
+use apply::Changed;
+use request::Reading;
+use request::Request;
+use rules::Board;
+use rules::Line;
+use rules::Refusal;
+use rules::Word;
+ghost use mathlib.Core.Path.{_≡_};
+ghost use mathlib.Core.Bool.{true};
+ghost use Prim.Native.Nat.{_+_, _*_, _≤_};
+ghost use lib.ListN.{length};
+ghost use Rattle.rules.specs.Soundness.{sound};
+ghost use Rattle.rules.specs.Calls.{direct};
+ghost use Rattle.request.specs.Requests.{requestCall};
+ghost use Rattle.journal.specs.Journal.{written};
+ghost use Rattle.apply.specs.Replies.{replyOf, ComesTo};
+ghost use Rattle.linecall.specs.LineCall.{journalFull, FitsLine, refuseLine, linesFor, replyTo, lineCall};
+
+// What the call comes to, and the new place in the journal.
+pub struct Served {
+    pub changed: Changed,
+    pub place: u64,
+}
+
+// Whether the journal has no room for a call's lines from the place on.
+fn is_full(room: usize, place: u64) -> bool
+    ensures { λ r. ⌜ r ≡ journalFull room place ⌝ }
+{
+    if 1000000000 < place {
+        return true;
+    }
+    room < place as usize + 512
+}
+
+// The REFUSE line of a request.
+fn refuse_line(q: Request, n: u8) -> Line
+    requires { ⌜ FitsLine q ⌝ }
+    ensures { λ r. ⌜ r ≡ refuseLine q n ⌝ }
+{
+    Line {
+        word: Word::Refuse,
+        program: q.asked.program as u8,
+        file: q.asked.file as u8,
+        refusal: n,
+    }
+}
+
+// Writes a call's lines into the journal from the place on, and gives the new place.
+fn write_lines(journal: &mut [u8], place: usize, q: Request, c: Changed) -> usize
+    requires { ⌜ (place + 512 ≤ length (now journal)) × (c .written .count ≤ 32) × FitsLine q ⌝ }
+    ensures { λ p. ⌜ (p ≡ place + 16 * length (linesFor q (replyOf c))) × (now (journal .exit) ≡ written (now (journal .entry)) place (linesFor q (replyOf c))) ⌝ }
+{
+    let answer = c.answer;
+    let n = answer.refusal();
+    if n == 0 {
+        let w = c.written;
+        let lines = w.lines;
+        return journal::put_lines(journal, place, lines, w.count as usize);
+    }
+    let l = refuse_line(q, n);
+    journal::put_line(&mut journal[place..], l);
+    place + 16
+}
+
+// The direct call that a taken line asks for.
+fn call(b: Board, q: Request) -> Changed
+    requires { ⌜ sound b ≡ true ⌝ }
+    ensures { λ r. ⌜ ComesTo r (direct b (requestCall q)) ⌝ }
+{
+    let asked = q.asked;
+    apply::call(b, asked)
+}
+
+// What a line comes to: its direct call, or a refusal.
+fn reply_to(b: Board, q: Request) -> Changed
+    requires { ⌜ sound b ≡ true ⌝ }
+    ensures { λ r. ⌜ ComesTo r (replyTo b q) ⌝ }
+{
+    let reading = q.reading;
+    match reading {
+        Reading::Taken => call(b, q),
+        Reading::Refused(n) => apply::replies::refused(b, n),
+    }
+}
+
+// The line call on a sound board, but for the order of its reply.
+pub fn line(b: Board, line: &[u8], journal: &mut [u8], place: u64) -> Served
+    requires { ⌜ sound b ≡ true ⌝ }
+    ensures { λ r. ⌜ ComesTo (r .changed) (lineCall b (now (line .entry)) (now (journal .entry)) place .reply) ⌝ }
+    ensures { λ r. ⌜ r .place ≡ lineCall b (now (line .entry)) (now (journal .entry)) place .place ⌝ }
+    ensures { λ r. ⌜ now (journal .exit) ≡ lineCall b (now (line .entry)) (now (journal .entry)) place .journal ⌝ }
+{
+    if is_full(journal.len(), place) {
+        let changed = apply::replies::refused(b, Refusal::JournalFull);
+        return Served { changed, place };
+    }
+    let q = request::read(line);
+    let changed = reply_to(b, q);
+    let at = write_lines(journal, place as usize, q, changed);
+    Served {
+        changed,
+        place: at as u64,
+    }
+}

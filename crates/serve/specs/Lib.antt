@@ -1,2 +1,0 @@
--- The definitions that the contracts of serve cite.
-pub mod LineCall
