@@ -2,7 +2,8 @@
 use Prim.Native.Nat.{ℕ}
 use mathlib.Core.Path.{_≡_, refl}
 use mathlib.Core.List.{List, [], _∷_}
-use Rattle.columns.specs.Columns.{columnsOf, flat, digitOf, field3, fieldOf, numberOf}
+use Rattle.columns.specs.Columns.{leading, columnsOf, readAll, numberOf}
+use Rattle.columns.specs.Rows.{flat}
 use Rattle.laws.specs.Lists.{any, all, keep, first, padded, rising, listed, distinct, without, same, names}
 use Rattle.rules.specs.Modes.{touching}
 use Rattle.rules.specs.Boards.{everyone, admitted, tallied, opening, closing, dropping}
@@ -12,8 +13,8 @@ use Rattle.rules.specs.Settling.{overdue}
 use Rattle.rules.specs.Replies.{reply, refuse, refuseUnsound}
 use Rattle.rules.specs.Checks.{enterCheck}
 use Rattle.rules.specs.Calls.{admit, enter, apply, direct}
-use Rattle.request.specs.Requests.{begins, numberAt, programAt, labelPart, filesIn, risesFrom, addingAll}
-use Rattle.request.specs.Requests.{enterFiles, enterCounts, enterOf, fileOf, aloneOf, requestOf}
+use Rattle.request.specs.Requests.{begins, programField, fileField, wField, rField, labelPart, filesIn, risesFrom, addingAll}
+use Rattle.request.specs.Requests.{entryFiles, entryCounts, entryLine, fileLine, aloneLine, verbOf, requestOf}
 use Rattle.journal.specs.Journal.{lineBytes, written}
 use Rattle.linecall.specs.LineCall.{replyTo, linesFor, posted, lineCall}
 use Rattle.board.specs.Input.{boardAfter, bytesAfter, served, feed, fed, finished, orderLine, orderOf, ending, output}
@@ -32,9 +33,9 @@ expected =
 
 example : output input ≡ expected
 unfolding input expected boardAfter bytesAfter served feed fed finished orderLine orderOf ending output
-    columnsOf flat digitOf field3 fieldOf numberOf
-    begins numberAt programAt labelPart filesIn risesFrom addingAll
-    enterFiles enterCounts enterOf fileOf aloneOf requestOf
+    leading columnsOf flat readAll numberOf
+    begins programField fileField wField rField labelPart filesIn risesFrom addingAll
+    entryFiles entryCounts entryLine fileLine aloneLine verbOf requestOf
     lineBytes written replyTo linesFor posted lineCall
     any all keep first padded rising listed distinct without same names
     everyone admitted tallied touching opening closing dropping

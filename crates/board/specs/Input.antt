@@ -1,6 +1,6 @@
 -- What bytes of input do: a line that byte 10 ends is a line call, with a board and journal lines after it. Last the ORDER line.
 -- Assumes nothing.
-use Prim.Native.Nat.{ℕ}
+use Prim.Native.Nat.{ℕ, _+_, _-_, _*_}
 use mathlib.Core.Bool.{cond}
 use mathlib.Core.List.{List, [], _∷_, _++_}
 use lib.Dec.{eqb}
@@ -10,8 +10,25 @@ use Rattle.rules.specs.Boards.{emptyBoard}
 use Rattle.laws.specs.Lists.{names}
 use Rattle.rules.specs.Orders.{carried}
 use Rattle.search.specs.Rows.{asOrder}
-use Rattle.columns.specs.Columns.{columnsOf, flat}
+use Rattle.columns.specs.Columns.{wordWidth, programWidth, columnsOf}
+use Rattle.columns.specs.Rows.{flat}
+use Rattle.request.specs.Verbs.{cutLine}
+use Rattle.journal.specs.Journal.{journalRoom}
 use Rattle.linecall.specs.LineCall.{Outcome, lineCall}
+
+-- ---- limits of the program
+
+-- bytes of its journal's buffer, and of each read
+abbrev pub bufferLength : ℕ
+bufferLength = 65536
+
+-- the last place from which the journal has room for a call
+abbrev pub lastPlace : ℕ
+lastPlace = bufferLength - journalRoom
+
+-- columns of the longest ORDER line
+abbrev pub orderColumns : ℕ
+orderColumns = wordWidth + programWidth * 32
 
 -- the bytes before the first byte 10
 unfoldable pub firstLine : List ℕ → List ℕ
@@ -22,7 +39,7 @@ firstLine (x ∷ xs) = cond (eqb x 10) [] (x ∷ firstLine xs)
 
 -- the line call with room in an empty journal
 abbrev pub called : Board → List ℕ → Outcome
-called b line = lineCall b line (replicate 512 0) 0
+called b line = lineCall b line (replicate journalRoom 0) 0
 
 -- the board after it, and the bytes of its journal lines
 unfoldable pub boardAfter : Board → List ℕ → Board
@@ -52,7 +69,7 @@ served s = held (boardAfter (s .board) (s .line)) [] (s .journal ++ bytesAfter (
 
 -- one byte; "A line over 407 bytes is handed on as its first 408."
 unfoldable pub feed : Fed → ℕ → Fed
-feed s x = cond (eqb x 10) (served s) (held (s .board) (take 408 (s .line ++ (x ∷ []))) (s .journal))
+feed s x = cond (eqb x 10) (served s) (held (s .board) (take cutLine (s .line ++ (x ∷ []))) (s .journal))
 
 -- bytes one after another
 unfoldable pub fed : Fed → List ℕ → Fed
@@ -70,7 +87,7 @@ abbrev pub orderWord : List ℕ
 orderWord = 79 ∷ 82 ∷ 68 ∷ 69 ∷ 82 ∷ 32 ∷ []
 
 unfoldable pub orderLine : List ℕ → List ℕ
-orderLine order = orderWord ++ (flat columnsOf (names order) ++ (10 ∷ []))
+orderLine order = orderWord ++ (flat (columnsOf programWidth) (names order) ++ (10 ∷ []))
 
 -- the ORDER line of a board
 unfoldable pub orderOf : Board → List ℕ

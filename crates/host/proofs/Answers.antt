@@ -8,7 +8,7 @@ use lib.ListN.{length, take, drop}
 use lib.Seq.{length-take-le, take-append-seam, drop-append-seam}
 use borrow.Author.Tests.{eqb-true, eqb-false}
 use Rattle.laws.specs.Tests.{by-test, never}
-use Rattle.columns.specs.Columns.{flat}
+use Rattle.columns.specs.Rows.{flat}
 use Rattle.rules.specs.declared.Board.{Board}
 use Rattle.rules.specs.declared.Refusal.{Refusal}
 use Rattle.rules.specs.declared.Answer.{Answer}
@@ -25,7 +25,7 @@ use Rattle.request.specs.declared.Request.{Request}
 use Rattle.request.specs.Requests.{requestOf, requestCall}
 use Rattle.request.specs.Law.{saying}
 use Rattle.request.proofs.Lines.{read-line}
-use Rattle.journal.specs.Journal.{lineBytes, linesBytes, written}
+use Rattle.journal.specs.Journal.{journalLine, lineBytes, linesBytes, written}
 use Rattle.journal.proofs.Laws.{line-length}
 use Rattle.linecall.specs.LineCall.{linesFor, replyBy, replyTo}
 use Rattle.linecall.proofs.Laws.{own-lines, refused-lines}
@@ -116,7 +116,7 @@ first-line b l =
 -- ---- its bytes
 
 pub written-first : (j : List ℕ) (place : ℕ) (l : Line) (ls : List Line) → place ≤ length j
-    → take 16 (drop place (written j place (l ∷ ls))) ≡ lineBytes l
+    → take journalLine (drop place (written j place (l ∷ ls))) ≡ lineBytes l
 unfolding written flat
 written-first j place l ls h =
     let a = take place j in
@@ -124,7 +124,7 @@ written-first j place l ls h =
     let x = linesBytes ls ++ t in
     let e : a ++ (lineBytes l ++ linesBytes ls) ++ t ≡ a ++ (lineBytes l ++ x) =
     append-assoc a (lineBytes l ++ linesBytes ls) t ∙ ap (λ (y : List ℕ). a ++ y) (append-assoc (lineBytes l) (linesBytes ls) t) in
-    ap (λ (y : List ℕ). take 16 (drop place y)) e
-    ∙ ap (λ (n : ℕ). take 16 (drop n (a ++ (lineBytes l ++ x)))) (sym (length-take-le place j h))
-    ∙ ap (λ (y : List ℕ). take 16 y) (drop-append-seam a (lineBytes l ++ x))
+    ap (λ (y : List ℕ). take journalLine (drop place y)) e
+    ∙ ap (λ (n : ℕ). take journalLine (drop n (a ++ (lineBytes l ++ x)))) (sym (length-take-le place j h))
+    ∙ ap (λ (y : List ℕ). take journalLine y) (drop-append-seam a (lineBytes l ++ x))
     ∙ ap (λ (n : ℕ). take n (lineBytes l ++ x)) (sym (line-length l)) ∙ take-append-seam (lineBytes l) x

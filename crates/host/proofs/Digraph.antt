@@ -19,7 +19,7 @@ use Rattle.image.specs.declared.Loaded.{Loaded}
 use Rattle.digraph.specs.declared.Loop.{Loop}
 use Rattle.digraph.specs.Rows.{matrixOf}
 use Rattle.digraph.specs.Loops.{named, LoopOfWaiter}
-use Rattle.columns.specs.Columns.{flat}
+use Rattle.columns.specs.Rows.{flat}
 use Rattle.host.specs.Host.{readImage, refusalAnswer, placedAnswer, placedIn}
 use Rattle.host.specs.Digraph.{reachAnswer, reachRows, LoopPlaced, loopRefusal, LoopReply, isLoopAnswer}
 

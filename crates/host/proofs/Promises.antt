@@ -30,8 +30,9 @@ use Rattle.theory.specs.Answers.{accepted-answered}
 use Rattle.request.specs.declared.Reading.{Reading}
 use Rattle.request.specs.Requests.{requestOf, requestCall}
 use Rattle.request.specs.Law.{InRange, saying}
-use Rattle.request.proofs.Lines.{line-read, read-line, call-back}
-use Rattle.journal.specs.Journal.{linesBytes, written}
+use Rattle.request.proofs.Verbs.{call-good}
+use Rattle.request.proofs.Lines.{line-read, read-line}
+use Rattle.journal.specs.Journal.{journalLine, linesBytes, written}
 use Rattle.journal.proofs.Laws.{lines-length}
 use Rattle.image.specs.declared.Loaded.{Loaded}
 use Rattle.image.specs.Image.{imageOf, loadedOf}
@@ -50,7 +51,7 @@ use Rattle.host.proofs.Answers.{by-reading, accepted-number, number-acc
 
 says-reply : (b : Board) (c : Call) → replyTo b (saying c) ≡ direct b c
 unfolding replyTo
-says-reply b c = ap (direct b) (call-back c)
+says-reply b c = ap (direct b) (call-good c .back)
 
 pub line-does-its-call : LineDoesItsCall
 unfolding lineCall posted direct
@@ -120,10 +121,10 @@ pub answer-written-first : AnswerWrittenFirst
 unfolding lineCall posted
 answer-written-first b line journal place s free =
     let f = first-line b line in
-    rw (s, free) (ap (λ (ls : List Line). take 16 (drop place (written journal place ls))) (f .1)
+    rw (s, free) (ap (λ (ls : List Line). take journalLine (drop place (written journal place ls))) (f .1)
     ∙ written-first journal place _ (f .0) (let q = room (length journal) place free .1 in omega arith))
 
-written-other : (j : List ℕ) (place i : ℕ) (ls : List Line) → place ≤ length j → (i < place) ⊎ (place + 16 * length ls ≤ i)
+written-other : (j : List ℕ) (place i : ℕ) (ls : List Line) → place ≤ length j → (i < place) ⊎ (place + journalLine * length ls ≤ i)
     → getD (written j place ls) i 0 ≡ getD j i 0
 unfolding written
 written-other j place i ls h k = ⊎-elim before after k
@@ -136,7 +137,7 @@ written-other j place i ls h k = ⊎-elim before after k
         List·getD-append (take place j ++ linesBytes ls) (drop (place + length (linesBytes ls)) j) 0 i (omega (arith, size))
         ∙ List·getD-append (take place j) (linesBytes ls) 0 i (omega (arith, length-take-le place j h)) ∙ getD-take place j i 0 l
 
-    after : place + 16 * length ls ≤ i → getD (take place j ++ linesBytes ls ++ drop (place + length (linesBytes ls)) j) i 0 ≡ getD j i 0
+    after : place + journalLine * length ls ≤ i → getD (take place j ++ linesBytes ls ++ drop (place + length (linesBytes ls)) j) i 0 ≡ getD j i 0
     after l =
         let m = place + length (linesBytes ls) in
         let n = lines-length ls in

@@ -15,7 +15,8 @@ use Rattle.rules.specs.Replies.{number}
 use Rattle.rules.specs.Checks.{refuseIf, unlessRunning, unlessStopped, enterCheck, openCheck, closeCheck, leaveCheck, cancelCheck}
 use Rattle.rules.specs.Calls.{Call, Enter, Open, Close, Drop, Leave, Cancel, checked}
 use Rattle.request.specs.declared.Reading.{Reading}
-use Rattle.request.specs.Requests.{requestOf}
+use Rattle.request.specs.declared.Shape.{Shape}
+use Rattle.request.specs.Requests.{requestOf, askedBy}
 use Rattle.request.specs.Law.{InRange}
 use Rattle.request.proofs.Ways.{line-ways}
 use Rattle.writer.proofs.Law.{range-test}
@@ -79,13 +80,13 @@ close-other b p f i = rw i (unless-running (at b p .standing) (unless-it (not (h
 
 call-other : (b : Board) (c : Call) → InRange c → Other (checked b c)
 unfolding enterCheck leaveCheck cancelCheck
-call-other b (Enter p v q) i = rw (range-test (Enter p v q) i) (unless-it (not (isAbsent (at b p .standing))) Refusal.NotAbsent refl
+call-other b (Enter p v q) i = rw (range-test Shape.Entry (askedBy (Enter p v q)) i) (unless-it (not (isAbsent (at b p .standing))) Refusal.NotAbsent refl
     (unless-it (meets v q) Refusal.ClaimsMeet refl (other refl)))
-call-other b (Open p f) i = open-other b p f (range-test (Open p f) i)
-call-other b (Close p f) i = close-other b p f (range-test (Close p f) i)
-call-other b (Drop p f) i = open-other b p f (range-test (Drop p f) i)
-call-other b (Leave p) i = rw (range-test (Leave p) i) (unless-running (at b p .standing) (other refl))
-call-other b (Cancel p) i = rw (range-test (Cancel p) i) (unless-stopped (at b p .standing) (other refl))
+call-other b (Open p f) i = open-other b p f (range-test Shape.File (askedBy (Open p f)) i)
+call-other b (Close p f) i = close-other b p f (range-test Shape.File (askedBy (Close p f)) i)
+call-other b (Drop p f) i = open-other b p f (range-test Shape.File (askedBy (Drop p f)) i)
+call-other b (Leave p) i = rw (range-test Shape.Alone (askedBy (Leave p)) i) (unless-running (at b p .standing) (other refl))
+call-other b (Cancel p) i = rw (range-test Shape.Alone (askedBy (Cancel p)) i) (unless-stopped (at b p .standing) (other refl))
 
 pub range-checked : (b : Board) (c : Call) → InRange c → notEight (checked b c) ≡ true
 range-checked b c i = call-other b c i .so

@@ -10,7 +10,7 @@ use lib.ListN.{length, drop}
 use Rattle.rules.specs.declared.Board.{Board}
 use Rattle.rules.specs.Boards.{isProgram, isWaiting, at, awaited}
 use Rattle.rules.specs.Digraph.{isLoopWith}
-use Rattle.columns.specs.Columns.{flat}
+use Rattle.columns.specs.Rows.{flat}
 use Rattle.image.specs.Image.{bytesN}
 use Rattle.digraph.specs.Rows.{matrixOf}
 use Rattle.host.specs.Host.{readImage, refusalAnswer}

@@ -19,7 +19,7 @@ use Rattle.request.specs.declared.Reading.{Reading}
 use Rattle.request.specs.declared.Request.{Request}
 use Rattle.request.specs.Requests.{requestOf, lineOf}
 use Rattle.request.specs.Law.{InRange, IsLabel}
-use Rattle.journal.specs.Journal.{lineBytes, written}
+use Rattle.journal.specs.Journal.{journalLine, lineBytes, written}
 use Rattle.image.specs.Image.{imageOf}
 use Rattle.image.specs.Law.{BoardOfCode, Bytes}
 use Rattle.linecall.specs.LineCall.{journalFull, refuseLine, lineCall}
@@ -38,7 +38,7 @@ LineRefused = (b : Board) (line journal : List ℕ) (place : ℕ) (r : Refusal) 
     → requestOf line .reading ≡ Reading.Refused r
     → lineCall b line journal place ≡ record {
       reply = refuse b r;
-      place = place + 16;
+      place = place + journalLine;
       journal = written journal place (refuseLine (requestOf line) (number r) ∷ []);
     }
 
@@ -74,7 +74,7 @@ answerLine q a = record { word = wordOf a; program = q .asked .program; file = q
 -- "The answer comes first", REFUSE too: the first of the lines that a call writes
 abbrev pub AnswerWrittenFirst : Type 0
 AnswerWrittenFirst = (b : Board) (line journal : List ℕ) (place : ℕ) → sound b ≡ true → journalFull (length journal) place ≡ false
-    → take 16 (drop place (lineCall b line journal place .journal))
+    → take journalLine (drop place (lineCall b line journal place .journal))
     ≡ lineBytes (answerLine (requestOf line) (lineCall b line journal place .reply .answer))
 
 -- "other bytes keep their contents": those before the place and from the new place on

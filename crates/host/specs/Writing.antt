@@ -1,31 +1,27 @@
 -- The writer as a C host calls it: verbs by number, claims as masks, and the answer as one number.
 -- Assumes nothing.
-use Prim.Native.Nat.{ℕ}
+use Prim.Native.Nat.{ℕ, _-_}
 use mathlib.Core.Bool.{Bool, cond}
 use mathlib.Core.List.{List}
-use lib.Dec.{eqb}
+use lib.ListN.{length, getD}
 use Rattle.files.specs.declared.FileSet.{FileSet}
 use Rattle.files.specs.Bits.{isNumber}
 use Rattle.rules.specs.declared.Verb.{Verb}
 use Rattle.rules.specs.declared.Refusal.{Refusal}
 use Rattle.rules.specs.Replies.{number}
 use Rattle.rules.specs.Calls.{Call, callWith}
+use Rattle.request.specs.Verbs.{verbs}
 use Rattle.writer.specs.declared.Writing.{Writing}
 use Rattle.writer.specs.Writer.{unwrittenNumber, writingOf, bufferAfter}
 use Rattle.host.specs.Host.{refusalAnswer}
 
--- 1 ENTER, 2 OPEN, 3 CLOSE, 4 DROP, 5 LEAVE, in 01's order, and 6 CANCEL; any other number is no verb
+-- 1 ENTER, 2 OPEN, 3 CLOSE, 4 DROP, 5 LEAVE, 6 CANCEL: their places in the table; any other number is no verb
 abbrev pub isVerb : ℕ → Bool
-isVerb n = isNumber 6 n
+isVerb n = isNumber (length verbs) n
 
--- the verb of a number from 1 to 6
+-- the verb of such a number
 abbrev pub verbNumbered : ℕ → Verb
-verbNumbered n =
-    cond (eqb n 1) Verb.Enter
-    (cond (eqb n 2) Verb.Open
-    (cond (eqb n 3) Verb.Close
-    (cond (eqb n 4) Verb.Drop
-    (cond (eqb n 5) Verb.Leave Verb.Cancel))))
+verbNumbered n = getD verbs (n - 1) Verb.Enter
 
 -- a claim as a mask: file 1 is the lowest bit
 abbrev pub claimOf : ℕ → FileSet

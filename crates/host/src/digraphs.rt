@@ -9,7 +9,7 @@ ghost use mathlib.Core.List.{_++_};
 ghost use Prim.Native.Nat.{_≤_};
 ghost use lib.ListN.{length, drop};
 ghost use Rattle.rules.specs.Soundness.{sound};
-ghost use Rattle.columns.specs.Columns.{flat};
+ghost use Rattle.columns.specs.Rows.{flat};
 ghost use Rattle.image.specs.Image.{bytesN};
 ghost use Rattle.host.specs.Digraph.{reachAnswer, reachRows, LoopPlaced, LoopReply, isLoopAnswer};
 

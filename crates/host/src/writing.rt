@@ -2,32 +2,9 @@
 use crate::refusal_answer;
 use files::FileSet;
 use rules::Asked;
-use rules::Verb;
 use writer::Writing;
 ghost use mathlib.Core.Path.{_≡_};
-ghost use Rattle.host.specs.Writing.{verbNumbered, writingAnswer, writeAnswer, writeBuffer};
-
-// The verb of a number from 1 to 6.
-fn verb_of(n: u64) -> Verb
-    ensures { λ r. ⌜ r ≡ verbNumbered n ⌝ }
-{
-    if n == 1 {
-        return Verb::Enter;
-    }
-    if n == 2 {
-        return Verb::Open;
-    }
-    if n == 3 {
-        return Verb::Close;
-    }
-    if n == 4 {
-        return Verb::Drop;
-    }
-    if n == 5 {
-        return Verb::Leave;
-    }
-    Verb::Cancel
-}
+ghost use Rattle.host.specs.Writing.{writingAnswer, writeAnswer, writeBuffer};
 
 // What a C host gets: the line's length, or 2^64 less the number of the refusal.
 fn answer_of(w: Writing) -> u64
@@ -57,10 +34,10 @@ pub extern "C" fn lock_board_write(
     if verb == 0 {
         return refusal_answer(3);
     }
-    if 6 < verb {
+    if (request::VERBS as u64) < verb {
         return refusal_answer(3);
     }
-    let verb = verb_of(verb);
+    let verb = request::verb_at((verb - 1) as usize);
     let asked = Asked {
         verb,
         program,

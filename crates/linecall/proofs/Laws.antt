@@ -9,7 +9,7 @@ use native.Mathlib.Omega.{arith}
 use borrow.Rule.Slice.PartMut.{putMid}
 use borrow.Author.Tests.{eq-eqb, ne-eqb, lt-ltb, le-ltb, ltb-false}
 use Rattle.laws.specs.Tests.{by-test, never}
-use Rattle.columns.specs.Columns.{flat, putAt}
+use Rattle.columns.specs.Rows.{flat, putAt}
 use Rattle.columns.proofs.Rows.{put-part}
 use Rattle.rules.specs.declared.Line.{Line}
 use Rattle.rules.specs.declared.Reply.{Reply}
@@ -25,16 +25,16 @@ use Rattle.theory.specs.Worked.{direct-is-apply, apply-fits}
 use Rattle.request.specs.declared.Reading.{Reading}
 use Rattle.request.specs.Requests.{requestOf, requestCall}
 use Rattle.request.specs.declared.Request.{Request}
-use Rattle.journal.specs.Journal.{lineBytes, written}
+use Rattle.journal.specs.Journal.{journalLine, journalRoom, lineBytes, written}
 use Rattle.journal.proofs.Laws.{line-length}
-use Rattle.linecall.specs.LineCall.{journalFull, refuseLine, linesFor, replyBy, replyTo, stopped, posted, lineCall}
+use Rattle.linecall.specs.LineCall.{highestPlace, journalFull, refuseLine, linesFor, replyBy, replyTo, stopped, posted, lineCall}
 
 -- check 2
-pub full-far : (room place : ℕ) → 1000000000 < place → journalFull room place ≡ true
-full-far room place h = rw (lt-ltb 1000000000 place h)
+pub full-far : (room place : ℕ) → highestPlace < place → journalFull room place ≡ true
+full-far room place h = rw (lt-ltb highestPlace place h)
 
-pub full-near : (room place : ℕ) → place ≤ 1000000000 → journalFull room place ≡ ltb room (place + 512)
-full-near room place h = rw (le-ltb 1000000000 place h)
+pub full-near : (room place : ℕ) → place ≤ highestPlace → journalFull room place ≡ ltb room (place + journalRoom)
+full-near room place h = rw (le-ltb highestPlace place h)
 
 -- the lines of a reply that isn't refused
 pub own-lines : (q : Request) (r : Reply) → refusalOf (r .answer) ≡ 0 → linesFor q r ≡ take (r .count) (r .lines)
@@ -50,7 +50,7 @@ unfolding linesFor
 refused-lines q r n = rw (ne-eqb (refusalOf (r .answer)) 0 n)
 
 -- the journal with one line put at `&mut journal[p..]`
-pub put-one : (j last : List ℕ) (l : Line) (p : ℕ) → last ≡ lineBytes l ++ drop 16 (take (length j - p) (drop p j))
+pub put-one : (j last : List ℕ) (l : Line) (p : ℕ) → last ≡ lineBytes l ++ drop journalLine (take (length j - p) (drop p j))
     → putMid p (length j - p) j last ≡ written j p (l ∷ [])
 unfolding written flat putAt
 put-one j last l p e =
@@ -88,10 +88,10 @@ unfolding lineCall
 call-posted b line journal place s f = rw (s, f)
 
 -- what check 2 leaves
-pub room : (n place : ℕ) → journalFull n place ≡ false → (place ≤ 1000000000) × (place + 512 ≤ n)
+pub room : (n place : ℕ) → journalFull n place ≡ false → (place ≤ highestPlace) × (place + journalRoom ≤ n)
 room n place h =
-    by-test (ltb 1000000000 place) (λ e. never {t = true} refl (rw e at h))
-    (λ e. (ltb-false 1000000000 place e, ltb-false n (place + 512) (rw e at h)))
+    by-test (ltb highestPlace place) (λ e. never {t = true} refl (rw e at h))
+    (λ e. (ltb-false highestPlace place e, ltb-false n (place + journalRoom) (rw e at h)))
 
 -- ---- the place after a line call
 
@@ -99,8 +99,8 @@ lines-most : (q : Request) (r : Reply) → r .count ≤ 32 → length (linesFor 
 unfolding linesFor
 lines-most q r h = by-test (eqb (refusalOf (r .answer)) 0) (λ e. rw e (omega (arith, length-take (r .count) (r .lines)))) (λ e. rw e (omega arith))
 
--- at most 512 bytes are written
-pub place-fits : (b : Board) (line journal : List ℕ) (place : ℕ) → length (b .programs) ≡ 32 → lineCall b line journal place .place ≤ place + 512
+-- at most the room that was asked for is written
+pub place-fits : (b : Board) (line journal : List ℕ) (place : ℕ) → length (b .programs) ≡ 32 → lineCall b line journal place .place ≤ place + journalRoom
 unfolding lineCall posted
 place-fits b line journal place z =
     by-test (sound b)

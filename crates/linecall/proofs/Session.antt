@@ -4,7 +4,8 @@ use Prim.Native.Nat.{ℕ}
 use mathlib.Core.Path.{_≡_, refl}
 use mathlib.Core.List.{List, [], _∷_, _++_}
 use lib.ListN.{take, replicate}
-use Rattle.columns.specs.Columns.{columnsOf, flat, digitOf, field3, fieldOf, numberOf}
+use Rattle.columns.specs.Columns.{leading, columnsOf, readAll, numberOf}
+use Rattle.columns.specs.Rows.{flat}
 use Rattle.rules.specs.declared.Board.{Board}
 use Rattle.laws.specs.Lists.{any, all, keep, first, padded, rising, listed, distinct, without, same, names}
 use Rattle.rules.specs.Modes.{touching}
@@ -16,8 +17,8 @@ use Rattle.rules.specs.Replies.{reply, refuse, refuseUnsound}
 use Rattle.rules.specs.Checks.{enterCheck, openCheck, closeCheck, leaveCheck, cancelCheck}
 use Rattle.rules.specs.Calls.{admit, hold, holdFor, enter, wait, openFile, done, closeFile, dropFile, countLeave, leave, countCancel, cancel}
 use Rattle.rules.specs.Calls.{apply, direct}
-use Rattle.request.specs.Requests.{begins, numberAt, programAt, labelPart, filesIn, risesFrom, addingAll}
-use Rattle.request.specs.Requests.{enterFiles, enterCounts, enterOf, fileOf, aloneOf, requestOf}
+use Rattle.request.specs.Requests.{begins, programField, fileField, wField, rField, labelPart, filesIn, risesFrom, addingAll}
+use Rattle.request.specs.Requests.{entryFiles, entryCounts, entryLine, fileLine, aloneLine, verbOf, requestOf}
 use Rattle.journal.specs.Journal.{lineBytes, written}
 use Rattle.linecall.specs.LineCall.{replyTo, linesFor, posted, lineCall}
 
@@ -25,9 +26,9 @@ use Rattle.linecall.specs.LineCall.{replyTo, linesFor, posted, lineCall}
 
 -- the journal up to the place after these lines
 journalAfter : Board → List ℕ → ℕ → List (List ℕ) → List ℕ
-unfolding columnsOf flat digitOf field3 fieldOf numberOf
-    begins numberAt programAt labelPart filesIn risesFrom addingAll
-    enterFiles enterCounts enterOf fileOf aloneOf requestOf
+unfolding leading columnsOf flat readAll numberOf
+    begins programField fileField wField rField labelPart filesIn risesFrom addingAll
+    entryFiles entryCounts entryLine fileLine aloneLine verbOf requestOf
     lineBytes written replyTo linesFor posted lineCall
     any all keep first padded rising listed distinct without same names
     everyone admitted tallied touching opening closing dropping

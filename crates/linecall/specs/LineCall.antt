@@ -16,11 +16,15 @@ use Rattle.rules.specs.Calls.{Call, direct}
 use Rattle.request.specs.declared.Reading.{Reading}
 use Rattle.request.specs.declared.Request.{Request}
 use Rattle.request.specs.Requests.{requestOf, requestCall}
-use Rattle.journal.specs.Journal.{written}
+use Rattle.journal.specs.Journal.{journalLine, journalRoom, written}
+
+-- the highest place
+abbrev pub highestPlace : ℕ
+highestPlace = 1000000000
 
 -- check 2: "journal place above 1,000,000,000, or place + 512 above the buffer's length"
 abbrev pub journalFull : ℕ → ℕ → Bool
-journalFull room place = ltb 1000000000 place || ltb room (place + 512)
+journalFull room place = ltb highestPlace place || ltb room (place + journalRoom)
 
 -- the reply to what a line says: refusals 3 to 7, or the direct call with the line's numbers
 abbrev pub replyBy : Board → Reading → Call → Reply
@@ -57,7 +61,7 @@ unfoldable pub posted : Request → Reply → List ℕ → ℕ → Outcome
 posted q r journal place =
     record {
       reply = r;
-      place = place + 16 * length (linesFor q r);
+      place = place + journalLine * length (linesFor q r);
       journal = written journal place (linesFor q r);
     }
 

@@ -14,7 +14,7 @@ ghost use lib.ListN.{length};
 ghost use Rattle.rules.specs.Soundness.{sound};
 ghost use Rattle.rules.specs.Calls.{direct};
 ghost use Rattle.request.specs.Requests.{requestCall};
-ghost use Rattle.journal.specs.Journal.{written};
+ghost use Rattle.journal.specs.Journal.{journalLine, journalRoom, written};
 ghost use Rattle.apply.specs.Replies.{replyOf, ComesTo};
 ghost use Rattle.linecall.specs.LineCall.{journalFull, FitsLine, refuseLine, linesFor, replyTo, lineCall};
 
@@ -24,14 +24,17 @@ pub struct Served {
     pub place: u64,
 }
 
+// The highest place in a journal.
+pub const HIGHEST_PLACE: u64 = 1000000000;
+
 // Whether the journal has no room for a call's lines from the place on.
 fn is_full(room: usize, place: u64) -> bool
     ensures { λ r. ⌜ r ≡ journalFull room place ⌝ }
 {
-    if 1000000000 < place {
+    if HIGHEST_PLACE < place {
         return true;
     }
-    room < place as usize + 512
+    room < place as usize + journal::JOURNAL_ROOM
 }
 
 // The REFUSE line of a request.
@@ -49,8 +52,9 @@ fn refuse_line(q: Request, n: u8) -> Line
 
 // Writes a call's lines into the journal from the place on, and gives the new place.
 fn write_lines(journal: &mut [u8], place: usize, q: Request, c: Changed) -> usize
-    requires { ⌜ (place + 512 ≤ length (now journal)) × (c .written .count ≤ 32) × FitsLine q ⌝ }
-    ensures { λ p. ⌜ (p ≡ place + 16 * length (linesFor q (replyOf c))) × (now (journal .exit) ≡ written (now (journal .entry)) place (linesFor q (replyOf c))) ⌝ }
+    requires { ⌜ (place + journalRoom ≤ length (now journal)) × (c .written .count ≤ 32) × FitsLine q ⌝ }
+    ensures { λ p. ⌜ p ≡ place + journalLine * length (linesFor q (replyOf c)) ⌝ }
+    ensures { λ p. ⌜ now (journal .exit) ≡ written (now (journal .entry)) place (linesFor q (replyOf c)) ⌝ }
 {
     let answer = c.answer;
     let n = answer.refusal();
@@ -61,7 +65,7 @@ fn write_lines(journal: &mut [u8], place: usize, q: Request, c: Changed) -> usiz
     }
     let l = refuse_line(q, n);
     journal::put_line(&mut journal[place..], l);
-    place + 16
+    place + journal::JOURNAL_LINE
 }
 
 // The direct call that a taken line asks for.

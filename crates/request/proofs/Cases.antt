@@ -2,14 +2,14 @@
 use Prim.Native.Nat.{ℕ}
 use mathlib.Core.Path.{_≡_, refl}
 use mathlib.Core.List.{List, [], _∷_, map}
-use Rattle.columns.specs.Columns.{digitOf, field3, fieldOf, numberOf}
+use Rattle.columns.specs.Columns.{readAll, numberOf}
 use Rattle.files.specs.Sets.{noFiles}
-use Rattle.laws.specs.Lists.{all, same}
+use Rattle.laws.specs.Lists.{all, first, same}
 use Rattle.rules.specs.Replies.{number}
 use Rattle.rules.specs.declared.Verb.{Verb}
 use Rattle.request.specs.declared.Reading.{Reading}
-use Rattle.request.specs.Requests.{taken, begins, numberAt, programAt, labelPart, filesIn, risesFrom, addingAll}
-use Rattle.request.specs.Requests.{enterFiles, enterCounts, enterOf, fileOf, aloneOf, requestOf}
+use Rattle.request.specs.Requests.{taken, begins, programField, fileField, wField, rField, labelPart, filesIn, risesFrom, addingAll}
+use Rattle.request.specs.Requests.{entryFiles, entryCounts, entryLine, fileLine, aloneLine, verbOf, requestOf}
 
 -- 01's number of the refusal, 0 for a line that is taken
 refusal : Reading → ℕ
@@ -49,14 +49,14 @@ refused-lines =
 table : map (λ (l : List ℕ). refusal (requestOf l .reading)) refused-lines
     ≡ 3 ∷ 3 ∷ 4 ∷ 4 ∷ 5 ∷ 5 ∷ 5 ∷ 5 ∷ 4 ∷ 5 ∷ 6 ∷ 5 ∷ 4 ∷ 5 ∷ 5 ∷ 7 ∷ 7 ∷ 3 ∷ 4 ∷ 4 ∷ 4 ∷ 5 ∷ 5 ∷ []
 unfolding refusal refused-lines
-    digitOf field3 fieldOf numberOf all same
-    begins numberAt programAt labelPart filesIn risesFrom addingAll
-    enterFiles enterCounts enterOf fileOf aloneOf requestOf
+    readAll numberOf all first same
+    begins programField fileField wField rField labelPart filesIn risesFrom addingAll
+    entryFiles entryCounts entryLine fileLine aloneLine verbOf requestOf
 table = refl
 
 -- the six letters of CANCEL fill columns 1 to 6, and the program follows at once
 cancel-taken : map requestOf ((67 ∷ 65 ∷ 78 ∷ 67 ∷ 69 ∷ 76 ∷ 32 ∷ 32 ∷ 55 ∷ []) ∷ (67 ∷ 65 ∷ 78 ∷ 67 ∷ 69 ∷ 76 ∷ 32 ∷ 51 ∷ 50 ∷ []) ∷ [])
     ≡ taken Verb.Cancel 7 0 noFiles noFiles ∷ taken Verb.Cancel 32 0 noFiles noFiles ∷ []
-unfolding digitOf field3 fieldOf numberOf same
-    begins numberAt programAt aloneOf requestOf
+unfolding readAll numberOf first same
+    begins programField aloneLine verbOf requestOf
 cancel-taken = refl

@@ -12,15 +12,17 @@ use lib.Bits.{or-lt}
 use native.Mathlib.Omega.{arith}
 use borrow.Author.Tests.{lt-ltb, ltb-true, eq-eqb, ne-eqb, eqb-true, eqb-false}
 use Rattle.laws.specs.Tests.{by-test, by-option, never, or-true, and-false}
-use Rattle.columns.specs.Columns.{columnsOf, flat, numberOf}
-use Rattle.columns.proofs.Laws.{columns-length, field-cases, number-is, number-columns}
+use Rattle.columns.specs.Columns.{fileWidth, columnsOf}
+use Rattle.columns.specs.Rows.{flat}
+use Rattle.columns.proofs.Laws.{columns-length, field-cases, number-is}
 use Rattle.files.specs.declared.FileSet.{FileSet}
 use Rattle.files.specs.Sets.{isFile, noFiles, member, adding, OfFiles}
 use Rattle.files.proofs.Bits.{is-number, least, most}
 use Rattle.files.proofs.Laws.{none-member, adding-same, adding-other, set-same}
 use Rattle.laws.specs.Lists.{any, keep, rising, listed}
 use Rattle.laws.specs.Laws.{no-some, some-same, keep-same, length-keep, rising-mem, mem-rising, length-rising, mem-listed}
-use Rattle.request.specs.Requests.{filesIn, risesFrom, rises, addingAll, setOf, filesOf, filesColumns}
+use Rattle.request.specs.Requests.{fileIn, filesIn, risesFrom, rises, addingAll, setOf, filesOf, filesColumns}
+use Rattle.request.proofs.Verbs.{file-columns}
 
 -- ---- lists of files
 
@@ -183,34 +185,38 @@ pub columns-back : (fs t : List ℕ) → Files fs → filesIn (length fs) (files
 unfolding filesIn flat
 columns-back [] t k = refl
 columns-back (f ∷ fs) t k =
+    let c : List ℕ = columnsOf fileWidth f in
     let rest : List ℕ = filesColumns fs ++ t in
-    let a = append-assoc (columnsOf f) (filesColumns fs) t in
-    let b = take-at (columnsOf f) rest 3 (columns-length f) in
-    let d = drop-at (columnsOf f) rest 3 (columns-length f) in
-    let n = number-columns 1 64 f (omega (arith, k .1)) (k .0) (k .1) in
-    rw (a, b, d, n, columns-back fs t (k .2))
+    let n = columns-length fileWidth f in
+    rw (
+      append-assoc c (filesColumns fs) t,
+      take-at c rest fileWidth n,
+      drop-at c rest fileWidth n,
+      file-columns f (k .0) (k .1),
+      columns-back fs t (k .2),
+    )
 
 -- what is read as files is the columns of these files
 pub record Read (n : ℕ) (l fs : List ℕ) : Type 0 where
   pub count : length fs ≡ n
   pub files : Files fs
-  pub columns : take (3 * n) l ≡ filesColumns fs
+  pub columns : take (fileWidth * n) l ≡ filesColumns fs
 
 pub files-read : (n : ℕ) (l fs : List ℕ) → filesIn n l ≡ some fs → Read n l fs
 unfolding filesIn flat
 files-read zero l fs h = let e : fs ≡ [] = sym (some-same h) in rw e (record { count = refl; files = Prim.tt; columns = refl })
 files-read (suc n) l fs h =
-    field-cases (numberOf 1 64 (take 3 l))
+    field-cases (fileIn (take fileWidth l))
     (λ e. no-some (rw e at h))
-    (λ f e. by-option (filesIn n (drop 3 l))
+    (λ f e. by-option (filesIn n (drop fileWidth l))
     (λ d. no-some (rw (e, d) at h))
     (λ ks d.
     let u : fs ≡ f ∷ ks = sym (some-same (rw (e, d) at h)) in
-    let i = files-read n (drop 3 l) ks d in
-    let m = number-is 1 64 (take 3 l) f e in
-    let three : 3 * suc n ≡ 3 + 3 * n = omega arith in
+    let i = files-read n (drop fileWidth l) ks d in
+    let m = number-is fileWidth 1 64 (take fileWidth l) f e in
+    let more : fileWidth * suc n ≡ fileWidth + fileWidth * n = omega arith in
     rw u (record {
       count = ap suc (i .count);
       files = (m .0, m .1, i .files);
-      columns = rw (three, take-add 3 (3 * n) l, m .2, i .columns);
+      columns = rw (more, take-add fileWidth (fileWidth * n) l, m .2, i .columns);
     })))

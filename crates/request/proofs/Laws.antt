@@ -1,5 +1,5 @@
 -- Laws of request lines for the functions that read them. Assumes nothing.
-use Prim.Native.Nat.{ℕ, zero, suc, _+_, _-_, _*_, _<_, _≤_}
+use Prim.Native.Nat.{ℕ, zero, suc, _+_, _-_, _<_, _≤_}
 use mathlib.Core.Path.{_≡_, refl, ap, sym, _∙_}
 use mathlib.Core.List.{List, [], _∷_}
 use mathlib.Core.Option.{none, some}
@@ -13,20 +13,23 @@ use native.Mathlib.Nat.{add-sub-cancel-left}
 use borrow.Author.Tests.{le-leb, lt-leb, le-ltb, lt-ltb, ltb-false, eq-eqb, ne-eqb}
 use Rattle.laws.specs.Tests.{by-test, by-option, never, and-true}
 use Rattle.columns.specs.declared.Field.{Field}
-use Rattle.columns.specs.Columns.{numberOf}
+use Rattle.columns.specs.Columns.{wordWidth, fileWidth, numberOf}
 use Rattle.columns.proofs.Laws.{field-cases, number-is}
 use Rattle.files.specs.declared.FileSet.{FileSet}
 use Rattle.files.specs.Sets.{noFiles, adding}
 use Rattle.rules.specs.declared.Refusal.{Refusal}
-use Rattle.laws.specs.Lists.{all, same}
+use Rattle.laws.specs.Lists.{all, first, same}
 use Rattle.laws.specs.Laws.{no-some, some-same}
 use Rattle.rules.specs.declared.Verb.{Verb}
-use Rattle.request.specs.declared.Reading.{Reading}
 use Rattle.request.specs.declared.Request.{Request}
 use Rattle.request.specs.declared.Group.{Group}
-use Rattle.request.specs.Requests.{refused, taken, verbColumns, begins, numberAt, programAt, labelByte, labelPart}
-use Rattle.request.specs.Requests.{filesIn, risesFrom, addingAll, enterFiles, enterCounts, enterOf, fileOf, aloneOf, requestOf}
-use Rattle.request.specs.Requests.{isEntryBy, isEntry}
+use Rattle.request.specs.declared.Beginning.{Beginning}
+use Rattle.request.specs.declared.Shape.{Shape}
+use Rattle.request.specs.Verbs.{verbs, verbColumns, shapeOf, aloneLength, fileLength, filesAt, entryLength}
+use Rattle.request.specs.Requests.{refused, taken, begins, fileIn, programField, fileField, wField, rField, labelByte, labelPart}
+use Rattle.request.specs.Requests.{filesIn, risesFrom, addingAll, entryFiles, entryCounts, entryLine, fileLine, aloneLine, readAs}
+use Rattle.request.specs.Requests.{verbOf, begun, requestOf, hasLabel, isEntry}
+use Rattle.request.proofs.Verbs.{verb-length}
 use Rattle.request.specs.Groups.{noGroup, joined, groupFrom}
 
 -- ---- two lists compared place by place
@@ -36,32 +39,24 @@ same-next : (a b : List ℕ) (i : ℕ) → i < length a → i < length b → sam
 unfolding same
 same-next a b i h k = rw (drop-cons a i 0 h, drop-cons b i 0 k)
 
-pub verb-length : (v : Verb) → length (verbColumns v) ≡ 6
-verb-length Verb.Enter = refl
-verb-length Verb.Open = refl
-verb-length Verb.Close = refl
-verb-length Verb.Drop = refl
-verb-length Verb.Leave = refl
-verb-length Verb.Cancel = refl
-
 -- columns 1 to 6 from the column after i on
-verb-next : (w l : List ℕ) (i : ℕ) → length w ≡ 6 → 6 ≤ length l → i < 6 → same (drop i (take 6 l)) (drop i w) ≡
-    (eqb (getD l i 0) (getD w i 0) && same (drop (suc i) (take 6 l)) (drop (suc i) w))
+verb-next : (w l : List ℕ) (i : ℕ) → length w ≡ wordWidth → wordWidth ≤ length l → i < wordWidth → same (drop i (take wordWidth l)) (drop i w) ≡
+    (eqb (getD l i 0) (getD w i 0) && same (drop (suc i) (take wordWidth l)) (drop (suc i) w))
 verb-next w l i m h k =
-    let n : length (take 6 l) ≡ 6 = omega (arith, length-take 6 l) in
-    rw (← getD-take 6 l i 0 k) (same-next (take 6 l) w i (omega arith) (omega arith))
+    let n : length (take wordWidth l) ≡ wordWidth = omega (arith, length-take wordWidth l) in
+    rw (← getD-take wordWidth l i 0 k) (same-next (take wordWidth l) w i (omega arith) (omega arith))
 
-pub verb-more : (w l : List ℕ) (i : ℕ) → length w ≡ 6 → 6 ≤ length l → i < 6 → getD l i 0 ≡ getD w i 0
-    → same (drop i (take 6 l)) (drop i w) ≡ same (drop (i + 1) (take 6 l)) (drop (i + 1) w)
+pub verb-more : (w l : List ℕ) (i : ℕ) → length w ≡ wordWidth → wordWidth ≤ length l → i < wordWidth → getD l i 0 ≡ getD w i 0
+    → same (drop i (take wordWidth l)) (drop i w) ≡ same (drop (i + 1) (take wordWidth l)) (drop (i + 1) w)
 verb-more w l i m h k e = verb-next w l i m h k ∙ rw (eq-eqb (getD l i 0) (getD w i 0) e, add-one i)
 
-pub verb-differs : (w l : List ℕ) (i : ℕ) → length w ≡ 6 → 6 ≤ length l → i < 6 → (getD l i 0 ≡ getD w i 0 → ⊥)
-    → same (drop i (take 6 l)) (drop i w) ≡ false
+pub verb-differs : (w l : List ℕ) (i : ℕ) → length w ≡ wordWidth → wordWidth ≤ length l → i < wordWidth → (getD l i 0 ≡ getD w i 0 → ⊥)
+    → same (drop i (take wordWidth l)) (drop i w) ≡ false
 verb-differs w l i m h k n = verb-next w l i m h k ∙ rw (ne-eqb (getD l i 0) (getD w i 0) n)
 
-pub verb-ends : (w l : List ℕ) (i : ℕ) → length w ≡ 6 → 6 ≤ i → same (drop i (take 6 l)) (drop i w) ≡ true
+pub verb-ends : (w l : List ℕ) (i : ℕ) → length w ≡ wordWidth → wordWidth ≤ i → same (drop i (take wordWidth l)) (drop i w) ≡ true
 unfolding same
-verb-ends w l i m h = rw (drop-of-length-le (take 6 l) {i = i} (omega (arith, length-take 6 l)), drop-of-length-le w {i = i} (omega arith))
+verb-ends w l i m h = rw (drop-of-length-le (take wordWidth l) {i = i} (omega (arith, length-take wordWidth l)), drop-of-length-le w {i = i} (omega arith))
 
 -- a line under 6 bytes begins with no verb
 shorter : (a b : List ℕ) → length a < length b → same a b ≡ false
@@ -71,9 +66,28 @@ shorter [] (y ∷ b) h = refl
 shorter (x ∷ a) [] h = absurd (omega arith)
 shorter (x ∷ a) (y ∷ b) h = by-test (eqb x y) (λ e. rw e (shorter a b (omega arith))) (λ e. rw e)
 
-pub verb-short : (v : Verb) (l : List ℕ) → length l < 6 → begins v l ≡ false
+pub verb-short : (v : Verb) (l : List ℕ) → length l < wordWidth → begins v l ≡ false
 unfolding begins
-verb-short v l h = let m = verb-length v in shorter (take 6 l) (verbColumns v) (omega (arith, length-take 6 l))
+verb-short v l h = let m = verb-length v in shorter (take wordWidth l) (verbColumns v) (omega (arith, length-take wordWidth l))
+
+-- ---- the verbs of the table one after another
+
+module _ (l : List ℕ) (i : ℕ) where
+  -- the verb at place i is the line's
+  pub verb-first : (v : Verb) → i < length verbs → v ≡ getD verbs i Verb.Enter → begins v l ≡ true
+      → first (λ u. begins u l) (drop i verbs) ≡ some v
+  unfolding first
+  verb-first v h e k = rw (drop-cons verbs i Verb.Enter h, ← e, k)
+
+  -- or it is one of those after it
+  pub verb-later : (v : Verb) → i < length verbs → v ≡ getD verbs i Verb.Enter → begins v l ≡ false
+      → first (λ u. begins u l) (drop i verbs) ≡ first (λ u. begins u l) (drop (i + 1) verbs)
+  unfolding first
+  verb-later v h e k = rw (drop-cons verbs i Verb.Enter h, ← e, k, add-one i)
+
+  pub verb-none : length verbs ≤ i → first (λ u. begins u l) (drop i verbs) ≡ none
+  unfolding first
+  verb-none h = rw (drop-of-length-le verbs {i = i} h)
 
 -- ---- label bytes
 
@@ -106,11 +120,11 @@ module _ (g : Group) (k : Field) (n : ℕ) (s : FileSet) (e : k ≡ Field.Number
   join-falls h = rw (e, d, le-ltb (g .last) n h)
 
 pub group-more : (n i : ℕ) (l : List ℕ) (g : Group) (a : ℕ) → i < n
-    → groupFrom (n - i) (drop a l) g ≡ groupFrom (n - (i + 1)) (drop (a + 3) l) (joined g (numberOf 1 64 (take 3 (drop a l))))
+    → groupFrom (n - i) (drop a l) g ≡ groupFrom (n - (i + 1)) (drop (a + fileWidth) l) (joined g (fileIn (take fileWidth (drop a l))))
 unfolding groupFrom
 group-more n i l g a h =
     let e : n - i ≡ suc (n - (i + 1)) = omega arith in
-    rw (e, ← drop-drop 3 a l)
+    rw (e, ← drop-drop fileWidth a l)
 
 pub group-start : (n : ℕ) (l : List ℕ) (g : Group) → groupFrom n l g ≡ groupFrom (n - 0) l g
 group-start n l g = let e : n - 0 ≡ n = omega arith in rw e
@@ -124,19 +138,19 @@ stays-bad : (n : ℕ) (l : List ℕ) (g : Group) → g .good ≡ false → group
 unfolding groupFrom
 stays-bad zero l g h = h
 stays-bad (suc n) l g h =
-    field-cases (numberOf 1 64 (take 3 l))
-    (λ e. rw (e, groupFrom) (stays-bad n (drop 3 l) (joined g Field.Bad) refl))
-    (λ f e. rw (e, groupFrom) (stays-bad n (drop 3 l) (joined g (Field.Number f)) h))
+    field-cases (fileIn (take fileWidth l))
+    (λ e. rw (e, groupFrom) (stays-bad n (drop fileWidth l) (joined g Field.Bad) refl))
+    (λ f e. rw (e, groupFrom) (stays-bad n (drop fileWidth l) (joined g (Field.Number f)) h))
 
 -- without the numbers of all files the group is bad
 group-none : (n : ℕ) (l : List ℕ) (g : Group) → filesIn n l ≡ none → groupFrom n l g .good ≡ false
 unfolding groupFrom filesIn
 group-none zero l g h = no-some (sym h)
 group-none (suc n) l g h =
-    field-cases (numberOf 1 64 (take 3 l))
-    (λ e. rw (e, groupFrom) (stays-bad n (drop 3 l) (joined g Field.Bad) refl))
-    (λ f e. by-option (filesIn n (drop 3 l))
-    (λ d. rw (e, groupFrom) (group-none n (drop 3 l) (joined g (Field.Number f)) d))
+    field-cases (fileIn (take fileWidth l))
+    (λ e. rw (e, groupFrom) (stays-bad n (drop fileWidth l) (joined g Field.Bad) refl))
+    (λ f e. by-option (filesIn n (drop fileWidth l))
+    (λ d. rw (e, groupFrom) (group-none n (drop fileWidth l) (joined g (Field.Number f)) d))
     (λ fs d. no-some (sym (rw (e, d) at h))))
 
 swap-and : (a b c : Bool) → (b && (a && c)) ≡ ((a && b) && c)
@@ -157,13 +171,13 @@ group-some zero l g fs h =
     let e : fs ≡ [] = sym (some-same h) in
     rw e (record { good = refl; rising = refl; files = refl })
 group-some (suc n) l g fs h =
-    field-cases (numberOf 1 64 (take 3 l))
+    field-cases (fileIn (take fileWidth l))
     (λ e. no-some (rw e at h))
-    (λ f e. by-option (filesIn n (drop 3 l))
+    (λ f e. by-option (filesIn n (drop fileWidth l))
     (λ d. no-some (rw (e, d) at h))
     (λ ks d.
     let u : fs ≡ f ∷ ks = sym (some-same (rw (e, d) at h)) in
-    let i = group-some n (drop 3 l) (joined g (Field.Number f)) ks d in
+    let i = group-some n (drop fileWidth l) (joined g (Field.Number f)) ks d in
     rw (e, u) (record {
       good = i .good;
       rising = i .rising ∙ swap-and (ltb (g .last) f) (risesFrom f ks) (g .rising);
@@ -176,38 +190,39 @@ both false b x y = refl
 
 -- ---- ENTER by the groups that the code reads
 
-abbrev pub enterBy : Group → Group → ℕ → Request
-enterBy v q p =
-    cond (v .good) (cond (q .good) (cond (v .rising) (cond (q .rising) (taken Verb.Enter p 0 (v .files) (q .files))
+abbrev pub enterBy : Verb → Group → Group → ℕ → Request
+enterBy k v q p =
+    cond (v .good) (cond (q .good) (cond (v .rising) (cond (q .rising) (taken k p 0 (v .files) (q .files))
     (refused Refusal.NotRising)) (refused Refusal.NotRising)) (refused Refusal.BadNumber))
     (refused Refusal.BadNumber)
 
-module _ (v q : Group) (p : ℕ) where
-  pub v-bad : v .good ≡ false → enterBy v q p ≡ refused Refusal.BadNumber
+module _ (k : Verb) (v q : Group) (p : ℕ) where
+  pub v-bad : v .good ≡ false → enterBy k v q p ≡ refused Refusal.BadNumber
   v-bad e = rw e
 
-  pub q-bad : v .good ≡ true → q .good ≡ false → enterBy v q p ≡ refused Refusal.BadNumber
+  pub q-bad : v .good ≡ true → q .good ≡ false → enterBy k v q p ≡ refused Refusal.BadNumber
   q-bad e d = rw (e, d)
 
-  pub v-falls : v .good ≡ true → q .good ≡ true → v .rising ≡ false → enterBy v q p ≡ refused Refusal.NotRising
+  pub v-falls : v .good ≡ true → q .good ≡ true → v .rising ≡ false → enterBy k v q p ≡ refused Refusal.NotRising
   v-falls e d h = rw (e, d, h)
 
-  pub q-falls : v .good ≡ true → q .good ≡ true → v .rising ≡ true → q .rising ≡ false → enterBy v q p ≡ refused Refusal.NotRising
-  q-falls e d h k = rw (e, d, h, k)
+  pub q-falls : v .good ≡ true → q .good ≡ true → v .rising ≡ true → q .rising ≡ false → enterBy k v q p ≡ refused Refusal.NotRising
+  q-falls e d h i = rw (e, d, h, i)
 
   pub both-good : v .good ≡ true → q .good ≡ true → v .rising ≡ true → q .rising ≡ true
-      → enterBy v q p ≡ taken Verb.Enter p 0 (v .files) (q .files)
-  both-good e d h k = rw (e, d, h, k)
+      → enterBy k v q p ≡ taken k p 0 (v .files) (q .files)
+  both-good e d h i = rw (e, d, h, i)
 
-pub enter-by : (l : List ℕ) (p w r : ℕ) → enterFiles l p w r ≡ enterBy (groupFrom w (drop 23 l) noGroup) (groupFrom r (drop (23 + 3 * w) l) noGroup) p
-unfolding enterFiles
-enter-by l p w r =
-    by-option (filesIn w (drop 23 l)) (λ e. rw (e, group-none w (drop 23 l) noGroup e))
+pub enter-by : (k : Verb) (l : List ℕ) (p w r : ℕ)
+    → entryFiles k l p w r ≡ enterBy k (groupFrom w (drop filesAt l) noGroup) (groupFrom r (drop (entryLength w) l) noGroup) p
+unfolding entryFiles
+enter-by k l p w r =
+    by-option (filesIn w (drop filesAt l)) (λ e. rw (e, group-none w (drop filesAt l) noGroup e))
     (λ vs e.
-    let v = group-some w (drop 23 l) noGroup vs e in
-    by-option (filesIn r (drop (23 + 3 * w) l)) (λ d. rw (e, d, v .good, group-none r (drop (23 + 3 * w) l) noGroup d))
+    let v = group-some w (drop filesAt l) noGroup vs e in
+    by-option (filesIn r (drop (entryLength w) l)) (λ d. rw (e, d, v .good, group-none r (drop (entryLength w) l) noGroup d))
     (λ qs d.
-    let q = group-some r (drop (23 + 3 * w) l) noGroup qs d in
+    let q = group-some r (drop (entryLength w) l) noGroup qs d in
     rw (
       e,
       d,
@@ -223,108 +238,119 @@ enter-by l p w r =
 
 -- ---- each result of the readers
 
-pub counts-w : (l : List ℕ) (p : ℕ) → numberOf 0 64 (take 3 (drop 17 l)) ≡ Field.Bad → enterCounts l p ≡ refused Refusal.BadNumber
-unfolding enterCounts numberAt
-counts-w l p e = rw e
+module _ (v : Verb) (l : List ℕ) where
+  pub counts-w : (p : ℕ) → wField l ≡ Field.Bad → entryCounts v l p ≡ refused Refusal.BadNumber
+  unfolding entryCounts
+  counts-w p e = rw e
 
-pub counts-r : (l : List ℕ) (p w : ℕ) → numberOf 0 64 (take 3 (drop 17 l)) ≡ Field.Number w
-    → numberOf 0 64 (take 3 (drop 20 l)) ≡ Field.Bad → enterCounts l p ≡ refused Refusal.BadNumber
-unfolding enterCounts numberAt
-counts-r l p w e d = rw (e, d)
+  pub counts-r : (p w : ℕ) → wField l ≡ Field.Number w → rField l ≡ Field.Bad → entryCounts v l p ≡ refused Refusal.BadNumber
+  unfolding entryCounts
+  counts-r p w e d = rw (e, d)
 
-pub counts-length : (l : List ℕ) (p w r : ℕ) → numberOf 0 64 (take 3 (drop 17 l)) ≡ Field.Number w
-    → numberOf 0 64 (take 3 (drop 20 l)) ≡ Field.Number r
-    → (length l ≡ 23 + 3 * (w + r) → ⊥) → enterCounts l p ≡ refused Refusal.BadLength
-unfolding enterCounts numberAt
-counts-length l p w r e d n = rw (e, d, ne-eqb (length l) (23 + 3 * (w + r)) n)
+  pub counts-length : (p w r : ℕ) → wField l ≡ Field.Number w → rField l ≡ Field.Number r
+      → (length l ≡ entryLength (w + r) → ⊥) → entryCounts v l p ≡ refused Refusal.BadLength
+  unfolding entryCounts
+  counts-length p w r e d n = rw (e, d, ne-eqb (length l) (entryLength (w + r)) n)
 
-pub counts-good : (l : List ℕ) (p w r : ℕ) → numberOf 0 64 (take 3 (drop 17 l)) ≡ Field.Number w → numberOf 0 64 (take 3 (drop 20 l)) ≡ Field.Number r
-    → length l ≡ 23 + 3 * (w + r) → enterCounts l p ≡ enterFiles l p w r
-unfolding enterCounts numberAt
-counts-good l p w r e d n = rw (e, d, eq-eqb (length l) (23 + 3 * (w + r)) n)
+  pub counts-good : (p w r : ℕ) → wField l ≡ Field.Number w → rField l ≡ Field.Number r
+      → length l ≡ entryLength (w + r) → entryCounts v l p ≡ entryFiles v l p w r
+  unfolding entryCounts
+  counts-good p w r e d n = rw (e, d, eq-eqb (length l) (entryLength (w + r)) n)
 
-pub enter-short : (l : List ℕ) → length l < 23 → enterOf l ≡ refused Refusal.BadLength
-unfolding enterOf
-enter-short l h = rw (lt-ltb (length l) 23 h)
+  pub entry-short : length l < filesAt → entryLine v l ≡ refused Refusal.BadLength
+  unfolding entryLine
+  entry-short h = rw (lt-ltb (length l) filesAt h)
 
-pub enter-program : (l : List ℕ) → 23 ≤ length l → numberOf 1 32 (take 3 (drop 6 l)) ≡ Field.Bad → enterOf l ≡ refused Refusal.BadNumber
-unfolding enterOf programAt numberAt
-enter-program l h e = rw (le-ltb (length l) 23 h, e)
+  pub entry-program : filesAt ≤ length l → programField l ≡ Field.Bad → entryLine v l ≡ refused Refusal.BadNumber
+  unfolding entryLine
+  entry-program h e = rw (le-ltb (length l) filesAt h, e)
 
-pub enter-label : (l : List ℕ) (p : ℕ) → 23 ≤ length l → numberOf 1 32 (take 3 (drop 6 l)) ≡ Field.Number p
-    → all labelByte (take 8 (drop 9 l)) ≡ false → enterOf l ≡ refused Refusal.BadLabel
-unfolding enterOf programAt numberAt labelPart
-enter-label l p h e d = rw (le-ltb (length l) 23 h, e, d)
+  pub entry-label : (p : ℕ) → filesAt ≤ length l → programField l ≡ Field.Number p → all labelByte (labelPart l) ≡ false
+      → entryLine v l ≡ refused Refusal.BadLabel
+  unfolding entryLine
+  entry-label p h e d = rw (le-ltb (length l) filesAt h, e, d)
 
-pub enter-good : (l : List ℕ) (p : ℕ) → 23 ≤ length l → numberOf 1 32 (take 3 (drop 6 l)) ≡ Field.Number p
-    → all labelByte (take 8 (drop 9 l)) ≡ true → enterOf l ≡ enterCounts l p
-unfolding enterOf programAt numberAt labelPart
-enter-good l p h e d = rw (le-ltb (length l) 23 h, e, d)
+  pub entry-good : (p : ℕ) → filesAt ≤ length l → programField l ≡ Field.Number p → all labelByte (labelPart l) ≡ true
+      → entryLine v l ≡ entryCounts v l p
+  unfolding entryLine
+  entry-good p h e d = rw (le-ltb (length l) filesAt h, e, d)
 
-pub file-length : (v : Verb) (l : List ℕ) → (length l ≡ 12 → ⊥) → fileOf v l ≡ refused Refusal.BadLength
-unfolding fileOf
-file-length v l n = rw (ne-eqb (length l) 12 n)
+  pub file-length : (length l ≡ fileLength → ⊥) → fileLine v l ≡ refused Refusal.BadLength
+  unfolding fileLine
+  file-length n = rw (ne-eqb (length l) fileLength n)
 
-pub file-program : (v : Verb) (l : List ℕ) → length l ≡ 12 → numberOf 1 32 (take 3 (drop 6 l)) ≡ Field.Bad → fileOf v l ≡ refused Refusal.BadNumber
-unfolding fileOf programAt numberAt
-file-program v l n e = rw (eq-eqb (length l) 12 n, e)
+  pub file-program : length l ≡ fileLength → programField l ≡ Field.Bad → fileLine v l ≡ refused Refusal.BadNumber
+  unfolding fileLine
+  file-program n e = rw (eq-eqb (length l) fileLength n, e)
 
-pub file-file : (v : Verb) (l : List ℕ) (p : ℕ) → length l ≡ 12 → numberOf 1 32 (take 3 (drop 6 l)) ≡ Field.Number p
-    → numberOf 1 64 (take 3 (drop 9 l)) ≡ Field.Bad → fileOf v l ≡ refused Refusal.BadNumber
-unfolding fileOf programAt numberAt
-file-file v l p n e d = rw (eq-eqb (length l) 12 n, e, d)
+  pub file-file : (p : ℕ) → length l ≡ fileLength → programField l ≡ Field.Number p → fileField l ≡ Field.Bad
+      → fileLine v l ≡ refused Refusal.BadNumber
+  unfolding fileLine
+  file-file p n e d = rw (eq-eqb (length l) fileLength n, e, d)
 
-pub file-good : (v : Verb) (l : List ℕ) (p f : ℕ) → length l ≡ 12 → numberOf 1 32 (take 3 (drop 6 l)) ≡ Field.Number p
-    → numberOf 1 64 (take 3 (drop 9 l)) ≡ Field.Number f → fileOf v l ≡ taken v p f noFiles noFiles
-unfolding fileOf programAt numberAt
-file-good v l p f n e d = rw (eq-eqb (length l) 12 n, e, d)
+  pub file-good : (p f : ℕ) → length l ≡ fileLength → programField l ≡ Field.Number p → fileField l ≡ Field.Number f
+      → fileLine v l ≡ taken v p f noFiles noFiles
+  unfolding fileLine
+  file-good p f n e d = rw (eq-eqb (length l) fileLength n, e, d)
 
-pub alone-length : (v : Verb) (l : List ℕ) → (length l ≡ 9 → ⊥) → aloneOf v l ≡ refused Refusal.BadLength
-unfolding aloneOf
-alone-length v l n = rw (ne-eqb (length l) 9 n)
+  pub alone-length : (length l ≡ aloneLength → ⊥) → aloneLine v l ≡ refused Refusal.BadLength
+  unfolding aloneLine
+  alone-length n = rw (ne-eqb (length l) aloneLength n)
 
-pub alone-program : (v : Verb) (l : List ℕ) → length l ≡ 9 → numberOf 1 32 (take 3 (drop 6 l)) ≡ Field.Bad → aloneOf v l ≡ refused Refusal.BadNumber
-unfolding aloneOf programAt numberAt
-alone-program v l n e = rw (eq-eqb (length l) 9 n, e)
+  pub alone-program : length l ≡ aloneLength → programField l ≡ Field.Bad → aloneLine v l ≡ refused Refusal.BadNumber
+  unfolding aloneLine
+  alone-program n e = rw (eq-eqb (length l) aloneLength n, e)
 
-pub alone-good : (v : Verb) (l : List ℕ) (p : ℕ) → length l ≡ 9 → numberOf 1 32 (take 3 (drop 6 l)) ≡ Field.Number p
-    → aloneOf v l ≡ taken v p 0 noFiles noFiles
-unfolding aloneOf programAt numberAt
-alone-good v l p n e = rw (eq-eqb (length l) 9 n, e)
+  pub alone-good : (p : ℕ) → length l ≡ aloneLength → programField l ≡ Field.Number p → aloneLine v l ≡ taken v p 0 noFiles noFiles
+  unfolding aloneLine
+  alone-good p n e = rw (eq-eqb (length l) aloneLength n, e)
 
--- a number in three columns is at most the range's end
-pub at-most : (low high : ℕ) (l : List ℕ) (n : ℕ) (f : Field) → f ≡ numberOf low high l → f ≡ Field.Number n → n ≤ high
-at-most low high l n f e d = number-is low high l n (sym e ∙ d) .1
+-- ---- by the verb that a line begins with
+
+pub read-with : (l : List ℕ) (v : Verb) → begun (verbOf l) ≡ Beginning.With v → requestOf l ≡ readAs (shapeOf v) v l
+unfolding requestOf
+read-with l v h = by-option (verbOf l) (λ e. absurd (let k : Beginning.Unknown ≡ Beginning.With v = rw e at h in
+    let z : _≡_ {A = ℕ} 0 1 = cc in omega arith))
+    (λ u e. let k : Beginning.With u ≡ Beginning.With v = rw e at h in let d : u ≡ v = cc in rw (e, d))
+
+pub read-unknown : (l : List ℕ) → begun (verbOf l) ≡ Beginning.Unknown → requestOf l ≡ refused Refusal.NoVerb
+unfolding requestOf
+read-unknown l h = by-option (verbOf l) (λ e. rw e)
+    (λ u e. absurd (let k : Beginning.With u ≡ Beginning.Unknown = rw e at h in let z : _≡_ {A = ℕ} 0 1 = cc in omega arith))
+
+-- a number in columns is at most the range's end
+pub at-most : (w low high : ℕ) (l : List ℕ) (n : ℕ) (f : Field) → f ≡ numberOf w low high l → f ≡ Field.Number n → n ≤ high
+at-most w low high l n f e d = number-is w low high l n (sym e ∙ d) .1
+
+-- the part `&line[a..a + k]`
+pub part-is : (l : List ℕ) (a k : ℕ) → take (a + k - a) (drop a l) ≡ take k (drop a l)
+part-is l a k = ap (λ (n : ℕ). take n (drop a l)) (add-sub-cancel-left a k)
 
 -- ---- the label's line
 
-pub part-three : (l : List ℕ) (a : ℕ) → take (a + 3 - a) (drop a l) ≡ take 3 (drop a l)
-part-three l a = ap (λ (k : ℕ). take k (drop a l)) (add-sub-cancel-left a 3)
-
--- lines of other verbs have no label
-file-entry : (v : Verb) (l : List ℕ) → isEntryBy Reading.Taken v ≡ false → isEntry (fileOf v l) ≡ false
-unfolding fileOf
+-- lines of other shapes have no label
+file-entry : (v : Verb) (l : List ℕ) → hasLabel (shapeOf v) ≡ false → isEntry (fileLine v l) ≡ false
+unfolding fileLine
 file-entry v l h =
-    by-test (eqb (length l) 12)
-    (λ e. field-cases (programAt l) (λ d. rw (e, d)) (λ p d.
-    field-cases (numberAt 9 1 64 l) (λ k. rw (e, d, k)) (λ f k. rw (e, d, k) h)))
+    by-test (eqb (length l) fileLength)
+    (λ e. field-cases (programField l) (λ d. rw (e, d)) (λ p d.
+    field-cases (fileField l) (λ k. rw (e, d, k)) (λ f k. rw (e, d, k) h)))
     (λ e. rw e)
 
-alone-entry : (v : Verb) (l : List ℕ) → isEntryBy Reading.Taken v ≡ false → isEntry (aloneOf v l) ≡ false
-unfolding aloneOf
-alone-entry v l h = by-test (eqb (length l) 9) (λ e. field-cases (programAt l) (λ d. rw (e, d)) (λ p d. rw (e, d) h)) (λ e. rw e)
+alone-entry : (v : Verb) (l : List ℕ) → hasLabel (shapeOf v) ≡ false → isEntry (aloneLine v l) ≡ false
+unfolding aloneLine
+alone-entry v l h = by-test (eqb (length l) aloneLength) (λ e. field-cases (programField l) (λ d. rw (e, d)) (λ p d. rw (e, d) h)) (λ e. rw e)
 
-enter-entry : (l : List ℕ) → isEntry (enterOf l) ≡ true → 23 ≤ length l
-unfolding enterOf
-enter-entry l h = by-test (ltb (length l) 23) (λ e. never (rw e at h) refl) (λ e. ltb-false (length l) 23 e)
+enter-entry : (v : Verb) (l : List ℕ) → isEntry (entryLine v l) ≡ true → filesAt ≤ length l
+unfolding entryLine
+enter-entry v l h = by-test (ltb (length l) filesAt) (λ e. never (rw e at h) refl) (λ e. ltb-false (length l) filesAt e)
 
-pub entry-long : (l : List ℕ) → isEntry (requestOf l) ≡ true → 23 ≤ length l
+entry-as : (s : Shape) (v : Verb) (l : List ℕ) → shapeOf v ≡ s → isEntry (readAs s v l) ≡ true → filesAt ≤ length l
+entry-as Shape.Entry v l e h = enter-entry v l h
+entry-as Shape.File v l e h = never h (file-entry v l (ap hasLabel e))
+entry-as Shape.Alone v l e h = never h (alone-entry v l (ap hasLabel e))
+
+-- a line that has a label has the columns before its files
+pub entry-long : (l : List ℕ) → isEntry (requestOf l) ≡ true → filesAt ≤ length l
 unfolding requestOf
-entry-long l h =
-    by-test (begins Verb.Enter l) (λ e. enter-entry l (rw e at h)) (λ e.
-    by-test (begins Verb.Open l) (λ f. never (rw (e, f) at h) (file-entry Verb.Open l refl)) (λ f.
-    by-test (begins Verb.Close l) (λ g. never (rw (e, f, g) at h) (file-entry Verb.Close l refl)) (λ g.
-    by-test (begins Verb.Drop l) (λ i. never (rw (e, f, g, i) at h) (file-entry Verb.Drop l refl)) (λ i.
-    by-test (begins Verb.Leave l) (λ j. never (rw (e, f, g, i, j) at h) (alone-entry Verb.Leave l refl)) (λ j.
-    by-test (begins Verb.Cancel l) (λ k. never (rw (e, f, g, i, j, k) at h) (alone-entry Verb.Cancel l refl))
-    (λ k. never (rw (e, f, g, i, j, k) at h) refl))))))
+entry-long l h = by-option (verbOf l) (λ e. never (rw e at h) refl) (λ v e. entry-as (shapeOf v) v l refl (rw e at h))

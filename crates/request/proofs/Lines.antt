@@ -1,33 +1,37 @@
--- A line is taken with a call exactly when it is the line that asks for this call, with some label. Assumes nothing.
+-- A line is taken with a call exactly when it is the line that asks for this call, with some label; by the shapes of lines. Assumes nothing.
 use Prim.Native.Nat.{ℕ, _+_, _*_, _≤_}
-use mathlib.Core.Path.{_≡_, refl, ap, sym, _∙_}
+use mathlib.Core.Path.{_≡_, refl, ap, ap₂, sym, subst, _∙_}
 use mathlib.Core.List.{List, [], _++_, append-nil}
 use mathlib.Core.Option.{some}
-use mathlib.Core.Bool.{true, false, _&&_}
+use mathlib.Core.Bool.{true, _&&_}
 use lib.Dec.{eqb, ltb}
 use lib.ListN.{length, take, drop, replicate, length-append, length-take, length-drop, take-append-drop}
 use lib.Seq.{take-at, drop-at, drop-drop, take-all}
 use native.Mathlib.Omega.{arith}
 use borrow.Author.Tests.{eqb-true}
 use Rattle.laws.specs.Tests.{by-test, by-option, never, and-left, and-right}
+use Rattle.laws.specs.Lists.{all}
+use Rattle.laws.specs.Laws.{same-eq, first-some}
 use Rattle.columns.specs.declared.Field.{Field}
-use Rattle.columns.specs.Columns.{columnsOf, numberOf}
-use Rattle.columns.proofs.Laws.{columns-length, field-cases, number-is, number-columns}
+use Rattle.columns.specs.Columns.{wordWidth, programWidth, fileWidth, columnsOf}
+use Rattle.columns.proofs.Laws.{columns-length, field-cases, number-is}
 use Rattle.columns.proofs.Rows.{flat-length}
-use Rattle.files.specs.declared.FileSet.{FileSet}
 use Rattle.files.specs.Sets.{noFiles}
+use Rattle.rules.specs.declared.Asked.{Asked}
 use Rattle.rules.specs.declared.Refusal.{Refusal}
-use Rattle.laws.specs.Lists.{all, same}
-use Rattle.laws.specs.Laws.{same-eq}
-use Rattle.rules.specs.Calls.{Call, Enter, Open, Close, Drop, Leave, Cancel}
 use Rattle.rules.specs.declared.Verb.{Verb}
+use Rattle.rules.specs.Calls.{Call, Enter, callOf}
 use Rattle.request.specs.declared.Reading.{Reading}
 use Rattle.request.specs.declared.Request.{Request}
-use Rattle.request.specs.Requests.{taken, requestCall, verbColumns, begins, numberAt, programAt, labelByte, labelPart}
-use Rattle.request.specs.Requests.{filesIn, rises, setOf, enterFiles, enterCounts, enterOf, fileOf, aloneOf, requestOf}
-use Rattle.request.specs.Requests.{isEntry, labelOf, filesOf, filesColumns, lineOf}
-use Rattle.request.specs.Law.{IsLabel, InRange, saying, TakenWith, AsksFor, LineLaw, SayingLaw, LabelLaw}
-use Rattle.request.proofs.Laws.{verb-length, enter-good, counts-good, file-good, alone-good}
+use Rattle.request.specs.declared.Shape.{Shape}
+use Rattle.request.specs.Verbs.{verbs, verbColumns, shapeOf, programAt, aloneLength, fileAt, fileLength, labelWidth, labelAt, wAt, rAt}
+use Rattle.request.specs.Verbs.{filesAt, entryLength}
+use Rattle.request.specs.Requests.{asking, taken, requestCall, begins, programIn, fileIn, countIn, programField, fileField, wField, rField}
+use Rattle.request.specs.Requests.{labelByte, labelPart, filesIn, rises, setOf, entryFiles, entryCounts, entryLine, fileLine, aloneLine}
+use Rattle.request.specs.Requests.{readAs, verbOf, requestOf, hasLabel, isEntry, labelOf, filesOf, filesColumns, askedBy, lineAs, lineFor, lineOf}
+use Rattle.request.specs.Law.{IsLabel, RangeAs, InRange, saying, TakenWith, AsksFor, LineLaw, SayingLaw, LabelLaw}
+use Rattle.request.proofs.Verbs.{AskedBack, verb-good, verb-length, ProperAs, call-good, line-begins, verb-found, program-columns, file-columns, count-columns}
+use Rattle.request.proofs.Laws.{entry-good, counts-good, file-good, alone-good}
 use Rattle.request.proofs.Groups.{set-bits, files-files, files-rise, files-length, set-back, list-back, columns-back, files-read}
 
 -- ---- a line that asks for a call is read as this call
@@ -36,102 +40,135 @@ use Rattle.request.proofs.Groups.{set-bits, files-files, files-rise, fi
 past : (n k : ℕ) (l x y : List ℕ) → drop n l ≡ x ++ y → length x ≡ k → (take k (drop n l) ≡ x) × (drop (n + k) l ≡ y)
 past n k l x y e h = (rw e (take-at x y k h), sym (drop-drop k n l) ∙ rw e (drop-at x y k h))
 
+-- what a line says that is read as it was written
+abbrev read-back : Shape → Asked → List ℕ → Type 0
+read-back s a label = readAs s (a .verb) (lineAs s a label) ≡ record { reading = Reading.Taken; asked = a }
+
 -- OPEN, CLOSE, DROP
-file-read : (v : Verb) (p f : ℕ) → (1 ≤ p) × (p ≤ 32) × (1 ≤ f) × (f ≤ 64)
-    → fileOf v (verbColumns v ++ (columnsOf p ++ columnsOf f)) ≡ taken v p f noFiles noFiles
-unfolding columnsOf
-file-read v p f h =
-    let l = verbColumns v ++ (columnsOf p ++ columnsOf f) in
-    let n : length l ≡ 12 = length-append (verbColumns v) (columnsOf p ++ columnsOf f) ∙ ap (λ (x : ℕ). x + 6) (verb-length v) in
-    let a = past 6 3 l (columnsOf p) (columnsOf f) (drop-at (verbColumns v) (columnsOf p ++ columnsOf f) 6 (verb-length v)) refl in
-    file-good v l p f n (ap (numberOf 1 32) (a .0) ∙ number-columns 1 32 p (omega (arith, h .1)) (h .0) (h .1))
-    (ap (λ (x : List ℕ). numberOf 1 64 (take 3 x)) (a .1) ∙ number-columns 1 64 f (omega (arith, h .3)) (h .2) (h .3))
+file-read : (a : Asked) (label : List ℕ) → RangeAs Shape.File a → ProperAs Shape.File a → read-back Shape.File a label
+unfolding programField fileField
+file-read a label h k =
+    let p = columnsOf programWidth (a .program) in
+    let f = columnsOf fileWidth (a .file) in
+    let l = lineAs Shape.File a label in
+    let n : length l ≡ fileLength = omega (
+      arith,
+      length-append (verbColumns (a .verb)) (p ++ f),
+      length-append p f,
+      verb-length (a .verb),
+      columns-length programWidth (a .program),
+      columns-length fileWidth (a .file),
+    ) in
+    let v = drop-at (verbColumns (a .verb)) (p ++ f) programAt (verb-length (a .verb)) in
+    let i = past programAt programWidth l p f v (columns-length programWidth (a .program)) in
+    let j = ap (take fileWidth) (i .1) ∙ take-all fileWidth f (omega (arith, columns-length fileWidth (a .file))) in
+    file-good (a .verb) l (a .program) (a .file) n (ap programIn (i .0) ∙ program-columns (a .program) (h .0) (h .1))
+    (ap fileIn j ∙ file-columns (a .file) (h .2) (h .3))
+    ∙ ap₂ (taken (a .verb) (a .program) (a .file)) (sym (k .0)) (sym (k .1))
 
 -- LEAVE, CANCEL
-alone-read : (v : Verb) (p : ℕ) → (1 ≤ p) × (p ≤ 32) → aloneOf v (verbColumns v ++ columnsOf p) ≡ taken v p 0 noFiles noFiles
-unfolding columnsOf
-alone-read v p h =
-    let l = verbColumns v ++ columnsOf p in
-    let n : length l ≡ 9 = length-append (verbColumns v) (columnsOf p) ∙ ap (λ (x : ℕ). x + 3) (verb-length v) in
-    let d = drop-at (verbColumns v) (columnsOf p) 6 (verb-length v) in
-    alone-good v l p n (ap (λ (x : List ℕ). numberOf 1 32 (take 3 x)) d ∙ number-columns 1 32 p (omega (arith, h .1)) (h .0) (h .1))
+alone-read : (a : Asked) (label : List ℕ) → RangeAs Shape.Alone a → ProperAs Shape.Alone a → read-back Shape.Alone a label
+unfolding programField
+alone-read a label h k =
+    let p = columnsOf programWidth (a .program) in
+    let l = lineAs Shape.Alone a label in
+    let m = columns-length programWidth (a .program) in
+    let n : length l ≡ aloneLength = omega (arith, length-append (verbColumns (a .verb)) p, verb-length (a .verb), m) in
+    let v = drop-at (verbColumns (a .verb)) p programAt (verb-length (a .verb)) in
+    let j = ap (take programWidth) v ∙ take-all programWidth p (omega arith) in
+    alone-good (a .verb) l (a .program) n (ap programIn j ∙ program-columns (a .program) (h .0) (h .1))
+    ∙ ap (λ (f : ℕ). taken (a .verb) (a .program) f noFiles noFiles) (sym (k .0))
+    ∙ ap₂ (taken (a .verb) (a .program) (a .file)) (sym (k .1)) (sym (k .2))
 
 -- the parts of an ENTER line
-record Parts (p : ℕ) (v q : FileSet) (given l : List ℕ) : Type 0 where
-  verb : begins Verb.Enter l ≡ true
-  program : take 3 (drop 6 l) ≡ columnsOf p
-  label : take 8 (drop 9 l) ≡ given
-  w : take 3 (drop 17 l) ≡ columnsOf (length (filesOf v))
-  r : take 3 (drop 20 l) ≡ columnsOf (length (filesOf q))
-  vs : drop 23 l ≡ filesColumns (filesOf v) ++ filesColumns (filesOf q)
-  qs : drop (23 + 3 * length (filesOf v)) l ≡ filesColumns (filesOf q)
-  long : length l ≡ 23 + 3 * (length (filesOf v) + length (filesOf q))
+record Parts (a : Asked) (given l : List ℕ) : Type 0 where
+  program : take programWidth (drop programAt l) ≡ columnsOf programWidth (a .program)
+  label : take labelWidth (drop labelAt l) ≡ given
+  w : take fileWidth (drop wAt l) ≡ columnsOf fileWidth (length (filesOf (a .writable)))
+  r : take fileWidth (drop rAt l) ≡ columnsOf fileWidth (length (filesOf (a .readable)))
+  vs : drop filesAt l ≡ filesColumns (filesOf (a .writable)) ++ filesColumns (filesOf (a .readable))
+  qs : drop (entryLength (length (filesOf (a .writable)))) l ≡ filesColumns (filesOf (a .readable))
+  long : length l ≡ entryLength (length (filesOf (a .writable)) + length (filesOf (a .readable)))
 
-parts : (p : ℕ) (v q : FileSet) (label : List ℕ) → length label ≡ 8 → Parts p v q label (lineOf (Enter p v q) label)
-unfolding begins same lineOf
-parts p v q label h =
-    let l = lineOf (Enter p v q) label in
-    let a = past 6 3 l (columnsOf p) _ refl (columns-length p) in
-    let b = past 9 8 l label _ (a .1) h in
-    let c = past 17 3 l (columnsOf (length (filesOf v))) _ (b .1) (columns-length (length (filesOf v))) in
-    let d = past 20 3 l (columnsOf (length (filesOf q))) _ (c .1) (columns-length (length (filesOf q))) in
-    let nv = flat-length columnsOf 3 columns-length (filesOf v) in
-    let nq = flat-length columnsOf 3 columns-length (filesOf q) in
-    let e = past 23 (3 * length (filesOf v)) l (filesColumns (filesOf v)) (filesColumns (filesOf q)) (d .1) nv in
-    let x = filesColumns (filesOf v) ++ filesColumns (filesOf q) in
-    let y = columnsOf (length (filesOf q)) ++ x in
-    let z = columnsOf (length (filesOf v)) ++ y in
-    let n : length l ≡ 23 + 3 * (length (filesOf v) + length (filesOf q)) = omega (
+parts : (a : Asked) (label : List ℕ) → length label ≡ labelWidth → Parts a label (lineAs Shape.Entry a label)
+parts a label h =
+    let l = lineAs Shape.Entry a label in
+    let v = verbColumns (a .verb) in
+    let p = columnsOf programWidth (a .program) in
+    let vs = filesOf (a .writable) in
+    let qs = filesOf (a .readable) in
+    let nv = flat-length (columnsOf fileWidth) fileWidth (columns-length fileWidth) vs in
+    let nq = flat-length (columnsOf fileWidth) fileWidth (columns-length fileWidth) qs in
+    let lw = columns-length fileWidth (length vs) in
+    let lr = columns-length fileWidth (length qs) in
+    let x = filesColumns vs ++ filesColumns qs in
+    let y = columnsOf fileWidth (length qs) ++ x in
+    let z = columnsOf fileWidth (length vs) ++ y in
+    let i = past programAt programWidth l p (label ++ z) (drop-at v (p ++ (label ++ z)) programAt (verb-length (a .verb)))
+    (columns-length programWidth (a .program)) in
+    let b = past labelAt labelWidth l label z (i .1) h in
+    let c = past wAt fileWidth l (columnsOf fileWidth (length vs)) y (b .1) lw in
+    let d = past rAt fileWidth l (columnsOf fileWidth (length qs)) x (c .1) lr in
+    let e = past filesAt (fileWidth * length vs) l (filesColumns vs) (filesColumns qs) (d .1) nv in
+    let n : length l ≡ entryLength (length vs + length qs) = omega (
       arith,
-      length-append (columnsOf p) (label ++ z),
+      length-append v (p ++ (label ++ z)),
+      length-append p (label ++ z),
       length-append label z,
-      length-append (columnsOf (length (filesOf v))) y,
-      length-append (columnsOf (length (filesOf q))) x,
-      length-append (filesColumns (filesOf v)) (filesColumns (filesOf q)),
-      columns-length p,
-      columns-length (length (filesOf v)),
-      columns-length (length (filesOf q)),
+      length-append (columnsOf fileWidth (length vs)) y,
+      length-append (columnsOf fileWidth (length qs)) x,
+      length-append (filesColumns vs) (filesColumns qs),
+      verb-length (a .verb),
+      columns-length programWidth (a .program),
+      lw,
+      lr,
       nv,
       nq,
     ) in
-    record { verb = refl; program = a .0; label = b .0; w = c .0; r = d .0; vs = d .1; qs = e .1; long = n }
+    record { program = i .0; label = b .0; w = c .0; r = d .0; vs = d .1; qs = e .1; long = n }
 
-enter-read : (p : ℕ) (v q : FileSet) (label : List ℕ) → InRange (Enter p v q) → IsLabel label
-    → requestOf (lineOf (Enter p v q) label) ≡ saying (Enter p v q)
-unfolding requestOf enterFiles
-enter-read p v q label h k =
-    let l = lineOf (Enter p v q) label in
-    let vs = filesOf v in
-    let qs = filesOf q in
-    let m = parts p v q label (k .0) in
-    let lv = files-length v in
-    let lq = files-length q in
-    let np = ap (numberOf 1 32) (m .program) ∙ number-columns 1 32 p (omega (arith, h .1)) (h .0) (h .1) in
-    let nw = ap (numberOf 0 64) (m .w) ∙ number-columns 0 64 (length vs) (omega arith) (omega arith) lv in
-    let nr = ap (numberOf 0 64) (m .r) ∙ number-columns 0 64 (length qs) (omega arith) (omega arith) lq in
-    let lab = ap (all labelByte) (m .label) ∙ k .1 in
-    let fv : filesIn (length vs) (drop 23 l) ≡ some vs = ap (filesIn (length vs)) (m .vs) ∙ columns-back vs (filesColumns qs) (files-files v) in
-    let fq : filesIn (length qs) (drop (23 + 3 * length vs) l) ≡ some qs =
-    ap (filesIn (length qs)) (m .qs ∙ sym (append-nil (filesColumns qs))) ∙ columns-back qs [] (files-files q) in
-    let room : 23 ≤ length l = omega (arith, m .long) in
-    let e : enterFiles l p (length vs) (length qs) ≡ saying (Enter p v q) =
-    rw (fv, fq, files-rise v, files-rise q, set-back v (h .2), set-back q (h .3)) in
-    rw (m .verb) (enter-good l p room np lab ∙ counts-good l p (length vs) (length qs) nw nr (m .long) ∙ e)
+-- ENTER
+entry-read : (a : Asked) (label : List ℕ) → RangeAs Shape.Entry a → ProperAs Shape.Entry a → IsLabel label → read-back Shape.Entry a label
+unfolding entryFiles programField wField rField labelPart
+entry-read a label h k g =
+    let l = lineAs Shape.Entry a label in
+    let vs = filesOf (a .writable) in
+    let qs = filesOf (a .readable) in
+    let m = parts a label (g .0) in
+    let np = ap programIn (m .program) ∙ program-columns (a .program) (h .0) (h .1) in
+    let nw = ap countIn (m .w) ∙ count-columns (length vs) (files-length (a .writable)) in
+    let nr = ap countIn (m .r) ∙ count-columns (length qs) (files-length (a .readable)) in
+    let lab = ap (all labelByte) (m .label) ∙ g .1 in
+    let fv : filesIn (length vs) (drop filesAt l) ≡ some vs =
+    ap (filesIn (length vs)) (m .vs) ∙ columns-back vs (filesColumns qs) (files-files (a .writable)) in
+    let fq : filesIn (length qs) (drop (entryLength (length vs)) l) ≡ some qs =
+    ap (filesIn (length qs)) (m .qs ∙ sym (append-nil (filesColumns qs))) ∙ columns-back qs [] (files-files (a .readable)) in
+    let room : filesAt ≤ length l = omega (arith, m .long) in
+    let e : entryFiles (a .verb) l (a .program) (length vs) (length qs) ≡ taken (a .verb) (a .program) 0 (a .writable) (a .readable) =
+    rw (fv, fq, files-rise (a .writable), files-rise (a .readable), set-back (a .writable) (h .2), set-back (a .readable) (h .3)) in
+    entry-good (a .verb) l (a .program) room np lab ∙ counts-good (a .verb) l (a .program) (length vs) (length qs) nw nr (m .long) ∙ e
+    ∙ ap (λ (f : ℕ). taken (a .verb) (a .program) f (a .writable) (a .readable)) (sym k)
+
+as-read : (s : Shape) (a : Asked) (label : List ℕ) → RangeAs s a → ProperAs s a → IsLabel label → read-back s a label
+as-read Shape.Entry a label h k g = entry-read a label h k g
+as-read Shape.File a label h k g = file-read a label h k
+as-read Shape.Alone a label h k g = alone-read a label h k
 
 -- THE LAW, one way: the line that asks for a call within range is taken, and says this call
 pub line-read : SayingLaw
-unfolding requestOf begins same lineOf
-line-read (Enter p v q) label h k = enter-read p v q label h k
-line-read (Open p f) label h k = file-read Verb.Open p f h
-line-read (Close p f) label h k = file-read Verb.Close p f h
-line-read (Drop p f) label h k = file-read Verb.Drop p f h
-line-read (Leave p) label h k = alone-read Verb.Leave p h
-line-read (Cancel p) label h k = alone-read Verb.Cancel p h
+unfolding requestOf lineFor
+line-read c label h g = let a = askedBy c in
+    rw (verb-found (a .verb) (lineOf c label) (line-begins (shapeOf (a .verb)) a label))
+    (as-read (shapeOf (a .verb)) a label h (call-good c .proper) g)
 
 -- and its label is the one that stands in it
+pub label-there : (a : Asked) (label : List ℕ) → length label ≡ labelWidth → labelPart (lineAs Shape.Entry a label) ≡ label
+unfolding labelPart
+label-there a label h = parts a label h .label
+
 pub label-read : LabelLaw
-unfolding labelOf labelPart
-label-read p v q label h k = rw (enter-read p v q label h k) (parts p v q label (k .0) .label)
+unfolding labelOf lineFor
+label-read p v q label h g = rw (line-read (Enter p v q) label h g) (label-there (askedBy (Enter p v q)) label (g .0))
 
 -- ---- a line that is taken is the line that asks for its call
 
@@ -139,9 +176,9 @@ label-read p v q label h k = rw (enter-read p v q label h k) (parts p v q label 
 not-taken : {P : Type 0} (r : Refusal) → Reading.Refused r ≡ Reading.Taken → P
 not-taken r h = absurd (let z : _≡_ {A = ℕ} 0 1 = cc in omega arith)
 
-verb-is : (v : Verb) (l : List ℕ) → begins v l ≡ true → take 6 l ≡ verbColumns v
+verb-is : (v : Verb) (l : List ℕ) → begins v l ≡ true → take wordWidth l ≡ verbColumns v
 unfolding begins
-verb-is v l h = same-eq (take 6 l) (verbColumns v) h
+verb-is v l h = same-eq (take wordWidth l) (verbColumns v) h
 
 -- a part of a line, and what stands after it
 cut : (n k : ℕ) (l x : List ℕ) → take k (drop n l) ≡ x → drop n l ≡ x ++ drop (n + k) l
@@ -151,113 +188,90 @@ cut n k l x e = sym (take-append-drop k (drop n l)) ∙ rw (e, drop-drop k n l)
 cut-last : (n k : ℕ) (l x : List ℕ) → length l ≡ n + k → take k (drop n l) ≡ x → drop n l ≡ x
 cut-last n k l x h e = sym (take-all k (drop n l) (omega (arith, length-drop n l))) ∙ e
 
--- what holds of a line that says q
-pub record Says (l : List ℕ) (q : Request) : Type 0 where
-  pub call : q ≡ saying (requestCall q)
-  pub range : InRange (requestCall q)
-  pub line : l ≡ lineOf (requestCall q) (labelPart l)
-  pub label : isEntry q ≡ true → IsLabel (labelPart l)
+-- what holds of a line of this shape that is taken
+record Asks (s : Shape) (v : Verb) (l : List ℕ) : Type 0 where
+  asked : Asked
+  reads : readAs s v l ≡ record { reading = Reading.Taken; asked = asked }
+  verb : asked .verb ≡ v
+  back : askedBy (callOf asked) ≡ asked
+  range : RangeAs s asked
+  line : l ≡ lineAs s asked (labelPart l)
+  label : hasLabel s ≡ true → IsLabel (labelPart l)
 
-pub call-back : (c : Call) → requestCall (saying c) ≡ c
-call-back (Enter p v q) = refl
-call-back (Open p f) = refl
-call-back (Close p f) = refl
-call-back (Drop p f) = refl
-call-back (Leave p) = refl
-call-back (Cancel p) = refl
-
--- a line of another verb than ENTER says a call
-other-says : (l : List ℕ) (q : Request) (c : Call) → isEntry (saying c) ≡ false → q ≡ saying c → InRange c → l ≡ lineOf c (labelPart l) → Says l q
-other-says l q c h e r n =
-    rw e (record {
-      call = ap saying (sym (call-back c));
-      range = rw (call-back c) r;
-      line = rw (call-back c) n;
-      label = λ z. never z h;
-    })
-
--- LEAVE, CANCEL: the number
-record One (v : Verb) (l : List ℕ) : Type 0 where
-  p : ℕ
-  range : (1 ≤ p) × (p ≤ 32)
-  says : aloneOf v l ≡ taken v p 0 noFiles noFiles
-  line : l ≡ verbColumns v ++ columnsOf p
-
-one : (v : Verb) (l : List ℕ) → begins v l ≡ true → aloneOf v l .reading ≡ Reading.Taken → One v l
-unfolding aloneOf programAt numberAt
-one v l b h =
-    by-test (eqb (length l) 9)
-    (λ e. field-cases (numberOf 1 32 (take 3 (drop 6 l))) (λ d. not-taken Refusal.BadNumber (rw (e, d) at h))
+-- LEAVE, CANCEL
+alone-asks : (v : Verb) (l : List ℕ) → AskedBack Shape.Alone v → begins v l ≡ true → aloneLine v l .reading ≡ Reading.Taken → Asks Shape.Alone v l
+unfolding aloneLine programField
+alone-asks v l back b h =
+    by-test (eqb (length l) aloneLength)
+    (λ e. field-cases (programIn (take programWidth (drop programAt l))) (λ d. not-taken Refusal.BadNumber (rw (e, d) at h))
     (λ p d.
-    let n = number-is 1 32 (take 3 (drop 6 l)) p d in
-    let i = cut 0 6 l (verbColumns v) (verb-is v l b) in
-    let j = cut-last 6 3 l (columnsOf p) (eqb-true (length l) 9 e) (n .2) in
+    let n = number-is programWidth 1 32 (take programWidth (drop programAt l)) p d in
+    let i = cut 0 wordWidth l (verbColumns v) (verb-is v l b) in
+    let j = cut-last programAt programWidth l (columnsOf programWidth p) (eqb-true (length l) aloneLength e) (n .2) in
     record {
-      p = p;
+      asked = asking v p 0 noFiles noFiles;
+      reads = rw (e, d);
+      verb = refl;
+      back = back p;
       range = (n .0, n .1);
-      says = rw (e, d);
       line = i ∙ ap (λ (x : List ℕ). verbColumns v ++ x) j;
+      label = λ z. never z refl;
     }))
     (λ e. not-taken Refusal.BadLength (rw e at h))
 
--- OPEN, CLOSE, DROP: the numbers
-record Two (v : Verb) (l : List ℕ) : Type 0 where
-  p : ℕ
-  f : ℕ
-  range : (1 ≤ p) × (p ≤ 32) × (1 ≤ f) × (f ≤ 64)
-  says : fileOf v l ≡ taken v p f noFiles noFiles
-  line : l ≡ verbColumns v ++ (columnsOf p ++ columnsOf f)
-
-two : (v : Verb) (l : List ℕ) → begins v l ≡ true → fileOf v l .reading ≡ Reading.Taken → Two v l
-unfolding fileOf programAt numberAt
-two v l b h =
-    by-test (eqb (length l) 12)
-    (λ e. field-cases (numberOf 1 32 (take 3 (drop 6 l))) (λ d. not-taken Refusal.BadNumber (rw (e, d) at h))
-    (λ p d. field-cases (numberOf 1 64 (take 3 (drop 9 l))) (λ k. not-taken Refusal.BadNumber (rw (e, d, k) at h))
+-- OPEN, CLOSE, DROP
+file-asks : (v : Verb) (l : List ℕ) → AskedBack Shape.File v → begins v l ≡ true → fileLine v l .reading ≡ Reading.Taken → Asks Shape.File v l
+unfolding fileLine programField fileField
+file-asks v l back b h =
+    by-test (eqb (length l) fileLength)
+    (λ e. field-cases (programIn (take programWidth (drop programAt l))) (λ d. not-taken Refusal.BadNumber (rw (e, d) at h))
+    (λ p d. field-cases (fileIn (take fileWidth (drop fileAt l))) (λ k. not-taken Refusal.BadNumber (rw (e, d, k) at h))
     (λ f k.
-    let n = number-is 1 32 (take 3 (drop 6 l)) p d in
-    let m = number-is 1 64 (take 3 (drop 9 l)) f k in
-    let i = cut 0 6 l (verbColumns v) (verb-is v l b) in
-    let j = cut 6 3 l (columnsOf p) (n .2) in
-    let o = cut-last 9 3 l (columnsOf f) (eqb-true (length l) 12 e) (m .2) in
+    let n = number-is programWidth 1 32 (take programWidth (drop programAt l)) p d in
+    let m = number-is fileWidth 1 64 (take fileWidth (drop fileAt l)) f k in
+    let i = cut 0 wordWidth l (verbColumns v) (verb-is v l b) in
+    let j = cut programAt programWidth l (columnsOf programWidth p) (n .2) in
+    let o = cut-last fileAt fileWidth l (columnsOf fileWidth f) (eqb-true (length l) fileLength e) (m .2) in
     record {
-      p = p;
-      f = f;
+      asked = asking v p f noFiles noFiles;
+      reads = rw (e, d, k);
+      verb = refl;
+      back = back p f;
       range = (n .0, n .1, m .0, m .1);
-      says = rw (e, d, k);
-      line = i ∙ ap (λ (x : List ℕ). verbColumns v ++ x) (j ∙ ap (λ (x : List ℕ). columnsOf p ++ x) o);
+      line = i ∙ ap (λ (x : List ℕ). verbColumns v ++ x) (j ∙ ap (λ (x : List ℕ). columnsOf programWidth p ++ x) o);
+      label = λ z. never z refl;
     })))
     (λ e. not-taken Refusal.BadLength (rw e at h))
 
 -- ENTER: the numbers and the files
-record Entry (l : List ℕ) : Type 0 where
+record Entry (v : Verb) (l : List ℕ) : Type 0 where
   p : ℕ
   w : ℕ
   r : ℕ
   vs : List ℕ
   qs : List ℕ
-  label : all labelByte (take 8 (drop 9 l)) ≡ true
-  at-p : numberOf 1 32 (take 3 (drop 6 l)) ≡ Field.Number p
-  at-w : numberOf 0 64 (take 3 (drop 17 l)) ≡ Field.Number w
-  at-r : numberOf 0 64 (take 3 (drop 20 l)) ≡ Field.Number r
-  long : length l ≡ 23 + 3 * (w + r)
-  at-vs : filesIn w (drop 23 l) ≡ some vs
-  at-qs : filesIn r (drop (23 + 3 * w) l) ≡ some qs
+  label : all labelByte (labelPart l) ≡ true
+  at-p : programField l ≡ Field.Number p
+  at-w : wField l ≡ Field.Number w
+  at-r : rField l ≡ Field.Number r
+  long : length l ≡ entryLength (w + r)
+  at-vs : filesIn w (drop filesAt l) ≡ some vs
+  at-qs : filesIn r (drop (entryLength w) l) ≡ some qs
   vs-rise : rises vs ≡ true
   qs-rise : rises qs ≡ true
-  says : enterOf l ≡ taken Verb.Enter p 0 (setOf vs) (setOf qs)
+  says : entryLine v l ≡ taken v p 0 (setOf vs) (setOf qs)
 
-entry : (l : List ℕ) → enterOf l .reading ≡ Reading.Taken → Entry l
-unfolding enterOf enterCounts enterFiles programAt numberAt labelPart
-entry l h =
-    by-test (ltb (length l) 23) (λ e. not-taken Refusal.BadLength (rw e at h)) (λ e.
-    field-cases (numberOf 1 32 (take 3 (drop 6 l))) (λ f. not-taken Refusal.BadNumber (rw (e, f) at h)) (λ p f.
-    by-test (all labelByte (take 8 (drop 9 l)))
-    (λ g. field-cases (numberOf 0 64 (take 3 (drop 17 l))) (λ i. not-taken Refusal.BadNumber (rw (e, f, g, i) at h)) (λ w i.
-    field-cases (numberOf 0 64 (take 3 (drop 20 l))) (λ j. not-taken Refusal.BadNumber (rw (e, f, g, i, j) at h)) (λ r j.
-    by-test (eqb (length l) (23 + 3 * (w + r)))
-    (λ k. by-option (filesIn w (drop 23 l)) (λ m. not-taken Refusal.BadNumber (rw (e, f, g, i, j, k, m) at h)) (λ vs m.
-    by-option (filesIn r (drop (23 + 3 * w) l)) (λ n. not-taken Refusal.BadNumber (rw (e, f, g, i, j, k, m, n) at h)) (λ qs n.
+entry : (v : Verb) (l : List ℕ) → entryLine v l .reading ≡ Reading.Taken → Entry v l
+unfolding entryLine entryCounts entryFiles
+entry v l h =
+    by-test (ltb (length l) filesAt) (λ e. not-taken Refusal.BadLength (rw e at h)) (λ e.
+    field-cases (programField l) (λ f. not-taken Refusal.BadNumber (rw (e, f) at h)) (λ p f.
+    by-test (all labelByte (labelPart l))
+    (λ g. field-cases (wField l) (λ i. not-taken Refusal.BadNumber (rw (e, f, g, i) at h)) (λ w i.
+    field-cases (rField l) (λ j. not-taken Refusal.BadNumber (rw (e, f, g, i, j) at h)) (λ r j.
+    by-test (eqb (length l) (entryLength (w + r)))
+    (λ k. by-option (filesIn w (drop filesAt l)) (λ m. not-taken Refusal.BadNumber (rw (e, f, g, i, j, k, m) at h)) (λ vs m.
+    by-option (filesIn r (drop (entryLength w) l)) (λ n. not-taken Refusal.BadNumber (rw (e, f, g, i, j, k, m, n) at h)) (λ qs n.
     by-test (rises vs && rises qs)
     (λ o. record {
       p = p;
@@ -269,7 +283,7 @@ entry l h =
       at-p = f;
       at-w = i;
       at-r = j;
-      long = eqb-true (length l) (23 + 3 * (w + r)) k;
+      long = eqb-true (length l) (entryLength (w + r)) k;
       at-vs = m;
       at-qs = n;
       vs-rise = and-left (rises vs) (rises qs) o;
@@ -280,71 +294,88 @@ entry l h =
     (λ k. not-taken Refusal.BadLength (rw (e, f, g, i, j, k) at h)))))
     (λ g. not-taken Refusal.BadLabel (rw (e, f, g) at h))))
 
-entry-says : (l : List ℕ) → begins Verb.Enter l ≡ true → Entry l → Says l (enterOf l)
-unfolding lineOf labelPart
-entry-says l b t =
+entry-asks : (v : Verb) (l : List ℕ) → AskedBack Shape.Entry v → begins v l ≡ true → Entry v l → Asks Shape.Entry v l
+unfolding labelPart programField wField rField
+entry-asks v l back b t =
     let vs = t .vs in
     let qs = t .qs in
-    let n = number-is 1 32 (take 3 (drop 6 l)) (t .p) (t .at-p) in
-    let nw = number-is 0 64 (take 3 (drop 17 l)) (t .w) (t .at-w) in
-    let nr = number-is 0 64 (take 3 (drop 20 l)) (t .r) (t .at-r) in
-    let rv = files-read (t .w) (drop 23 l) vs (t .at-vs) in
-    let rq = files-read (t .r) (drop (23 + 3 * t .w) l) qs (t .at-qs) in
+    let n = number-is programWidth 1 32 (take programWidth (drop programAt l)) (t .p) (t .at-p) in
+    let nw = number-is fileWidth 0 64 (take fileWidth (drop wAt l)) (t .w) (t .at-w) in
+    let nr = number-is fileWidth 0 64 (take fileWidth (drop rAt l)) (t .r) (t .at-r) in
+    let rv = files-read (t .w) (drop filesAt l) vs (t .at-vs) in
+    let rq = files-read (t .r) (drop (entryLength (t .w)) l) qs (t .at-qs) in
     let bv = list-back vs (rv .files) (t .vs-rise) in
     let bq = list-back qs (rq .files) (t .qs-rise) in
-    let cw : take 3 (drop 17 l) ≡ columnsOf (length vs) = nw .2 ∙ ap columnsOf (sym (rv .count)) in
-    let cr : take 3 (drop 20 l) ≡ columnsOf (length qs) = nr .2 ∙ ap columnsOf (sym (rq .count)) in
-    let long : length l ≡ 23 + 3 * t .w + 3 * t .r = omega (arith, t .long) in
-    let d0 = cut 0 6 l (verbColumns Verb.Enter) (verb-is Verb.Enter l b) in
-    let d6 = cut 6 3 l (columnsOf (t .p)) (n .2) in
-    let d9 = cut 9 8 l (take 8 (drop 9 l)) refl in
-    let d17 = cut 17 3 l (columnsOf (length vs)) cw in
-    let d20 = cut 20 3 l (columnsOf (length qs)) cr in
-    let d23 = cut 23 (3 * t .w) l (filesColumns vs) (rv .columns) in
-    let last = cut-last (23 + 3 * t .w) (3 * t .r) l (filesColumns qs) long (rq .columns) in
-    let size : length (take 8 (drop 9 l)) ≡ 8 = omega (arith, length-take 8 (drop 9 l), length-drop 9 l, long) in
-    let line : l ≡ verbColumns Verb.Enter ++
-    (columnsOf (t .p) ++ (take 8 (drop 9 l) ++ (columnsOf (length vs) ++ (columnsOf (length qs) ++
-    (filesColumns vs ++ filesColumns qs))))) =
-    d0 ∙ ap (λ (x : List ℕ). verbColumns Verb.Enter ++ x) (d6 ∙ ap (λ (x : List ℕ). columnsOf (t .p) ++ x)
-    (d9 ∙ ap (λ (x : List ℕ). take 8 (drop 9 l) ++ x) (d17 ∙ ap (λ (x : List ℕ). columnsOf (length vs) ++ x)
-    (d20 ∙ ap (λ (x : List ℕ). columnsOf (length qs) ++ x) (d23 ∙ ap (λ (x : List ℕ). filesColumns vs ++ x) last))))) in
-    rw (t .says)
-    (record {
-      call = refl;
+    let cw : take fileWidth (drop wAt l) ≡ columnsOf fileWidth (length vs) = nw .2 ∙ ap (columnsOf fileWidth) (sym (rv .count)) in
+    let cr : take fileWidth (drop rAt l) ≡ columnsOf fileWidth (length qs) = nr .2 ∙ ap (columnsOf fileWidth) (sym (rq .count)) in
+    let long : length l ≡ entryLength (t .w) + fileWidth * t .r = omega (arith, t .long) in
+    let given = take labelWidth (drop labelAt l) in
+    let d0 = cut 0 wordWidth l (verbColumns v) (verb-is v l b) in
+    let d1 = cut programAt programWidth l (columnsOf programWidth (t .p)) (n .2) in
+    let d2 = cut labelAt labelWidth l given refl in
+    let d3 = cut wAt fileWidth l (columnsOf fileWidth (length vs)) cw in
+    let d4 = cut rAt fileWidth l (columnsOf fileWidth (length qs)) cr in
+    let d5 = cut filesAt (fileWidth * t .w) l (filesColumns vs) (rv .columns) in
+    let last = cut-last (entryLength (t .w)) (fileWidth * t .r) l (filesColumns qs) long (rq .columns) in
+    let size : length given ≡ labelWidth = omega (arith, length-take labelWidth (drop labelAt l), length-drop labelAt l, long) in
+    let line : l ≡ verbColumns v ++ (columnsOf programWidth (t .p) ++ (given ++ (columnsOf fileWidth (length vs)
+    ++ (columnsOf fileWidth (length qs) ++ (filesColumns vs ++ filesColumns qs))))) =
+    d0 ∙ ap (λ (x : List ℕ). verbColumns v ++ x) (d1 ∙ ap (λ (x : List ℕ). columnsOf programWidth (t .p) ++ x)
+    (d2 ∙ ap (λ (x : List ℕ). given ++ x) (d3 ∙ ap (λ (x : List ℕ). columnsOf fileWidth (length vs) ++ x)
+    (d4 ∙ ap (λ (x : List ℕ). columnsOf fileWidth (length qs) ++ x) (d5 ∙ ap (λ (x : List ℕ). filesColumns vs ++ x) last))))) in
+    record {
+      asked = asking v (t .p) 0 (setOf vs) (setOf qs);
+      reads = t .says;
+      verb = refl;
+      back = back (t .p) (setOf vs) (setOf qs);
       range = (n .0, n .1, set-bits vs (rv .files), set-bits qs (rq .files));
       line = line ∙ sym (rw (bv, bq));
       label = λ z. (size, t .label);
+    }
+
+as-asks : (s : Shape) (v : Verb) (l : List ℕ) → AskedBack s v → begins v l ≡ true → readAs s v l .reading ≡ Reading.Taken → Asks s v l
+as-asks Shape.Entry v l back b h = entry-asks v l back b (entry v l h)
+as-asks Shape.File v l back b h = file-asks v l back b h
+as-asks Shape.Alone v l back b h = alone-asks v l back b h
+
+-- what holds of a line that says q
+pub record Says (l : List ℕ) (q : Request) : Type 0 where
+  pub call : q ≡ saying (requestCall q)
+  pub range : InRange (requestCall q)
+  pub line : l ≡ lineOf (requestCall q) (labelPart l)
+  pub label : isEntry q ≡ true → IsLabel (labelPart l)
+
+asks-says : (v : Verb) (l : List ℕ) → Asks (shapeOf v) v l → Says l (readAs (shapeOf v) v l)
+unfolding lineFor
+asks-says v l t =
+    let a = t .asked in
+    let shape : shapeOf (a .verb) ≡ shapeOf v = ap shapeOf (t .verb) in
+    rw (t .reads) (record {
+      call = ap (λ (x : Asked). record { reading = Reading.Taken; asked = x }) (sym (t .back));
+      range = rw (t .back) (subst (λ (s : Shape). RangeAs s a) (sym shape) (t .range));
+      line = rw (t .back) (t .line ∙ ap (λ (s : Shape). lineAs s a (labelPart l)) (sym shape));
+      label = λ z. t .label (sym (ap hasLabel shape) ∙ z);
     })
 
 -- THE LAW, the other way: a line that is taken is the line that asks for the call it says, with its own label
 pub read-line : (l : List ℕ) → requestOf l .reading ≡ Reading.Taken → Says l (requestOf l)
-unfolding requestOf lineOf
-read-line l h =
-    by-test (begins Verb.Enter l) (λ e. rw e (entry-says l e (entry l (rw e at h)))) (λ e.
-    by-test (begins Verb.Open l) (λ f. let t = two Verb.Open l f (rw (e, f) at h) in
-    rw (e, f) (other-says l _ (Open (t .p) (t .f)) (refl {a = false}) (t .says) (t .range) (t .line))) (λ f.
-    by-test (begins Verb.Close l) (λ g. let t = two Verb.Close l g (rw (e, f, g) at h) in
-    rw (e, f, g) (other-says l _ (Close (t .p) (t .f)) (refl {a = false}) (t .says) (t .range) (t .line))) (λ g.
-    by-test (begins Verb.Drop l) (λ i. let t = two Verb.Drop l i (rw (e, f, g, i) at h) in
-    rw (e, f, g, i) (other-says l _ (Drop (t .p) (t .f)) (refl {a = false}) (t .says) (t .range) (t .line))) (λ i.
-    by-test (begins Verb.Leave l) (λ j. let t = one Verb.Leave l j (rw (e, f, g, i, j) at h) in
-    rw (e, f, g, i, j) (other-says l _ (Leave (t .p)) (refl {a = false}) (t .says) (t .range) (t .line))) (λ j.
-    by-test (begins Verb.Cancel l) (λ k. let t = one Verb.Cancel l k (rw (e, f, g, i, j, k) at h) in
-    rw (e, f, g, i, j, k) (other-says l _ (Cancel (t .p)) (refl {a = false}) (t .says) (t .range) (t .line)))
-    (λ k. not-taken Refusal.NoVerb (rw (e, f, g, i, j, k) at h)))))))
+unfolding requestOf verbOf
+read-line l h = by-option (verbOf l) (λ e. not-taken Refusal.NoVerb (rw e at h))
+    (λ v e. rw e (asks-says v l (as-asks (shapeOf v) v l (verb-good v .back) (first-some (λ u. begins u l) verbs v e .1) (rw e at h))))
 
 -- ---- both ways in one
 
--- the label matters to ENTER only
+-- the label matters to lines that have one
+as-label : (s : Shape) (a : Asked) (l : List ℕ) → (hasLabel s ≡ true → IsLabel l)
+    → (label : List ℕ) × IsLabel label × (lineAs s a l ≡ lineAs s a label)
+unfolding all
+as-label Shape.Entry a l h = (l, h refl, refl)
+as-label Shape.File a l h = (replicate labelWidth 32, (refl, refl), refl)
+as-label Shape.Alone a l h = (replicate labelWidth 32, (refl, refl), refl)
+
 pub some-label : (c : Call) (l : List ℕ) → (isEntry (saying c) ≡ true → IsLabel l) → (label : List ℕ) × IsLabel label × (lineOf c l ≡ lineOf c label)
-unfolding all lineOf
-some-label (Enter p v q) l h = (l, h refl, refl)
-some-label (Open p f) l h = (replicate 8 32, (refl, refl), refl)
-some-label (Close p f) l h = (replicate 8 32, (refl, refl), refl)
-some-label (Drop p f) l h = (replicate 8 32, (refl, refl), refl)
-some-label (Leave p) l h = (replicate 8 32, (refl, refl), refl)
-some-label (Cancel p) l h = (replicate 8 32, (refl, refl), refl)
+unfolding lineFor
+some-label c l h = as-label (shapeOf (askedBy c .verb)) (askedBy c) l h
 
 asks-of-taken : (l : List ℕ) (c : Call) → TakenWith l c → AsksFor l c
 asks-of-taken l c h =
@@ -356,7 +387,7 @@ asks-of-taken l c h =
 taken-of-asks : (l : List ℕ) (c : Call) → AsksFor l c → TakenWith l c
 taken-of-asks l c h =
     let e = ap requestOf (h .1 .2) ∙ line-read c (h .1 .0) (h .0) (h .1 .1) in
-    (ap (λ (q : Request). q .reading) e, ap requestCall e ∙ call-back c)
+    (ap (λ (q : Request). q .reading) e, ap requestCall e ∙ call-good c .back)
 
 pub line-law : LineLaw
 line-law l c = (asks-of-taken l c, taken-of-asks l c)

@@ -1,5 +1,5 @@
 -- What a line says is a refusal by 3 to 7, or a call whose program is at most 32 and whose file is at most 64. Assumes nothing.
-use Prim.Native.Nat.{ℕ, _+_, _*_, _≤_}
+use Prim.Native.Nat.{ℕ, _+_, _≤_}
 use mathlib.Core.Path.{_≡_, refl}
 use mathlib.Core.Bool.{Bool, true, false, cond, _&&_}
 use mathlib.Core.List.{List}
@@ -8,16 +8,17 @@ use native.Mathlib.Omega.{arith}
 use lib.Dec.{eqb, ltb}
 use lib.ListN.{length, take, drop}
 use Rattle.columns.specs.declared.Field.{Field}
-use Rattle.columns.specs.Columns.{numberOf, onNumber}
+use Rattle.columns.specs.Columns.{programWidth, fileWidth, numberOf, onNumber}
 use Rattle.columns.proofs.Laws.{number-is}
 use Rattle.files.specs.declared.FileSet.{FileSet}
 use Rattle.laws.specs.Lists.{all, withFound}
 use Rattle.rules.specs.declared.Refusal.{Refusal}
 use Rattle.rules.specs.declared.Verb.{Verb}
 use Rattle.request.specs.declared.Request.{Request}
-use Rattle.request.specs.declared.Beginning.{Beginning}
-use Rattle.request.specs.Requests.{refused, taken, begins, numberAt, programAt, labelByte, labelPart, filesIn, rises}
-use Rattle.request.specs.Requests.{enterFiles, enterCounts, enterOf, fileOf, aloneOf, verbOf, readBy, requestOf}
+use Rattle.request.specs.declared.Shape.{Shape}
+use Rattle.request.specs.Verbs.{shapeOf, programAt, aloneLength, fileAt, fileLength, wAt, rAt, filesAt, entryLength}
+use Rattle.request.specs.Requests.{refused, taken, programField, fileField, wField, rField, labelByte, labelPart, filesIn, rises}
+use Rattle.request.specs.Requests.{entryFiles, entryCounts, entryLine, fileLine, aloneLine, readAs, verbOf, requestOf}
 
 -- P holds of every such refusal and call
 pub record Ways (P : Request → Type 0) : Type 0 where
@@ -33,52 +34,46 @@ module _ (P : Request → Type 0) (h : Ways P) where
   either true f g = f
   either false f g = g
 
-  -- a number from low to high after the first a columns
-  a-number : (a low high : ℕ) (l : List ℕ) {d : Request} {f : ℕ → Request} → P d → ((n : ℕ) → n ≤ high → P (f n))
-      → P (onNumber (numberAt a low high l) d f)
-  unfolding numberAt
-  a-number a low high l {d} {f} g k = by-field (numberOf low high (take 3 (drop a l))) refl
+  -- a field of columns
+  a-number : (w low high : ℕ) (l : List ℕ) {d : Request} {f : ℕ → Request} → P d → ((n : ℕ) → n ≤ high → P (f n))
+      → P (onNumber (numberOf w low high l) d f)
+  a-number w low high l {d} {f} g k = by-field (numberOf w low high l) refl
     where
-      by-field : (e : Field) → numberOf low high (take 3 (drop a l)) ≡ e → P (onNumber e d f)
+      by-field : (e : Field) → numberOf w low high l ≡ e → P (onNumber e d f)
       by-field Field.Bad e = g
-      by-field (Field.Number n) e = k n (number-is low high (take 3 (drop a l)) n e .1)
+      by-field (Field.Number n) e = k n (number-is w low high l n e .1)
+
+  program-ways : (l : List ℕ) {f : ℕ → Request} → ((n : ℕ) → n ≤ 32 → P (f n)) → P (onNumber (programField l) (refused Refusal.BadNumber) f)
+  unfolding programField
+  program-ways l k = a-number programWidth 1 32 (take programWidth (drop programAt l)) (h .number) k
 
   some-files : (o : Option (List ℕ)) {d : Request} {f : List ℕ → Request} → P d → ((l : List ℕ) → P (f l)) → P (withFound o d f)
   some-files none g k = g
   some-files (some l) g k = k l
 
-  files-ways : (l : List ℕ) (p w r : ℕ) → p ≤ 32 → P (enterFiles l p w r)
-  unfolding enterFiles
-  files-ways l p w r k = some-files (filesIn w (drop 23 l)) (h .number) (λ vs. some-files (filesIn r (drop (23 + 3 * w) l)) (h .number)
-      (λ qs. either (rises vs && rises qs) (h .call Verb.Enter p 0 _ _ k (omega arith)) (h .rising)))
+  files-ways : (v : Verb) (l : List ℕ) (p w r : ℕ) → p ≤ 32 → P (entryFiles v l p w r)
+  unfolding entryFiles
+  files-ways v l p w r k = some-files (filesIn w (drop filesAt l)) (h .number) (λ vs. some-files (filesIn r (drop (entryLength w) l)) (h .number)
+      (λ qs. either (rises vs && rises qs) (h .call v p 0 _ _ k (omega arith)) (h .rising)))
 
-  counts-ways : (l : List ℕ) (p : ℕ) → p ≤ 32 → P (enterCounts l p)
-  unfolding enterCounts
-  counts-ways l p k = a-number 17 0 64 l (h .number) (λ w i. a-number 20 0 64 l (h .number)
-      (λ r j. either (eqb (length l) (23 + 3 * (w + r))) (files-ways l p w r k) (h .length)))
+  counts-ways : (v : Verb) (l : List ℕ) (p : ℕ) → p ≤ 32 → P (entryCounts v l p)
+  unfolding entryCounts wField rField
+  counts-ways v l p k = a-number fileWidth 0 64 (take fileWidth (drop wAt l)) (h .number)
+      (λ w i. a-number fileWidth 0 64 (take fileWidth (drop rAt l)) (h .number)
+      (λ r j. either (eqb (length l) (entryLength (w + r))) (files-ways v l p w r k) (h .length)))
 
-  enter-ways : (l : List ℕ) → P (enterOf l)
-  unfolding enterOf programAt
-  enter-ways l = either (ltb (length l) 23) (h .length) (a-number 6 1 32 l (h .number)
-      (λ p k. either (all labelByte (labelPart l)) (counts-ways l p k) (h .label)))
+  -- a line of any shape
+  shape-ways : (s : Shape) (v : Verb) (l : List ℕ) → P (readAs s v l)
+  unfolding entryLine fileLine aloneLine fileField
+  shape-ways Shape.Entry v l = either (ltb (length l) filesAt) (h .length) (program-ways l
+      (λ p k. either (all labelByte (labelPart l)) (counts-ways v l p k) (h .label)))
+  shape-ways Shape.File v l = either (eqb (length l) fileLength)
+      (program-ways l (λ p k. a-number fileWidth 1 64 (take fileWidth (drop fileAt l)) (h .number) (λ f i. h .call v p f _ _ k i))) (h .length)
+  shape-ways Shape.Alone v l = either (eqb (length l) aloneLength) (program-ways l (λ p k. h .call v p 0 _ _ k (omega arith))) (h .length)
 
-  file-ways : (v : Verb) (l : List ℕ) → P (fileOf v l)
-  unfolding fileOf programAt
-  file-ways v l = either (eqb (length l) 12)
-      (a-number 6 1 32 l (h .number) (λ p k. a-number 9 1 64 l (h .number) (λ f i. h .call v p f _ _ k i))) (h .length)
-
-  alone-ways : (v : Verb) (l : List ℕ) → P (aloneOf v l)
-  unfolding aloneOf programAt
-  alone-ways v l = either (eqb (length l) 9) (a-number 6 1 32 l (h .number) (λ p k. h .call v p 0 _ _ k (omega arith))) (h .length)
-
-  begun-ways : (b : Beginning) (l : List ℕ) → P (readBy b l)
-  begun-ways (Beginning.With Verb.Enter) l = enter-ways l
-  begun-ways (Beginning.With Verb.Open) l = file-ways Verb.Open l
-  begun-ways (Beginning.With Verb.Close) l = file-ways Verb.Close l
-  begun-ways (Beginning.With Verb.Drop) l = file-ways Verb.Drop l
-  begun-ways (Beginning.With Verb.Leave) l = alone-ways Verb.Leave l
-  begun-ways (Beginning.With Verb.Cancel) l = alone-ways Verb.Cancel l
-  begun-ways Beginning.Unknown l = h .no-verb
+  begun-ways : (b : Option Verb) (l : List ℕ) → P (withFound b (refused Refusal.NoVerb) (λ v. readAs (shapeOf v) v l))
+  begun-ways none l = h .no-verb
+  begun-ways (some v) l = shape-ways (shapeOf v) v l
 
   pub line-ways : (l : List ℕ) → P (requestOf l)
   unfolding requestOf

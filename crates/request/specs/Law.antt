@@ -7,36 +7,32 @@ use mathlib.Core.Bool.{true}
 use mathlib.Core.List.{List}
 use lib.ListN.{length}
 use Rattle.files.specs.declared.FileSet.{FileSet}
-use Rattle.files.specs.Sets.{noFiles, OfFiles}
+use Rattle.files.specs.Sets.{OfFiles}
 use Rattle.laws.specs.Lists.{all}
-use Rattle.rules.specs.Calls.{Call, Enter, Open, Close, Drop, Leave, Cancel}
+use Rattle.rules.specs.Calls.{Call, Enter}
 use Rattle.rules.specs.declared.Asked.{Asked}
-use Rattle.rules.specs.declared.Verb.{Verb}
 use Rattle.request.specs.declared.Reading.{Reading}
 use Rattle.request.specs.declared.Request.{Request}
-use Rattle.request.specs.Requests.{asking, requestCall, labelByte, requestOf, labelOf, lineOf}
+use Rattle.request.specs.declared.Shape.{Shape}
+use Rattle.request.specs.Verbs.{shapeOf, labelWidth}
+use Rattle.request.specs.Requests.{requestCall, labelByte, requestOf, labelOf, askedBy, lineOf}
 
 -- a label: eight bytes from 32 to 126
 abbrev pub IsLabel : List ℕ → Type 0
-IsLabel l = (length l ≡ 8) × (all labelByte l ≡ true)
+IsLabel l = (length l ≡ labelWidth) × (all labelByte l ≡ true)
 
--- the numbers of a call are those of a program, and of a file; claims are sets of the files 1 to 64
+-- the numbers are those of a program, and of a file; claims are sets of the files 1 to 64
+abbrev pub RangeAs : Shape → Asked → Type 0
+RangeAs Shape.Entry a = (1 ≤ a .program) × (a .program ≤ 32) × OfFiles (a .writable) × OfFiles (a .readable)
+RangeAs Shape.File a = (1 ≤ a .program) × (a .program ≤ 32) × (1 ≤ a .file) × (a .file ≤ 64)
+RangeAs Shape.Alone a = (1 ≤ a .program) × (a .program ≤ 32)
+
+abbrev pub AskedInRange : Asked → Type 0
+AskedInRange a = RangeAs (shapeOf (a .verb)) a
+
+-- the numbers and claims of a call are
 abbrev pub InRange : Call → Type 0
-InRange (Enter p v q) = (1 ≤ p) × (p ≤ 32) × OfFiles v × OfFiles q
-InRange (Open p f) = (1 ≤ p) × (p ≤ 32) × (1 ≤ f) × (f ≤ 64)
-InRange (Close p f) = (1 ≤ p) × (p ≤ 32) × (1 ≤ f) × (f ≤ 64)
-InRange (Drop p f) = (1 ≤ p) × (p ≤ 32) × (1 ≤ f) × (f ≤ 64)
-InRange (Leave p) = (1 ≤ p) × (p ≤ 32)
-InRange (Cancel p) = (1 ≤ p) × (p ≤ 32)
-
--- how a line asks for a call: all that does not apply is 0 or empty
-abbrev pub askedBy : Call → Asked
-askedBy (Enter p v q) = asking Verb.Enter p 0 v q
-askedBy (Open p f) = asking Verb.Open p f noFiles noFiles
-askedBy (Close p f) = asking Verb.Close p f noFiles noFiles
-askedBy (Drop p f) = asking Verb.Drop p f noFiles noFiles
-askedBy (Leave p) = asking Verb.Leave p 0 noFiles noFiles
-askedBy (Cancel p) = asking Verb.Cancel p 0 noFiles noFiles
+InRange c = AskedInRange (askedBy c)
 
 -- what a line that asks for a call says
 abbrev pub saying : Call → Request

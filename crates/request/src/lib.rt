@@ -5,13 +5,35 @@ use rules::Asked;
 use rules::Refusal;
 use rules::Verb;
 ghost use mathlib.Core.Path.{_≡_};
-ghost use Prim.Native.Nat.{_+_, _*_, _≤_};
-ghost use lib.ListN.{length, drop};
-ghost use Rattle.columns.specs.Columns.{numberOf};
+ghost use Prim.Native.Nat.{_+_, _*_, _≤_, _<_};
+ghost use lib.ListN.{length, getD, drop};
 ghost use Rattle.laws.specs.Lists.{all};
+ghost use Rattle.rules.specs.declared.Verb.{Verb};
+ghost use Rattle.columns.specs.Columns.{fileWidth};
+ghost use Rattle.request.specs.Verbs.{rowOf, verbs, verbColumns, shapeOf, aloneLength, filesAt, entryLength};
 ghost use Rattle.request.specs.Groups.{noGroup, joined, groupFrom};
-ghost use Rattle.request.specs.Requests.{refused, taken, verbColumns, begins, labelByte, enterFiles, enterCounts, enterOf, fileOf};
-ghost use Rattle.request.specs.Requests.{aloneOf, verbOf, shapeOf, readAs, requestOf, isEntry, labelOf};
+ghost use Rattle.request.specs.Requests.{refused, taken, begins, programField, fileIn, labelByte, entryFiles, entryCounts, entryLine, fileLine};
+ghost use Rattle.request.specs.Requests.{aloneLine, readAs, verbOf, begun, requestOf, hasLabel, isEntry, labelOf};
+
+// How many columns stand before each field, as `Verbs` has them.
+const PROGRAM_AT: usize = columns::WORD_WIDTH;
+
+pub const ALONE_LEN: usize = PROGRAM_AT + columns::PROGRAM_WIDTH;
+
+pub const FILE_LEN: usize = ALONE_LEN + columns::FILE_WIDTH;
+
+pub const LABEL_LEN: usize = 8;
+
+const W_AT: usize = ALONE_LEN + LABEL_LEN;
+
+const R_AT: usize = W_AT + columns::FILE_WIDTH;
+
+pub const FILES_AT: usize = R_AT + columns::FILE_WIDTH;
+
+// The longest line in form, and what a longer one is cut to.
+pub const LONGEST_LINE: usize = FILES_AT + columns::FILE_WIDTH * 128;
+
+pub const CUT_LINE: usize = LONGEST_LINE + 1;
 
 // Whether a line is taken.
 pub enum Reading {
@@ -30,6 +52,12 @@ pub enum Shape {
     Entry,
     File,
     Alone,
+}
+
+// A row of the table of verbs: the columns of the verb, and how a line with it goes on.
+pub struct Row {
+    pub word: [u8; 6],
+    pub shape: Shape,
 }
 
 // What a line says: whether it is taken, and the call that it asks for. What does not apply is 0 or empty.
@@ -63,36 +91,115 @@ fn refusing(r: Refusal) -> Request
     }
 }
 
-// The six columns of a verb.
+// ---- verbs
+
+// The table of verbs.
+fn row_of(v: Verb) -> Row
+    ensures { λ r. ⌜ r ≡ rowOf v ⌝ }
+{
+    match v {
+        Verb::Enter => Row {
+            word: [69, 78, 84, 69, 82, 32],
+            shape: Shape::Entry,
+        },
+        Verb::Open => Row {
+            word: [79, 80, 69, 78, 32, 32],
+            shape: Shape::File,
+        },
+        Verb::Close => Row {
+            word: [67, 76, 79, 83, 69, 32],
+            shape: Shape::File,
+        },
+        Verb::Drop => Row {
+            word: [68, 82, 79, 80, 32, 32],
+            shape: Shape::File,
+        },
+        Verb::Leave => Row {
+            word: [76, 69, 65, 86, 69, 32],
+            shape: Shape::Alone,
+        },
+        Verb::Cancel => Row {
+            word: [67, 65, 78, 67, 69, 76],
+            shape: Shape::Alone,
+        },
+    }
+}
+
+// The columns of a verb.
 pub fn verb_bytes(v: Verb) -> [u8; 6]
     ensures { λ r. ⌜ r ≡ verbColumns v ⌝ }
 {
-    match v {
-        Verb::Enter => [69, 78, 84, 69, 82, 32],
-        Verb::Open => [79, 80, 69, 78, 32, 32],
-        Verb::Close => [67, 76, 79, 83, 69, 32],
-        Verb::Drop => [68, 82, 79, 80, 32, 32],
-        Verb::Leave => [76, 69, 65, 86, 69, 32],
-        Verb::Cancel => [67, 65, 78, 67, 69, 76],
+    let row = row_of(v);
+    row.word
+}
+
+// How a line with the verb goes on.
+pub fn shape_of(v: Verb) -> Shape
+    ensures { λ r. ⌜ r ≡ shapeOf v ⌝ }
+{
+    let row = row_of(v);
+    row.shape
+}
+
+// The verbs in the order of the papers, from place 0 on.
+pub fn verb_at(i: usize) -> Verb
+    requires { ⌜ i < length verbs ⌝ }
+    ensures { λ r. ⌜ r ≡ getD verbs i Verb.Enter ⌝ }
+{
+    match i {
+        0 => Verb::Enter,
+        1 => Verb::Open,
+        2 => Verb::Close,
+        3 => Verb::Drop,
+        4 => Verb::Leave,
+        _ => Verb::Cancel,
     }
 }
+
+// How many verbs there are.
+pub const VERBS: usize = 6;
 
 // Whether columns 1 to 6 are those of the verb.
 fn is_verb(line: &[u8], v: Verb) -> bool
     ensures { λ r. ⌜ r ≡ begins v (now (line .entry)) ⌝ }
 {
-    if line.len() < 6 {
+    if line.len() < columns::WORD_WIDTH {
         return false;
     }
     let w = verb_bytes(v);
     let mut i: usize = 0;
-    while i < 6 {
+    while i < columns::WORD_WIDTH {
         if line[i] != w[i] {
             return false;
         }
         i += 1;
     }
     true
+}
+
+// The verb that a line begins with, if any.
+fn verb_of(line: &[u8]) -> Beginning
+    ensures { λ r. ⌜ r ≡ begun (verbOf (now (line .entry))) ⌝ }
+{
+    let mut i: usize = 0;
+    while i < VERBS {
+        let v = verb_at(i);
+        if is_verb(line, v) {
+            return Beginning::With(v);
+        }
+        i += 1;
+    }
+    Beginning::Unknown
+}
+
+// ---- fields
+
+// The program's number, from the part that begins at its column.
+fn read_program(line: &[u8]) -> Field
+    requires { ⌜ aloneLength ≤ length (now line) ⌝ }
+    ensures { λ r. ⌜ r ≡ programField (now (line .entry)) ⌝ }
+{
+    columns::read_number(&line[PROGRAM_AT..ALONE_LEN], columns::PROGRAM_WIDTH, 1, 32)
 }
 
 // Whether every byte of a part is a label byte.
@@ -114,10 +221,10 @@ pub fn is_label(part: &[u8]) -> bool
 
 // The group with the file of one field more.
 fn join(g: Group, part: &[u8]) -> Group
-    ensures { λ r. ⌜ r ≡ joined g (numberOf 1 64 (now (part .entry))) ⌝ }
+    ensures { λ r. ⌜ r ≡ joined g (fileIn (now (part .entry))) ⌝ }
 {
     let before = g.files;
-    let field = columns::read_number(part, 1, 64);
+    let field = columns::read_number(part, columns::FILE_WIDTH, 1, 64);
     let Field::Number(n) = field else {
         return Group {
             good: false,
@@ -146,7 +253,7 @@ fn join(g: Group, part: &[u8]) -> Group
 
 // The group of the count fields that begin after the first start columns.
 fn read_group(line: &[u8], start: usize, count: usize) -> Group
-    requires { ⌜ start + 3 * count ≤ length (now line) ⌝ }
+    requires { ⌜ start + fileWidth * count ≤ length (now line) ⌝ }
     ensures { λ r. ⌜ r ≡ groupFrom count (drop start (now (line .entry))) noGroup ⌝ }
 {
     let mut g = Group {
@@ -158,23 +265,42 @@ fn read_group(line: &[u8], start: usize, count: usize) -> Group
     let mut a = start;
     let mut i: usize = 0;
     while i < count {
-        g = join(g, &line[a..a + 3]);
-        a += 3;
+        g = join(g, &line[a..a + columns::FILE_WIDTH]);
+        a += columns::FILE_WIDTH;
         i += 1;
     }
     g
 }
 
-// ENTER, after columns 7 to 23 and the length.
-fn read_files(line: &[u8], program: u64, w: usize, r: usize) -> Request
-    requires { ⌜ length (now line) ≡ 23 + 3 * (w + r) ⌝ }
-    ensures { λ q. ⌜ q ≡ enterFiles (now (line .entry)) program w r ⌝ }
+// ---- lines, by the shape of the verb
+
+// A line that is taken, with no file and these claims, or with no claims.
+fn taking(verb: Verb, program: u64, file: u64, writable: FileSet, readable: FileSet) -> Request
+    ensures { λ q. ⌜ q ≡ taken verb program file writable readable ⌝ }
 {
-    let v = read_group(line, 23, w);
+    let asked = Asked {
+        verb,
+        program,
+        file,
+        writable,
+        readable,
+    };
+    Request {
+        reading: Reading::Taken,
+        asked,
+    }
+}
+
+// ENTER, after columns 7 to 23 and the length.
+fn read_files(line: &[u8], verb: Verb, program: u64, w: usize, r: usize) -> Request
+    requires { ⌜ length (now line) ≡ entryLength (w + r) ⌝ }
+    ensures { λ q. ⌜ q ≡ entryFiles verb (now (line .entry)) program w r ⌝ }
+{
+    let v = read_group(line, FILES_AT, w);
     if !v.good {
         return refusing(Refusal::BadNumber);
     }
-    let q = read_group(line, 23 + 3 * w, r);
+    let q = read_group(line, FILES_AT + columns::FILE_WIDTH * w, r);
     if !q.good {
         return refusing(Refusal::BadNumber);
     }
@@ -186,145 +312,76 @@ fn read_files(line: &[u8], program: u64, w: usize, r: usize) -> Request
     }
     let writable = v.files;
     let readable = q.files;
-    let asked = Asked {
-        verb: Verb::Enter,
-        program,
-        file: 0,
-        writable,
-        readable,
-    };
-    Request {
-        reading: Reading::Taken,
-        asked,
-    }
+    taking(verb, program, 0, writable, readable)
 }
 
 // ENTER, after the label: the counts, then the length.
-fn read_counts(line: &[u8], program: u64) -> Request
-    requires { ⌜ 23 ≤ length (now line) ⌝ }
-    ensures { λ q. ⌜ q ≡ enterCounts (now (line .entry)) program ⌝ }
+fn read_counts(line: &[u8], verb: Verb, program: u64) -> Request
+    requires { ⌜ filesAt ≤ length (now line) ⌝ }
+    ensures { λ q. ⌜ q ≡ entryCounts verb (now (line .entry)) program ⌝ }
 {
-    let first = columns::read_number(&line[17..20], 0, 64);
+    let first = columns::read_number(&line[W_AT..R_AT], columns::FILE_WIDTH, 0, 64);
     let Field::Number(w) = first else {
         return refusing(Refusal::BadNumber);
     };
-    let second = columns::read_number(&line[20..23], 0, 64);
+    let second = columns::read_number(&line[R_AT..FILES_AT], columns::FILE_WIDTH, 0, 64);
     let Field::Number(r) = second else {
         return refusing(Refusal::BadNumber);
     };
     let files = (w + r) as usize;
-    if line.len() != 23 + 3 * files {
+    if line.len() != FILES_AT + columns::FILE_WIDTH * files {
         return refusing(Refusal::BadLength);
     }
-    read_files(line, program, w as usize, r as usize)
+    read_files(line, verb, program, w as usize, r as usize)
 }
 
 // ENTER, from left to right.
-fn read_enter(line: &[u8]) -> Request
-    ensures { λ q. ⌜ q ≡ enterOf (now (line .entry)) ⌝ }
+fn read_entry(line: &[u8], verb: Verb) -> Request
+    ensures { λ q. ⌜ q ≡ entryLine verb (now (line .entry)) ⌝ }
 {
-    if line.len() < 23 {
+    if line.len() < FILES_AT {
         return refusing(Refusal::BadLength);
     }
-    let field = columns::read_number(&line[6..9], 1, 32);
+    let field = read_program(line);
     let Field::Number(p) = field else {
         return refusing(Refusal::BadNumber);
     };
-    if !is_label(&line[9..17]) {
+    if !is_label(&line[ALONE_LEN..W_AT]) {
         return refusing(Refusal::BadLabel);
     }
-    read_counts(line, p)
+    read_counts(line, verb, p)
 }
 
 // OPEN, CLOSE and DROP: program and file.
 fn read_file(line: &[u8], verb: Verb) -> Request
-    ensures { λ q. ⌜ q ≡ fileOf verb (now (line .entry)) ⌝ }
+    ensures { λ q. ⌜ q ≡ fileLine verb (now (line .entry)) ⌝ }
 {
-    if line.len() != 12 {
+    if line.len() != FILE_LEN {
         return refusing(Refusal::BadLength);
     }
-    let first = columns::read_number(&line[6..9], 1, 32);
+    let first = read_program(line);
     let Field::Number(p) = first else {
         return refusing(Refusal::BadNumber);
     };
-    let second = columns::read_number(&line[9..12], 1, 64);
+    let second = columns::read_number(&line[ALONE_LEN..FILE_LEN], columns::FILE_WIDTH, 1, 64);
     let Field::Number(f) = second else {
         return refusing(Refusal::BadNumber);
     };
-    let asked = Asked {
-        verb,
-        program: p,
-        file: f,
-        writable: FileSet::EMPTY,
-        readable: FileSet::EMPTY,
-    };
-    Request {
-        reading: Reading::Taken,
-        asked,
-    }
+    taking(verb, p, f, FileSet::EMPTY, FileSet::EMPTY)
 }
 
 // LEAVE and CANCEL: the program alone.
 fn read_alone(line: &[u8], verb: Verb) -> Request
-    ensures { λ q. ⌜ q ≡ aloneOf verb (now (line .entry)) ⌝ }
+    ensures { λ q. ⌜ q ≡ aloneLine verb (now (line .entry)) ⌝ }
 {
-    if line.len() != 9 {
+    if line.len() != ALONE_LEN {
         return refusing(Refusal::BadLength);
     }
-    let field = columns::read_number(&line[6..9], 1, 32);
+    let field = read_program(line);
     let Field::Number(p) = field else {
         return refusing(Refusal::BadNumber);
     };
-    let asked = Asked {
-        verb,
-        program: p,
-        file: 0,
-        writable: FileSet::EMPTY,
-        readable: FileSet::EMPTY,
-    };
-    Request {
-        reading: Reading::Taken,
-        asked,
-    }
-}
-
-// The verb that a line begins with, if any.
-fn verb_of(line: &[u8]) -> Beginning
-    ensures { λ r. ⌜ r ≡ verbOf (now (line .entry)) ⌝ }
-{
-    if is_verb(line, Verb::Enter) {
-        return Beginning::With(Verb::Enter);
-    }
-    if is_verb(line, Verb::Open) {
-        return Beginning::With(Verb::Open);
-    }
-    if is_verb(line, Verb::Close) {
-        return Beginning::With(Verb::Close);
-    }
-    if is_verb(line, Verb::Drop) {
-        return Beginning::With(Verb::Drop);
-    }
-    if is_verb(line, Verb::Leave) {
-        return Beginning::With(Verb::Leave);
-    }
-    if is_verb(line, Verb::Cancel) {
-        return Beginning::With(Verb::Cancel);
-    }
-    Beginning::Unknown
-}
-
-// How a line with the verb goes on.
-fn shape_of(verb: Verb) -> Shape
-    ensures { λ r. ⌜ r ≡ shapeOf verb ⌝ }
-{
-    match verb {
-        Verb::Enter => Shape::Entry,
-        Verb::Open => Shape::File,
-        Verb::Close => Shape::File,
-        Verb::Drop => Shape::File,
-        Verb::Leave => Shape::Alone,
-        Verb::Cancel => Shape::Alone,
-    }
+    taking(verb, p, 0, FileSet::EMPTY, FileSet::EMPTY)
 }
 
 // What a line says that begins with the verb.
@@ -333,7 +390,7 @@ fn read_as(line: &[u8], verb: Verb) -> Request
 {
     let shape = shape_of(verb);
     match shape {
-        Shape::Entry => read_enter(line),
+        Shape::Entry => read_entry(line, verb),
         Shape::File => read_file(line, verb),
         Shape::Alone => read_alone(line, verb),
     }
@@ -350,7 +407,20 @@ pub fn read(line: &[u8]) -> Request
     }
 }
 
-// Whether a line is taken and its verb is ENTER.
+// ---- the label
+
+// Whether a line of this shape has a label.
+fn has_label(shape: Shape) -> bool
+    ensures { λ r. ⌜ r ≡ hasLabel shape ⌝ }
+{
+    match shape {
+        Shape::Entry => true,
+        Shape::File => false,
+        Shape::Alone => false,
+    }
+}
+
+// Whether a line is taken and has a label.
 fn is_entry(q: Request) -> bool
     ensures { λ r. ⌜ r ≡ isEntry q ⌝ }
 {
@@ -360,14 +430,8 @@ fn is_entry(q: Request) -> bool
     };
     let asked = q.asked;
     let verb = asked.verb;
-    match verb {
-        Verb::Enter => true,
-        Verb::Open => false,
-        Verb::Close => false,
-        Verb::Drop => false,
-        Verb::Leave => false,
-        Verb::Cancel => false,
-    }
+    let shape = shape_of(verb);
+    has_label(shape)
 }
 
 // The label of a taken ENTER line, a part of the caller's line; empty for any other line.
@@ -376,7 +440,7 @@ pub fn label(line: &[u8]) -> &[u8]
 {
     let q = read(line);
     if is_entry(q) {
-        return &line[9..17];
+        return &line[ALONE_LEN..W_AT];
     }
     &line[0..0]
 }

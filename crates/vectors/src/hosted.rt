@@ -62,8 +62,8 @@ fn number_then(f: Found, n: u64, then: u8, expected: &[u8]) -> Found {
 }
 
 // One call, whose answer and sums are held to the expected line.
-fn step(s: Hosted, image: &mut [u8; 1187], line: &[u8], expected: &[u8]) -> Hosted {
-    let mut journal = [170u8; 512];
+fn step(s: Hosted, image: &mut [u8; image::IMAGE_LEN], line: &[u8], expected: &[u8]) -> Hosted {
+    let mut journal = [170u8; journal::JOURNAL_ROOM];
     let answer = host::lock_board_line(image, line, &mut journal, 0);
     let start = Found { ok: true, at: s.at };
     let one = number_then(start, answer, 32, expected);
@@ -90,7 +90,7 @@ fn ended(s: Hosted, expected: &[u8]) -> Hosted {
 
 // All lines of the input, from the empty board's image on.
 pub fn replay(input: &[u8], expected: &[u8]) -> Hosted {
-    let mut image = [0u8; 1187];
+    let mut image = [0u8; image::IMAGE_LEN];
     let mut s = Hosted {
         at: 0,
         lines: 0,

@@ -34,7 +34,7 @@ fn start() -> Session {
 
 // One line call, whose journal lines are held to the expected output.
 fn step(s: Session, line: &[u8], expected: &[u8]) -> Session {
-    let mut journal = [0u8; 512];
+    let mut journal = [0u8; journal::JOURNAL_ROOM];
     let before = s.board;
     let posted = linecall::line_call(before, line, &mut journal, 0);
     let reply = posted.reply;

@@ -33,8 +33,8 @@ pub fn cut(from: usize, end: usize) -> usize
     requires { ⌜ from ≤ end ⌝ }
     ensures { λ r. ⌜ (from ≤ r) × (r ≤ end) ⌝ }
 {
-    if 408 < end - from {
-        return from + 408;
+    if request::CUT_LINE < end - from {
+        return from + request::CUT_LINE;
     }
     end
 }

@@ -3,12 +3,13 @@ use Prim.Native.Nat.{ℕ}
 use mathlib.Core.Path.{_≡_, refl}
 use mathlib.Core.List.{List, [], _∷_, map}
 use lib.ListN.{replicate}
-use Rattle.columns.specs.Columns.{columnsOf, flat}
+use Rattle.columns.specs.Columns.{leading, columnsOf}
+use Rattle.columns.specs.Rows.{flat}
 use Rattle.files.specs.Sets.{noFiles}
 use Rattle.laws.specs.Lists.{all, keep, rising}
 use Rattle.rules.specs.Calls.{Call, Enter, Open, Close, Drop, Leave, Cancel}
 use Rattle.rules.proofs.Tables.{set}
-use Rattle.request.specs.Requests.{filesOf, lineOf}
+use Rattle.request.specs.Requests.{filesOf, lineFor}
 use Rattle.writer.specs.declared.Unwritten.{Unwritten}
 use Rattle.writer.specs.declared.Writing.{Writing}
 use Rattle.writer.specs.Writer.{writingOf, bufferAfter}
@@ -79,5 +80,5 @@ table =
 -- each row is what the writer comes to
 computed : map (λ (k : Row). row (k .call) (k .label) (k .room) (writingOf (k .call) (k .label) (replicate (k .room) 170))
     (bufferAfter (k .call) (k .label) (replicate (k .room) 170))) table ≡ table
-unfolding row refusing set table all keep rising columnsOf flat filesOf lineOf writingOf bufferAfter
+unfolding row refusing set table all keep rising leading columnsOf flat filesOf lineFor writingOf bufferAfter
 computed = refl

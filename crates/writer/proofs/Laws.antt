@@ -1,8 +1,8 @@
 -- Laws of rows of bytes and of the files of a set, for the functions of the writer. Assumes nothing.
 use Prim.Native.Nat.{ℕ, suc, _+_, _-_, _*_, _≤_, _<_}
-use mathlib.Core.Path.{_≡_, refl, ap, sym, _∙_}
+use mathlib.Core.Path.{_≡_, ap, sym, _∙_}
 use mathlib.Core.List.{List, [], _∷_, _++_, append-assoc}
-use mathlib.Core.Bool.{Bool, true, false, cond, _&&_}
+use mathlib.Core.Bool.{Bool, true, false, cond}
 use lib.Dec.{eqb}
 use lib.ListN.{length, take, drop, length-append, take-append-drop}
 use lib.Seq.{take-at, drop-at, drop-drop, length-take-le}
@@ -11,22 +11,24 @@ use native.Mathlib.Nat.{add-zero}
 use native.Mathlib.Numerals.{add-one}
 use borrow.Author.Tests.{le-ltb, lt-ltb, eq-eqb, ne-eqb}
 use Rattle.laws.specs.Tests.{by-test, and-false}
-use Rattle.columns.specs.Columns.{columnsOf, flat, putAt}
+use Rattle.columns.specs.Columns.{wordWidth, programWidth, fileWidth, columnsOf}
+use Rattle.columns.specs.Rows.{flat, putAt}
 use Rattle.columns.proofs.Laws.{columns-length}
 use Rattle.columns.proofs.Rows.{flat-length}
-use Rattle.files.specs.declared.FileSet.{FileSet}
 use Rattle.files.specs.Sets.{isFile}
 use Rattle.rules.specs.declared.Verb.{Verb}
 use Rattle.rules.specs.declared.Asked.{Asked}
 use Rattle.laws.specs.Lists.{all, keep, rising}
 use Rattle.rules.specs.Boards.{isProgram}
-use Rattle.rules.specs.Calls.{Call, Enter, callWith, callOf}
-use Rattle.request.specs.Requests.{verbColumns, labelByte, filesOf, filesColumns, lineOf}
-use Rattle.request.proofs.Laws.{verb-length}
+use Rattle.rules.specs.Calls.{callOf}
+use Rattle.request.specs.declared.Shape.{Shape}
+use Rattle.request.specs.Verbs.{verbColumns, shapeOf, aloneLength, fileLength, labelWidth, wAt, rAt, filesAt, entryLength}
+use Rattle.request.specs.Requests.{labelByte, filesOf, filesColumns, askedBy, lineAs, lineFor}
+use Rattle.request.proofs.Verbs.{SameAs, verb-good, verb-length}
 use Rattle.writer.specs.declared.Unwritten.{Unwritten}
 use Rattle.writer.specs.declared.Writing.{Writing}
-use Rattle.writer.specs.Writer.{inRange, isLabel, labelGood, placing, placedIn, writingOf, bufferAfter}
-use Rattle.writer.specs.Rows.{countIf, columnsIf, entryColumns, aloneLine, fileLine, enterWriting, enterFilled, fileWriting, fileFilled}
+use Rattle.writer.specs.Writer.{numbersGood, isLabel, placing, filled, placedIn, writingAs, writingOf, bufferAfter}
+use Rattle.writer.specs.Rows.{countIf, columnsIf, entryColumns, entryWriting, entryFilled, fileWriting, fileFilled}
 
 -- ---- rows
 
@@ -81,11 +83,11 @@ files-end t f e = rw e
 pub one-at-most : (t : Bool) → countIf t ≤ 1
 one-at-most t = by-test t (λ d. rw d (omega arith)) (λ d. rw d (omega arith))
 
-pub columns-if : (t : Bool) (f : ℕ) → length (columnsIf t f) ≡ 3 * countIf t
-columns-if t f = by-test t (λ d. rw d (columns-length f)) (λ d. rw d)
+pub columns-if : (t : Bool) (f : ℕ) → length (columnsIf t f) ≡ fileWidth * countIf t
+columns-if t f = by-test t (λ d. rw d (columns-length fileWidth f)) (λ d. rw d)
 
-pub columns-in : (t : Bool) (f : ℕ) → t ≡ true → (length (columnsIf t f) ≡ 3) × (columnsOf f ≡ columnsIf t f)
-columns-in t f e = (rw e (columns-length f), rw e)
+pub columns-in : (t : Bool) (f : ℕ) → t ≡ true → (length (columnsIf t f) ≡ fileWidth) × (columnsOf fileWidth f ≡ columnsIf t f)
+columns-in t f e = (rw e (columns-length fileWidth f), rw e)
 
 pub columns-out : (t : Bool) (f : ℕ) → t ≡ false → (length (columnsIf t f) ≡ 0) × (columnsIf t f ≡ [])
 columns-out t f e = (rw e, rw e)
@@ -104,101 +106,125 @@ ends t f at l e = rw (files-end t f e) (put-none at l)
 
 -- ---- lengths of lines
 
-head-length : (v : Verb) (t : List ℕ) → length (verbColumns v ++ t) ≡ 6 + length t
-head-length v t = omega (arith, length-append (verbColumns v) t, verb-length v)
+head-length : (v : Verb) (p : ℕ) → length (verbColumns v ++ columnsOf programWidth p) ≡ aloneLength
+head-length v p = omega (arith, length-append (verbColumns v) (columnsOf programWidth p), verb-length v, columns-length programWidth p)
 
-pub alone-length : (v : Verb) (p : ℕ) → length (aloneLine v p) ≡ 9
-unfolding aloneLine
-alone-length v p = omega (arith, head-length v (columnsOf p), columns-length p)
+pub alone-length : (a : Asked) → length (lineAs Shape.Alone a []) ≡ aloneLength
+alone-length a = head-length (a .verb) (a .program)
 
-pub file-length : (v : Verb) (p f : ℕ) → length (fileLine v p f) ≡ 12
-unfolding fileLine
-file-length v p f =
-    omega (arith, head-length v (columnsOf p ++ columnsOf f), length-append (columnsOf p) (columnsOf f), columns-length p, columns-length f)
+pub file-length : (a : Asked) → length (lineAs Shape.File a []) ≡ fileLength
+file-length a =
+    let p = columnsOf programWidth (a .program) in
+    let f = columnsOf fileWidth (a .file) in
+    omega (
+      arith,
+      length-append (verbColumns (a .verb)) (p ++ f),
+      length-append p f,
+      verb-length (a .verb),
+      columns-length programWidth (a .program),
+      columns-length fileWidth (a .file),
+    )
 
-entry-length : (p w r : ℕ) (label : List ℕ) → length label ≡ 8 → length (entryColumns p label w r) ≡ 23
+entry-length : (v : Verb) (p w r : ℕ) (label : List ℕ) → length label ≡ labelWidth → length (entryColumns v p label w r) ≡ filesAt
 unfolding entryColumns
-entry-length p w r label h =
+entry-length v p w r label h =
+    let x = columnsOf programWidth p in
+    let y = columnsOf fileWidth w in
+    let z = columnsOf fileWidth r in
     omega (
       arith,
       h,
-      head-length Verb.Enter (columnsOf p ++ (label ++ (columnsOf w ++ columnsOf r))),
-      length-append (columnsOf p) (label ++ (columnsOf w ++ columnsOf r)),
-      length-append label (columnsOf w ++ columnsOf r),
-      length-append (columnsOf w) (columnsOf r),
-      columns-length p,
-      columns-length w,
-      columns-length r,
+      length-append (verbColumns v) (x ++ (label ++ (y ++ z))),
+      length-append x (label ++ (y ++ z)),
+      length-append label (y ++ z),
+      length-append y z,
+      verb-length v,
+      columns-length programWidth p,
+      columns-length fileWidth w,
+      columns-length fileWidth r,
     )
 
--- an ENTER line by its parts
-entry-line : (p : ℕ) (v q : FileSet) (label : List ℕ)
-    → lineOf (Enter p v q) label
-    ≡ entryColumns p label (length (filesOf v)) (length (filesOf q)) ++ filesColumns (filesOf v) ++ filesColumns (filesOf q)
-unfolding lineOf entryColumns
-entry-line p v q label = simp append-assoc
+-- the columns of an ENTER line before its files, and those of its files
+abbrev pub headOf : Asked → List ℕ → List ℕ
+headOf a label = entryColumns (a .verb) (a .program) label (length (filesOf (a .writable))) (length (filesOf (a .readable)))
 
-pub enter-length : (p : ℕ) (v q : FileSet) (label : List ℕ) → length label ≡ 8
-    → length (lineOf (Enter p v q) label) ≡ 23 + 3 * (length (filesOf v) + length (filesOf q))
-enter-length p v q label h =
-    let e = entryColumns p label (length (filesOf v)) (length (filesOf q)) in
-    ap length (entry-line p v q label)
+entry-line : (a : Asked) (label : List ℕ)
+    → lineAs Shape.Entry a label ≡ headOf a label ++ filesColumns (filesOf (a .writable)) ++ filesColumns (filesOf (a .readable))
+unfolding entryColumns
+entry-line a label = simp append-assoc
+
+files-columns : (fs : List ℕ) → length (filesColumns fs) ≡ fileWidth * length fs
+files-columns fs = flat-length (columnsOf fileWidth) fileWidth (columns-length fileWidth) fs
+
+pub enter-length : (a : Asked) (label : List ℕ) → length label ≡ labelWidth
+    → length (lineAs Shape.Entry a label) ≡ entryLength (length (filesOf (a .writable)) + length (filesOf (a .readable)))
+enter-length a label h =
+    let e = headOf a label in
+    let v = filesOf (a .writable) in
+    let q = filesOf (a .readable) in
+    ap length (entry-line a label)
     ∙ omega (
       arith,
-      length-append (e ++ filesColumns (filesOf v)) (filesColumns (filesOf q)),
-      length-append e (filesColumns (filesOf v)),
-      entry-length p (length (filesOf v)) (length (filesOf q)) label h,
-      flat-length columnsOf 3 columns-length (filesOf v),
-      flat-length columnsOf 3 columns-length (filesOf q),
+      length-append (e ++ filesColumns v) (filesColumns q),
+      length-append e (filesColumns v),
+      entry-length (a .verb) (a .program) (length v) (length q) label h,
+      files-columns v,
+      files-columns q,
     )
 
 -- ---- the rows of a line, as the calls leave them
 
-pub head-put : (v : Verb) (p at : ℕ) (row L m r : List ℕ) → 9 ≤ length L → row ≡ verbColumns v → at ≡ 0 + length row → m ≡ putAt 0 row L
-    → r ≡ putAt at (columnsOf p) m → (at + 3 ≡ 9) × (r ≡ putAt 0 (verbColumns v ++ columnsOf p) L)
+pub head-put : (v : Verb) (p at : ℕ) (row L m r : List ℕ) → aloneLength ≤ length L → row ≡ verbColumns v → at ≡ 0 + length row → m ≡ putAt 0 row L
+    → r ≡ putAt at (columnsOf programWidth p) m
+    → (at + programWidth ≡ aloneLength) × (r ≡ putAt 0 (verbColumns v ++ columnsOf programWidth p) L)
 head-put v p at row L m r room e ea em er =
-    let n : length row ≡ 6 = ap length e ∙ verb-length v in
-    (omega arith, put-then 0 at row (columnsOf p) L m r (omega arith) em ea er ∙ rw e)
+    let n : length row ≡ wordWidth = ap length e ∙ verb-length v in
+    (omega arith, put-then 0 at row (columnsOf programWidth p) L m r (omega arith) em ea er ∙ rw e)
 
-pub file-put : (v : Verb) (p f at : ℕ) (L m r : List ℕ) → 12 ≤ length L → at ≡ 9 → m ≡ putAt 0 (verbColumns v ++ columnsOf p) L
-    → r ≡ putAt at (columnsOf f) m → r ≡ putAt 0 (fileLine v p f) L
-unfolding fileLine
-file-put v p f at L m r room ea em er =
-    let n = head-length v (columnsOf p) in
-    let k = columns-length p in
-    put-then 0 at (verbColumns v ++ columnsOf p) (columnsOf f) L m r (omega arith) em (omega arith) er
-    ∙ rw (append-assoc (verbColumns v) (columnsOf p) (columnsOf f))
+pub file-put : (a : Asked) (at : ℕ) (L m r : List ℕ) → fileLength ≤ length L → at ≡ aloneLength
+    → m ≡ putAt 0 (verbColumns (a .verb) ++ columnsOf programWidth (a .program)) L
+    → r ≡ putAt at (columnsOf fileWidth (a .file)) m → r ≡ putAt 0 (lineAs Shape.File a []) L
+file-put a at L m r room ea em er =
+    let v = verbColumns (a .verb) in
+    let p = columnsOf programWidth (a .program) in
+    let f = columnsOf fileWidth (a .file) in
+    let n = head-length (a .verb) (a .program) in
+    put-then 0 at (v ++ p) f L m r (omega arith) em (omega arith) er ∙ rw (append-assoc v p f)
 
-module _ (p w r : ℕ) (label L m₁ m₂ m₃ m₄ : List ℕ) (a₁ a₂ a₃ : ℕ) (room : 23 ≤ length L) (eight : length label ≡ 8) where
-  pub entry-put : a₁ ≡ 9 → m₁ ≡ putAt 0 (verbColumns Verb.Enter ++ columnsOf p) L → a₂ ≡ a₁ + length label → m₂ ≡ putAt a₁ label m₁
-      → a₃ ≡ a₂ + 3 → m₃ ≡ putAt a₂ (columnsOf w) m₂ → m₄ ≡ putAt a₃ (columnsOf r) m₃ → m₄ ≡ putAt 0 (entryColumns p label w r) L
+module _ (v : Verb) (p w r : ℕ) (label L m₁ m₂ m₃ m₄ : List ℕ) (a₁ a₂ a₃ : ℕ) (room : filesAt ≤ length L) (size : length label ≡ labelWidth) where
+  pub entry-put : a₁ ≡ aloneLength → m₁ ≡ putAt 0 (verbColumns v ++ columnsOf programWidth p) L
+      → a₂ ≡ a₁ + length label → m₂ ≡ putAt a₁ label m₁
+      → a₃ ≡ a₂ + fileWidth → m₃ ≡ putAt a₂ (columnsOf fileWidth w) m₂ → m₄ ≡ putAt a₃ (columnsOf fileWidth r) m₃
+      → m₄ ≡ putAt 0 (entryColumns v p label w r) L
   unfolding entryColumns
   entry-put e₁ p₁ e₂ p₂ e₃ p₃ p₄ =
-      let h : List ℕ = verbColumns Verb.Enter ++ columnsOf p in
-      let n₁ : length h ≡ 9 = omega (arith, head-length Verb.Enter (columnsOf p), columns-length p) in
-      let n₂ : length (h ++ label) ≡ 17 = omega (arith, length-append h label, n₁, eight) in
-      let n₃ : length (h ++ label ++ columnsOf w) ≡ 20 = omega (arith, length-append (h ++ label) (columnsOf w), n₂, columns-length w) in
+      let h : List ℕ = verbColumns v ++ columnsOf programWidth p in
+      let x : List ℕ = columnsOf fileWidth w in
+      let n₁ : length h ≡ aloneLength = head-length v p in
+      let n₂ : length (h ++ label) ≡ wAt = omega (arith, length-append h label, n₁, size) in
+      let n₃ : length (h ++ label ++ x) ≡ rAt = omega (arith, length-append (h ++ label) x, n₂, columns-length fileWidth w) in
       let q₂ : m₂ ≡ putAt 0 (h ++ label) L = put-then 0 a₁ h label L m₁ m₂ (omega (arith, n₁, room)) p₁ (omega (arith, n₁, e₁)) p₂ in
-      let q₃ : m₃ ≡ putAt 0 (h ++ label ++ columnsOf w) L =
-      put-then 0 a₂ (h ++ label) (columnsOf w) L m₂ m₃ (omega (arith, n₂, room)) q₂ (omega (arith, n₂, e₂, e₁, eight)) p₃ in
-      put-then 0 a₃ (h ++ label ++ columnsOf w) (columnsOf r) L m₃ m₄ (omega (arith, n₃, room)) q₃ (omega (arith, n₃, e₃, e₂, e₁, eight)) p₄
+      let q₃ : m₃ ≡ putAt 0 (h ++ label ++ x) L =
+      put-then 0 a₂ (h ++ label) x L m₂ m₃ (omega (arith, n₂, room)) q₂ (omega (arith, n₂, e₂, e₁, size)) p₃ in
+      put-then 0 a₃ (h ++ label ++ x) (columnsOf fileWidth r) L m₃ m₄ (omega (arith, n₃, room)) q₃ (omega (arith, n₃, e₃, e₂, e₁, size)) p₄
       ∙ simp append-assoc
 
 -- an ENTER line: its columns and its files
-pub enter-put : (p a₁ a₂ : ℕ) (v q : FileSet) (label L m₁ m₂ m₃ : List ℕ) → length label ≡ 8
-    → 23 + 3 * (length (filesOf v) + length (filesOf q)) ≤ length L
-    → a₁ ≡ 23 → m₁ ≡ putAt 0 (entryColumns p label (length (filesOf v)) (length (filesOf q))) L
-    → a₂ ≡ a₁ + 3 * length (filesOf v) → m₂ ≡ putAt a₁ (filesColumns (filesOf v)) m₁ → m₃ ≡ putAt a₂ (filesColumns (filesOf q)) m₂
-    → m₃ ≡ putAt 0 (lineOf (Enter p v q) label) L
-enter-put p a₁ a₂ v q label L m₁ m₂ m₃ eight room e₁ p₁ e₂ p₂ p₃ =
-    let e : List ℕ = entryColumns p label (length (filesOf v)) (length (filesOf q)) in
-    let n₁ : length e ≡ 23 = entry-length p (length (filesOf v)) (length (filesOf q)) label eight in
-    let n₂ : length (e ++ filesColumns (filesOf v)) ≡ 23 + 3 * length (filesOf v) =
-    omega (arith, length-append e (filesColumns (filesOf v)), n₁, flat-length columnsOf 3 columns-length (filesOf v)) in
-    let q₂ : m₂ ≡ putAt 0 (e ++ filesColumns (filesOf v)) L =
-    put-then 0 a₁ e (filesColumns (filesOf v)) L m₁ m₂ (omega (arith, n₁, room)) p₁ (omega (arith, n₁, e₁)) p₂ in
-    put-then 0 a₂ (e ++ filesColumns (filesOf v)) (filesColumns (filesOf q)) L m₂ m₃ (omega (arith, n₂, room)) q₂ (omega (arith, n₂, e₂, e₁)) p₃
-    ∙ ap (λ (x : List ℕ). putAt 0 x L) (sym (entry-line p v q label))
+pub enter-put : (a : Asked) (a₁ a₂ : ℕ) (label L m₁ m₂ m₃ : List ℕ) → length label ≡ labelWidth
+    → entryLength (length (filesOf (a .writable)) + length (filesOf (a .readable))) ≤ length L
+    → a₁ ≡ filesAt → m₁ ≡ putAt 0 (headOf a label) L
+    → a₂ ≡ a₁ + fileWidth * length (filesOf (a .writable)) → m₂ ≡ putAt a₁ (filesColumns (filesOf (a .writable))) m₁
+    → m₃ ≡ putAt a₂ (filesColumns (filesOf (a .readable))) m₂
+    → m₃ ≡ putAt 0 (lineAs Shape.Entry a label) L
+enter-put a a₁ a₂ label L m₁ m₂ m₃ size room e₁ p₁ e₂ p₂ p₃ =
+    let e : List ℕ = headOf a label in
+    let v : List ℕ = filesColumns (filesOf (a .writable)) in
+    let n₁ : length e ≡ filesAt = entry-length (a .verb) (a .program) (length (filesOf (a .writable))) (length (filesOf (a .readable))) label size in
+    let n₂ : length (e ++ v) ≡ entryLength (length (filesOf (a .writable))) =
+    omega (arith, length-append e v, n₁, files-columns (filesOf (a .writable))) in
+    let q₂ : m₂ ≡ putAt 0 (e ++ v) L = put-then 0 a₁ e v L m₁ m₂ (omega (arith, n₁, room)) p₁ (omega (arith, n₁, e₁)) p₂ in
+    put-then 0 a₂ (e ++ v) (filesColumns (filesOf (a .readable))) L m₂ m₃ (omega (arith, n₂, room)) q₂ (omega (arith, n₂, e₂, e₁)) p₃
+    ∙ ap (λ (x : List ℕ). putAt 0 x L) (sym (entry-line a label))
 
 -- ---- a line in the buffer
 
@@ -217,80 +243,81 @@ placed-all line buffer after n end e h ee ea =
     let d : end ≡ length line = omega arith in
     (rw (t, d), rw t (ea ∙ rw z))
 
--- ---- the verbs
+-- ---- the shapes
 
-pub alone-put : (v : Verb) (p end : ℕ) (buffer after : List ℕ) → 9 ≤ length buffer → end ≡ 9
-    → after ≡ putAt 0 (verbColumns v ++ columnsOf p) buffer
-    → (Writing.Wrote end ≡ placing (aloneLine v p) buffer) × (after ≡ placedIn (aloneLine v p) buffer)
-unfolding aloneLine
-alone-put v p end buffer after h e ea = placed-all (aloneLine v p) buffer after 9 end (alone-length v p) h e ea
-
-module _ (v : Verb) (p f : ℕ) (buffer : List ℕ) where
-  pub file-refused : isFile f ≡ false → (Writing.Refused Unwritten.OutOfRange ≡ fileWriting v p f buffer) × (buffer ≡ fileFilled v p f buffer)
+module _ (a : Asked) (buffer : List ℕ) where
+  pub file-refused : isFile (a .file) ≡ false → (Writing.Refused Unwritten.OutOfRange ≡ fileWriting a buffer) × (buffer ≡ fileFilled a buffer)
   file-refused e = (rw e, rw e)
 
-  pub file-placed : (w : Writing) (after : List ℕ) → isFile f ≡ true
-      → (w ≡ placing (fileLine v p f) buffer) × (after ≡ placedIn (fileLine v p f) buffer)
-      → (w ≡ fileWriting v p f buffer) × (after ≡ fileFilled v p f buffer)
+  pub file-placed : (w : Writing) (after : List ℕ) → isFile (a .file) ≡ true
+      → (w ≡ placing (lineAs Shape.File a []) buffer) × (after ≡ placedIn (lineAs Shape.File a []) buffer)
+      → (w ≡ fileWriting a buffer) × (after ≡ fileFilled a buffer)
   file-placed w after e k = (rw e (k .0), rw e (k .1))
 
-pub label-size : (label : List ℕ) → (length label ≡ 8 → ⊥) → isLabel label ≡ false
-label-size label h = rw (ne-eqb (length label) 8 h)
+pub label-size : (label : List ℕ) → (length label ≡ labelWidth → ⊥) → isLabel label ≡ false
+label-size label h = rw (ne-eqb (length label) labelWidth h)
 
 pub label-bad : (label : List ℕ) → all labelByte label ≡ false → isLabel label ≡ false
-label-bad label e = rw e (and-false (eqb (length label) 8))
+label-bad label e = rw e (and-false (eqb (length label) labelWidth))
 
-pub label-good : (label : List ℕ) → length label ≡ 8 → all labelByte label ≡ true → isLabel label ≡ true
-label-good label h e = rw (eq-eqb (length label) 8 h, e)
+pub label-good : (label : List ℕ) → length label ≡ labelWidth → all labelByte label ≡ true → isLabel label ≡ true
+label-good label h e = rw (eq-eqb (length label) labelWidth h, e)
 
-module _ (p : ℕ) (v q : FileSet) (label buffer : List ℕ) where
-  pub enter-refused : isLabel label ≡ false → (Writing.Refused Unwritten.BadLabel ≡ enterWriting p v q label buffer) × (buffer ≡ enterFilled p v q label buffer)
-  enter-refused e = (rw e, rw e)
+module _ (a : Asked) (label buffer : List ℕ) where
+  pub entry-refused : isLabel label ≡ false → (Writing.Refused Unwritten.BadLabel ≡ entryWriting a label buffer) × (buffer ≡ entryFilled a label buffer)
+  entry-refused e = (rw e, rw e)
 
-  pub enter-placed : (w : Writing) (after : List ℕ) → isLabel label ≡ true
-      → (w ≡ placing (lineOf (Enter p v q) label) buffer) × (after ≡ placedIn (lineOf (Enter p v q) label) buffer)
-      → (w ≡ enterWriting p v q label buffer) × (after ≡ enterFilled p v q label buffer)
-  enter-placed w after e k = (rw e (k .0), rw e (k .1))
+  pub entry-placed : (w : Writing) (after : List ℕ) → isLabel label ≡ true
+      → (w ≡ placing (lineAs Shape.Entry a label) buffer) × (after ≡ placedIn (lineAs Shape.Entry a label) buffer)
+      → (w ≡ entryWriting a label buffer) × (after ≡ entryFilled a label buffer)
+  entry-placed w after e k = (rw e (k .0), rw e (k .1))
+
+-- ---- what a line does not say is not looked at
+
+line-same : (s : Shape) (x y : Asked) (label : List ℕ) → SameAs s x y → lineAs s x label ≡ lineAs s y label
+line-same Shape.Entry x y label h = rw (h .0, h .1, h .2, h .3)
+line-same Shape.File x y label h = rw (h .0, h .1, h .2)
+line-same Shape.Alone x y label h = rw (h .0, h .1)
+
+numbers-same : (s : Shape) (x y : Asked) → SameAs s x y → numbersGood s x ≡ numbersGood s y
+numbers-same Shape.Entry x y h = simp (h .1, h .2, h .3)
+numbers-same Shape.File x y h = rw (h .1, h .2)
+numbers-same Shape.Alone x y h = rw (h .1)
 
 -- ---- the call
 
 module _ (a : Asked) (label buffer : List ℕ) where
-  -- what was written for the call, as the contract says it
+  -- what was written, as the contract says it, and by the shape of the verb
   abbrev pub Wrote : Writing → List ℕ → Type 0
   Wrote w after = (w ≡ writingOf (callOf a) label buffer) × (after ≡ bufferAfter (callOf a) label buffer)
 
-  -- the call with this verb
-  abbrev pub called : Verb → Call
-  called v = callWith v (a .program) (a .file) (a .writable) (a .readable)
+  abbrev pub WroteAs : Shape → Writing → List ℕ → Type 0
+  WroteAs s w after = (w ≡ writingAs s a label buffer) × (after ≡ filled (writingAs s a label buffer) (lineAs s a label) buffer)
 
-  out-of-range : (v : Verb) → a .verb ≡ v → isProgram (a .program) ≡ false → Wrote (Writing.Refused Unwritten.OutOfRange) buffer
-  unfolding writingOf bufferAfter
-  out-of-range Verb.Enter e h = (rw (e, h), rw (e, h))
-  out-of-range Verb.Open e h = (rw (e, h), rw (e, h))
-  out-of-range Verb.Close e h = (rw (e, h), rw (e, h))
-  out-of-range Verb.Drop e h = (rw (e, h), rw (e, h))
-  out-of-range Verb.Leave e h = (rw (e, h), rw (e, h))
-  out-of-range Verb.Cancel e h = (rw (e, h), rw (e, h))
+  -- the call that is asked for has the line of what is asked for
+  pub by-shape : (w : Writing) (after : List ℕ) → WroteAs (shapeOf (a .verb)) w after → Wrote w after
+  unfolding writingOf bufferAfter lineFor
+  by-shape w after h =
+      let g = verb-good (a .verb) in
+      let b = askedBy (callOf a) in
+      let s : shapeOf (b .verb) ≡ shapeOf (a .verb) = ap shapeOf (g .verb (a .program) (a .file) (a .writable) (a .readable)) in
+      let k : SameAs (shapeOf (a .verb)) b a = g .same (a .program) (a .file) (a .writable) (a .readable) in
+      let l = line-same (shapeOf (a .verb)) b a label k in
+      let n = numbers-same (shapeOf (a .verb)) b a k in
+      (rw (s, l, n) (h .0), rw (s, l, n) (h .1))
 
-  pub call-refused : isProgram (a .program) ≡ false → Wrote (Writing.Refused Unwritten.OutOfRange) buffer
-  call-refused h = out-of-range (a .verb) refl h
+  -- where the program's number is known
+  pub out-of-range : (s : Shape) → isProgram (a .program) ≡ false → WroteAs s (Writing.Refused Unwritten.OutOfRange) buffer
+  out-of-range Shape.Entry h = (rw h, rw h)
+  out-of-range Shape.File h = (rw h, rw h)
+  out-of-range Shape.Alone h = (rw h, rw h)
 
   module _ (w : Writing) (after : List ℕ) (range : isProgram (a .program) ≡ true) where
-    pub call-enter : a .verb ≡ Verb.Enter → w ≡ enterWriting (a .program) (a .writable) (a .readable) label buffer
-        → after ≡ enterFilled (a .program) (a .writable) (a .readable) label buffer → Wrote w after
-    unfolding writingOf bufferAfter
-    call-enter e ew ea = (rw (e, range) ew, rw (e, range) ea)
+    pub as-entry : w ≡ entryWriting a label buffer → after ≡ entryFilled a label buffer → WroteAs Shape.Entry w after
+    as-entry ew ea = (rw range ew, rw range ea)
 
-    -- OPEN, CLOSE, DROP: program and file
-    pub call-file : (v : Verb) → lineOf (called v) label ≡ fileLine v (a .program) (a .file)
-        → inRange (called v) ≡ (isProgram (a .program) && isFile (a .file)) → labelGood (called v) label ≡ true → a .verb ≡ v
-        → w ≡ fileWriting v (a .program) (a .file) buffer → after ≡ fileFilled v (a .program) (a .file) buffer → Wrote w after
-    unfolding writingOf bufferAfter
-    call-file v el er eg e ew ea = (rw (e, er, range, eg, el) ew, rw (e, er, range, eg, el) ea)
+    pub as-file : w ≡ fileWriting a buffer → after ≡ fileFilled a buffer → WroteAs Shape.File w after
+    as-file ew ea = (rw range ew, rw range ea)
 
-    -- LEAVE, CANCEL: the program alone
-    pub call-alone : (v : Verb) → lineOf (called v) label ≡ aloneLine v (a .program)
-        → inRange (called v) ≡ isProgram (a .program) → labelGood (called v) label ≡ true → a .verb ≡ v
-        → w ≡ placing (aloneLine v (a .program)) buffer → after ≡ placedIn (aloneLine v (a .program)) buffer → Wrote w after
-    unfolding writingOf bufferAfter
-    call-alone v el er eg e ew ea = (rw (e, er, range, eg, el) ew, rw (e, er, range, eg, el) ea)
+    pub as-alone : w ≡ placing (lineAs Shape.Alone a []) buffer → after ≡ placedIn (lineAs Shape.Alone a []) buffer → WroteAs Shape.Alone w after
+    as-alone ew ea = (rw range ew, rw range ea)

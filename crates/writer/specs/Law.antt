@@ -6,31 +6,34 @@ use mathlib.Core.Logic.{_↔_, _≢_}
 use mathlib.Core.List.{List, [], _++_}
 use lib.ListN.{length, take, drop}
 use Rattle.files.specs.Sets.{OfFiles}
-use Rattle.rules.specs.Calls.{Call, Enter, Open, Close, Drop, Leave, Cancel}
+use Rattle.rules.specs.declared.Asked.{Asked}
+use Rattle.rules.specs.Calls.{Call}
 use Rattle.request.specs.declared.Reading.{Reading}
-use Rattle.request.specs.Requests.{requestCall, requestOf, labelOf, lineOf}
+use Rattle.request.specs.declared.Shape.{Shape}
+use Rattle.request.specs.Verbs.{shapeOf, longestLine}
+use Rattle.request.specs.Requests.{requestCall, requestOf, labelOf, askedBy, lineOf}
 use Rattle.request.specs.Law.{IsLabel, InRange, saying}
 use Rattle.writer.specs.declared.Unwritten.{Unwritten}
 use Rattle.writer.specs.declared.Writing.{Writing}
 use Rattle.writer.specs.Writer.{writingOf, bufferAfter}
 
--- the claims of a call are sets of the files 1 to 64, as every set of the code
+-- the claims that a line of this shape has are sets of the files 1 to 64, as every set of the code
+abbrev pub ClaimsAs : Shape → Asked → Type 0
+ClaimsAs Shape.Entry a = OfFiles (a .writable) × OfFiles (a .readable)
+ClaimsAs Shape.File a = Unit {0}
+ClaimsAs Shape.Alone a = Unit {0}
+
 abbrev pub ClaimsOfFiles : Call → Type 0
-ClaimsOfFiles (Enter p v q) = OfFiles v × OfFiles q
-ClaimsOfFiles (Open p f) = Unit {0}
-ClaimsOfFiles (Close p f) = Unit {0}
-ClaimsOfFiles (Drop p f) = Unit {0}
-ClaimsOfFiles (Leave p) = Unit {0}
-ClaimsOfFiles (Cancel p) = Unit {0}
+ClaimsOfFiles c = ClaimsAs (shapeOf (askedBy c .verb)) (askedBy c)
 
 -- the label that stands in the line of a call: that of ENTER; no other line has one
+abbrev pub labelAs : Shape → List ℕ → List ℕ
+labelAs Shape.Entry label = label
+labelAs Shape.File label = []
+labelAs Shape.Alone label = []
+
 abbrev pub labelIn : Call → List ℕ → List ℕ
-labelIn (Enter p v q) label = label
-labelIn (Open p f) label = []
-labelIn (Close p f) label = []
-labelIn (Drop p f) label = []
-labelIn (Leave p) label = []
-labelIn (Cancel p) label = []
+labelIn c label = labelAs (shapeOf (askedBy c .verb)) label
 
 -- the line l is written for the call with the label: into this buffer, from its start, and the bytes after it keep their contents
 abbrev pub WritesInto : Call → List ℕ → List ℕ → List ℕ → Type 0
@@ -74,6 +77,6 @@ abbrev pub RefusalFillsNothing : Type 0
 RefusalFillsNothing = (c : Call) (label buffer : List ℕ) (r : Unwritten) → writingOf c label buffer ≡ Writing.Refused r
     → bufferAfter c label buffer ≡ buffer
 
--- 407 bytes are enough for every line
+-- the longest line's length is enough for every line
 abbrev pub LongestLine : Type 0
-LongestLine = (c : Call) (label buffer : List ℕ) → 407 ≤ length buffer → writingOf c label buffer ≢ Writing.Refused Unwritten.BufferShort
+LongestLine = (c : Call) (label buffer : List ℕ) → longestLine ≤ length buffer → writingOf c label buffer ≢ Writing.Refused Unwritten.BufferShort

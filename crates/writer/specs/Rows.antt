@@ -1,14 +1,15 @@
--- The writer as the code puts it together: the files of a set one by one, and each verb by itself.
+-- The writer as the code puts it together: the files of a set one by one, and each shape of line by itself.
 -- Assumes nothing.
 use Prim.Native.Nat.{ℕ}
 use mathlib.Core.Bool.{Bool, cond}
 use mathlib.Core.List.{List, [], _++_}
-use Rattle.columns.specs.Columns.{columnsOf}
-use Rattle.files.specs.declared.FileSet.{FileSet}
+use Rattle.columns.specs.Columns.{programWidth, fileWidth, columnsOf}
 use Rattle.files.specs.Sets.{isFile}
 use Rattle.rules.specs.declared.Verb.{Verb}
-use Rattle.rules.specs.Calls.{Enter}
-use Rattle.request.specs.Requests.{verbColumns, lineOf}
+use Rattle.rules.specs.declared.Asked.{Asked}
+use Rattle.request.specs.declared.Shape.{Shape}
+use Rattle.request.specs.Verbs.{verbColumns}
+use Rattle.request.specs.Requests.{lineAs}
 use Rattle.writer.specs.declared.Unwritten.{Unwritten}
 use Rattle.writer.specs.declared.Writing.{Writing}
 use Rattle.writer.specs.Writer.{isLabel, placing, filled}
@@ -21,34 +22,26 @@ countIf t = cond t 1 0
 
 -- a file that is written, or not
 abbrev pub columnsIf : Bool → ℕ → List ℕ
-columnsIf t f = cond t (columnsOf f) []
+columnsIf t f = cond t (columnsOf fileWidth f) []
 
 -- ---- ENTER
 
--- the 23 columns before the files
-unfoldable pub entryColumns : ℕ → List ℕ → ℕ → ℕ → List ℕ
-entryColumns p label w r = verbColumns Verb.Enter ++ (columnsOf p ++ (label ++ (columnsOf w ++ columnsOf r)))
+-- the columns before the files
+unfoldable pub entryColumns : Verb → ℕ → List ℕ → ℕ → ℕ → List ℕ
+entryColumns v p label w r = verbColumns v ++ (columnsOf programWidth p ++ (label ++ (columnsOf fileWidth w ++ columnsOf fileWidth r)))
 
 -- of a program in range: 6, then 17
-abbrev pub enterWriting : ℕ → FileSet → FileSet → List ℕ → List ℕ → Writing
-enterWriting p v q label buffer = cond (isLabel label) (placing (lineOf (Enter p v q) label) buffer) (Writing.Refused Unwritten.BadLabel)
+abbrev pub entryWriting : Asked → List ℕ → List ℕ → Writing
+entryWriting a label buffer = cond (isLabel label) (placing (lineAs Shape.Entry a label) buffer) (Writing.Refused Unwritten.BadLabel)
 
-abbrev pub enterFilled : ℕ → FileSet → FileSet → List ℕ → List ℕ → List ℕ
-enterFilled p v q label buffer = filled (enterWriting p v q label buffer) (lineOf (Enter p v q) label) buffer
+abbrev pub entryFilled : Asked → List ℕ → List ℕ → List ℕ
+entryFilled a label buffer = filled (entryWriting a label buffer) (lineAs Shape.Entry a label) buffer
 
 -- ---- OPEN, CLOSE, DROP
 
-unfoldable pub fileLine : Verb → ℕ → ℕ → List ℕ
-fileLine v p f = verbColumns v ++ (columnsOf p ++ columnsOf f)
-
 -- of a program in range: 8 for the file, then 17
-abbrev pub fileWriting : Verb → ℕ → ℕ → List ℕ → Writing
-fileWriting v p f buffer = cond (isFile f) (placing (fileLine v p f) buffer) (Writing.Refused Unwritten.OutOfRange)
+abbrev pub fileWriting : Asked → List ℕ → Writing
+fileWriting a buffer = cond (isFile (a .file)) (placing (lineAs Shape.File a []) buffer) (Writing.Refused Unwritten.OutOfRange)
 
-abbrev pub fileFilled : Verb → ℕ → ℕ → List ℕ → List ℕ
-fileFilled v p f buffer = filled (fileWriting v p f buffer) (fileLine v p f) buffer
-
--- ---- LEAVE, CANCEL
-
-unfoldable pub aloneLine : Verb → ℕ → List ℕ
-aloneLine v p = verbColumns v ++ columnsOf p
+abbrev pub fileFilled : Asked → List ℕ → List ℕ
+fileFilled a buffer = filled (fileWriting a buffer) (lineAs Shape.File a []) buffer

@@ -9,8 +9,11 @@ use lib.ListN.{length, drop}
 use Rattle.files.specs.Sets.{isFile}
 use Rattle.laws.specs.Lists.{all}
 use Rattle.rules.specs.Boards.{isProgram}
-use Rattle.rules.specs.Calls.{Call, Enter, Open, Close, Drop, Leave, Cancel}
-use Rattle.request.specs.Requests.{labelByte, lineOf}
+use Rattle.rules.specs.declared.Asked.{Asked}
+use Rattle.rules.specs.Calls.{Call}
+use Rattle.request.specs.declared.Shape.{Shape}
+use Rattle.request.specs.Verbs.{shapeOf, labelWidth}
+use Rattle.request.specs.Requests.{labelByte, askedBy, lineAs, lineOf}
 use Rattle.writer.specs.declared.Unwritten.{Unwritten}
 use Rattle.writer.specs.declared.Writing.{Writing}
 
@@ -20,29 +23,23 @@ unwrittenNumber Unwritten.OutOfRange = 8
 unwrittenNumber Unwritten.BadLabel = 6
 unwrittenNumber Unwritten.BufferShort = 17
 
--- ---- checks
+-- ---- checks, by the shape of the line
 
--- check 8: the numbers that the call has are those of a program, and of a file
-abbrev pub inRange : Call → Bool
-inRange (Enter p v q) = isProgram p
-inRange (Open p f) = isProgram p && isFile f
-inRange (Close p f) = isProgram p && isFile f
-inRange (Drop p f) = isProgram p && isFile f
-inRange (Leave p) = isProgram p
-inRange (Cancel p) = isProgram p
+-- check 8: the numbers that a line of this shape has are those of a program, and of a file
+abbrev pub numbersGood : Shape → Asked → Bool
+numbersGood Shape.Entry a = isProgram (a .program)
+numbersGood Shape.File a = isProgram (a .program) && isFile (a .file)
+numbersGood Shape.Alone a = isProgram (a .program)
 
 -- eight bytes from 32 to 126
 abbrev pub isLabel : List ℕ → Bool
-isLabel label = eqb (length label) 8 && all labelByte label
+isLabel label = eqb (length label) labelWidth && all labelByte label
 
 -- check 6, "for ENTER"; no other line has a label
-abbrev pub labelGood : Call → List ℕ → Bool
-labelGood (Enter p v q) label = isLabel label
-labelGood (Open p f) label = true
-labelGood (Close p f) label = true
-labelGood (Drop p f) label = true
-labelGood (Leave p) label = true
-labelGood (Cancel p) label = true
+abbrev pub labelGood : Shape → List ℕ → Bool
+labelGood Shape.Entry label = isLabel label
+labelGood Shape.File label = true
+labelGood Shape.Alone label = true
 
 -- ---- a line in a lent buffer
 
@@ -62,11 +59,15 @@ placedIn line buffer = filled (placing line buffer) line buffer
 -- ---- the writer
 
 -- what it answers: 17 comes "after 01's checks 8 and, for ENTER, 6"
-unfoldable pub writingOf : Call → List ℕ → List ℕ → Writing
-writingOf c label buffer =
-    cond (inRange c)
-    (cond (labelGood c label) (placing (lineOf c label) buffer) (Writing.Refused Unwritten.BadLabel))
+abbrev pub writingAs : Shape → Asked → List ℕ → List ℕ → Writing
+writingAs s a label buffer =
+    cond (numbersGood s a)
+    (cond (labelGood s label) (placing (lineAs s a label) buffer) (Writing.Refused Unwritten.BadLabel))
     (Writing.Refused Unwritten.OutOfRange)
+
+-- of a call: its line has the shape of its verb
+unfoldable pub writingOf : Call → List ℕ → List ℕ → Writing
+writingOf c label buffer = writingAs (shapeOf (askedBy c .verb)) (askedBy c) label buffer
 
 -- every byte of the lent buffer then
 unfoldable pub bufferAfter : Call → List ℕ → List ℕ → List ℕ

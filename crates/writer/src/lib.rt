@@ -1,18 +1,22 @@
 // Request lines, written: from a call's numbers, claims and label to the line in a lent buffer.
 use files::FileSet;
+use request::Shape;
 use rules::Asked;
 use rules::Verb;
 ghost use mathlib.Core.Path.{_≡_};
-ghost use mathlib.Core.List.{_++_};
+ghost use mathlib.Core.List.{[], _++_};
 ghost use Prim.Native.Nat.{_+_, _*_, _≤_};
 ghost use lib.ListN.{length};
-ghost use Rattle.columns.specs.Columns.{columnsOf, putAt};
+ghost use Rattle.columns.specs.Columns.{programWidth, fileWidth, columnsOf};
+ghost use Rattle.columns.specs.Rows.{putAt};
 ghost use Rattle.files.specs.Bits.{isNumber};
 ghost use Rattle.files.specs.Sets.{member};
-ghost use Rattle.rules.specs.Calls.{Enter, callOf};
-ghost use Rattle.request.specs.Requests.{verbColumns, filesOf, filesColumns, lineOf};
+ghost use Rattle.rules.specs.Calls.{callOf};
+ghost use Rattle.request.specs.declared.Shape.{Shape};
+ghost use Rattle.request.specs.Verbs.{verbColumns, aloneLength, labelWidth, filesAt};
+ghost use Rattle.request.specs.Requests.{filesOf, filesColumns, lineAs};
 ghost use Rattle.writer.specs.Writer.{unwrittenNumber, placing, placedIn, writingOf, bufferAfter};
-ghost use Rattle.writer.specs.Rows.{countIf, columnsIf, entryColumns, aloneLine, enterWriting, enterFilled, fileWriting, fileFilled};
+ghost use Rattle.writer.specs.Rows.{countIf, columnsIf, entryColumns, entryWriting, entryFilled, fileWriting, fileFilled};
 
 // Why no line is written.
 pub enum Unwritten {
@@ -52,14 +56,15 @@ fn put(line: &mut [u8], at: usize, row: &[u8]) -> usize
     at + row.len()
 }
 
-// Writes a number in three columns.
-fn put_number(line: &mut [u8], at: usize, n: u64) -> usize
-    requires { ⌜ at + 3 ≤ length (now line) ⌝ }
-    ensures { λ r. ⌜ r ≡ at + 3 ⌝ }
-    ensures { λ r. ⌜ now (line .exit) ≡ putAt at (columnsOf n) (now (line .entry)) ⌝ }
+// Writes a number in so many columns.
+fn put_number(line: &mut [u8], at: usize, width: usize, n: u64) -> usize
+    requires { ⌜ (1 ≤ width) × (at + width ≤ length (now line)) ⌝ }
+    ensures { λ r. ⌜ r ≡ at + width ⌝ }
+    ensures { λ r. ⌜ now (line .exit) ≡ putAt at (columnsOf width n) (now (line .entry)) ⌝ }
 {
-    let three = columns::columns(n);
-    put(line, at, &three)
+    let end = at + width;
+    columns::put_number(&mut line[at..end], n);
+    end
 }
 
 // Writes the columns of f if it is in the set.
@@ -69,15 +74,15 @@ fn put_file(line: &mut [u8], at: usize, s: FileSet, f: u8) -> usize
     ensures { λ r. ⌜ now (line .exit) ≡ putAt at (columnsIf (member s f) f) (now (line .entry)) ⌝ }
 {
     if s.has(f) {
-        return put_number(line, at, f as u64);
+        return put_number(line, at, columns::FILE_WIDTH, f as u64);
     }
     at
 }
 
 // Writes the columns of the files of a set, rising.
 fn put_files(line: &mut [u8], start: usize, s: FileSet) -> usize
-    requires { ⌜ start + 3 * length (filesOf s) ≤ length (now line) ⌝ }
-    ensures { λ r. ⌜ r ≡ start + 3 * length (filesOf s) ⌝ }
+    requires { ⌜ start + fileWidth * length (filesOf s) ≤ length (now line) ⌝ }
+    ensures { λ r. ⌜ r ≡ start + fileWidth * length (filesOf s) ⌝ }
     ensures { λ r. ⌜ now (line .exit) ≡ putAt start (filesColumns (filesOf s)) (now (line .entry)) ⌝ }
 {
     let mut at = start;
@@ -117,96 +122,90 @@ fn count(s: FileSet) -> u64
 
 // Writes the columns of verb and program.
 fn put_head(line: &mut [u8], verb: Verb, program: u64) -> usize
-    requires { ⌜ 9 ≤ length (now line) ⌝ }
-    ensures { λ r. ⌜ r ≡ 9 ⌝ }
-    ensures { λ r. ⌜ now (line .exit) ≡ putAt 0 (verbColumns verb ++ columnsOf program) (now (line .entry)) ⌝ }
+    requires { ⌜ aloneLength ≤ length (now line) ⌝ }
+    ensures { λ r. ⌜ r ≡ aloneLength ⌝ }
+    ensures { λ r. ⌜ now (line .exit) ≡ putAt 0 (verbColumns verb ++ columnsOf programWidth program) (now (line .entry)) ⌝ }
 {
     let word = request::verb_bytes(verb);
     let at = put(line, 0, &word);
-    put_number(line, at, program)
+    put_number(line, at, columns::PROGRAM_WIDTH, program)
 }
 
 // Writes the columns of an ENTER line before its files: verb, program, label and the two counts.
-fn put_entry(line: &mut [u8], program: u64, label: &[u8], w: u64, r: u64) -> usize
-    requires { ⌜ (23 ≤ length (now line)) × (length (now label) ≡ 8) ⌝ }
-    ensures { λ e. ⌜ e ≡ 23 ⌝ }
-    ensures { λ e. ⌜ now (line .exit) ≡ putAt 0 (entryColumns program (now (label .entry)) w r) (now (line .entry)) ⌝ }
+fn put_entry(line: &mut [u8], verb: Verb, program: u64, label: &[u8], w: u64, r: u64) -> usize
+    requires { ⌜ (filesAt ≤ length (now line)) × (length (now label) ≡ labelWidth) ⌝ }
+    ensures { λ e. ⌜ e ≡ filesAt ⌝ }
+    ensures { λ e. ⌜ now (line .exit) ≡ putAt 0 (entryColumns verb program (now (label .entry)) w r) (now (line .entry)) ⌝ }
 {
-    let after_program = put_head(line, Verb::Enter, program);
+    let after_program = put_head(line, verb, program);
     let after_label = put(line, after_program, label);
-    let after_w = put_number(line, after_label, w);
-    put_number(line, after_w, r)
+    let after_w = put_number(line, after_label, columns::FILE_WIDTH, w);
+    put_number(line, after_w, columns::FILE_WIDTH, r)
 }
 
 // An ENTER line with a good label.
-fn write_entry(
-    program: u64,
-    writable: FileSet,
-    readable: FileSet,
-    label: &[u8],
-    line: &mut [u8],
-) -> Writing
-    requires { ⌜ length (now label) ≡ 8 ⌝ }
-    ensures { λ r. ⌜ r ≡ placing (lineOf (Enter program writable readable) (now (label .entry))) (now (line .entry)) ⌝ }
-    ensures { λ r. ⌜ now (line .exit) ≡ placedIn (lineOf (Enter program writable readable) (now (label .entry))) (now (line .entry)) ⌝ }
+fn write_entry(a: Asked, label: &[u8], line: &mut [u8]) -> Writing
+    requires { ⌜ length (now label) ≡ labelWidth ⌝ }
+    ensures { λ r. ⌜ r ≡ placing (lineAs Shape.Entry a (now (label .entry))) (now (line .entry)) ⌝ }
+    ensures { λ r. ⌜ now (line .exit) ≡ placedIn (lineAs Shape.Entry a (now (label .entry))) (now (line .entry)) ⌝ }
 {
+    let writable = a.writable;
+    let readable = a.readable;
+    let verb = a.verb;
     let w = count(writable);
     let r = count(readable);
-    let len = (23 + 3 * (w + r)) as usize;
+    let len = request::FILES_AT + columns::FILE_WIDTH * ((w + r) as usize);
     if line.len() < len {
         return Writing::Refused(Unwritten::BufferShort);
     }
-    let after_counts = put_entry(line, program, label, w, r);
+    let after_counts = put_entry(line, verb, a.program, label, w, r);
     let after_writable = put_files(line, after_counts, writable);
     let end = put_files(line, after_writable, readable);
     Writing::Wrote(end)
 }
 
 // ENTER: the label, then the buffer.
-fn write_enter(
-    program: u64,
-    writable: FileSet,
-    readable: FileSet,
-    label: &[u8],
-    line: &mut [u8],
-) -> Writing
-    ensures { λ r. ⌜ r ≡ enterWriting program writable readable (now (label .entry)) (now (line .entry)) ⌝ }
-    ensures { λ r. ⌜ now (line .exit) ≡ enterFilled program writable readable (now (label .entry)) (now (line .entry)) ⌝ }
+fn write_enter(a: Asked, label: &[u8], line: &mut [u8]) -> Writing
+    ensures { λ r. ⌜ r ≡ entryWriting a (now (label .entry)) (now (line .entry)) ⌝ }
+    ensures { λ r. ⌜ now (line .exit) ≡ entryFilled a (now (label .entry)) (now (line .entry)) ⌝ }
 {
-    if label.len() != 8 {
+    if label.len() != request::LABEL_LEN {
         return Writing::Refused(Unwritten::BadLabel);
     }
     if !request::is_label(label) {
         return Writing::Refused(Unwritten::BadLabel);
     }
-    write_entry(program, writable, readable, label, line)
+    write_entry(a, label, line)
 }
 
 // OPEN, CLOSE and DROP: the file, then the buffer.
-fn write_file(verb: Verb, program: u64, file: u64, line: &mut [u8]) -> Writing
-    ensures { λ r. ⌜ r ≡ fileWriting verb program file (now (line .entry)) ⌝ }
-    ensures { λ r. ⌜ now (line .exit) ≡ fileFilled verb program file (now (line .entry)) ⌝ }
+fn write_file(a: Asked, line: &mut [u8]) -> Writing
+    ensures { λ r. ⌜ r ≡ fileWriting a (now (line .entry)) ⌝ }
+    ensures { λ r. ⌜ now (line .exit) ≡ fileFilled a (now (line .entry)) ⌝ }
 {
+    let file = a.file;
     if !is_number(file, 64) {
         return Writing::Refused(Unwritten::OutOfRange);
     }
-    if line.len() < 12 {
+    if line.len() < request::FILE_LEN {
         return Writing::Refused(Unwritten::BufferShort);
     }
-    let at = put_head(line, verb, program);
-    let end = put_number(line, at, file);
+    let verb = a.verb;
+    let at = put_head(line, verb, a.program);
+    let end = put_number(line, at, columns::FILE_WIDTH, file);
     Writing::Wrote(end)
 }
 
 // LEAVE and CANCEL: the buffer.
-fn write_alone(verb: Verb, program: u64, line: &mut [u8]) -> Writing
-    ensures { λ r. ⌜ r ≡ placing (aloneLine verb program) (now (line .entry)) ⌝ }
-    ensures { λ r. ⌜ now (line .exit) ≡ placedIn (aloneLine verb program) (now (line .entry)) ⌝ }
+fn write_alone(a: Asked, line: &mut [u8]) -> Writing
+    ensures { λ r. ⌜ r ≡ placing (lineAs Shape.Alone a []) (now (line .entry)) ⌝ }
+    ensures { λ r. ⌜ now (line .exit) ≡ placedIn (lineAs Shape.Alone a []) (now (line .entry)) ⌝ }
 {
-    if line.len() < 9 {
+    if line.len() < request::ALONE_LEN {
         return Writing::Refused(Unwritten::BufferShort);
     }
-    let end = put_head(line, verb, program);
+    let verb = a.verb;
+    let end = put_head(line, verb, a.program);
     Writing::Wrote(end)
 }
 
@@ -234,16 +233,11 @@ pub fn write(a: Asked, label: &[u8], line: &mut [u8]) -> Writing
     if !is_number(program, 32) {
         return Writing::Refused(Unwritten::OutOfRange);
     }
-    let file = a.file;
-    let writable = a.writable;
-    let readable = a.readable;
     let verb = a.verb;
-    match verb {
-        Verb::Enter => write_enter(program, writable, readable, label, line),
-        Verb::Open => write_file(Verb::Open, program, file, line),
-        Verb::Close => write_file(Verb::Close, program, file, line),
-        Verb::Drop => write_file(Verb::Drop, program, file, line),
-        Verb::Leave => write_alone(Verb::Leave, program, line),
-        Verb::Cancel => write_alone(Verb::Cancel, program, line),
+    let shape = request::shape_of(verb);
+    match shape {
+        Shape::Entry => write_enter(a, label, line),
+        Shape::File => write_file(a, line),
+        Shape::Alone => write_alone(a, line),
     }
 }

@@ -1,8 +1,9 @@
 -- `close_journal` meets its contract. Assumes nothing.
-use Prim.Native.Nat.{_≤_}
+use Prim.Native.Nat.{_<_}
 use native.Mathlib.Omega.{arith}
 use lib.ListN.{length, length-take, length-drop}
 use Rattle.board.proofs.Laws.{close-is}
+use Rattle.board.specs.Input.{orderColumns}
 use borrow.Author.Needs.{needs}
 use Rattle.board.proofs.close_journal.Statement.{statement}
 use Rattle.board.proofs.close_journal.Tie as tie
@@ -23,7 +24,7 @@ returns c =
     let o = c .before .before .order-line in
     let h = l .ensures .1 .0 in
     let j = l .kept .1 .1 .0 in
-    let m : 103 ≤ length (o .last .1 .0) = rw (o .kept .1 .0) (simp (length-take, length-drop) (omega (arith, h, j, s .pre .1 .1))) in (
+    let m : orderColumns < length (o .last .1 .0) = rw (o .kept .1 .0) (simp (length-take, length-drop) (omega (arith, h, j, s .pre .1 .1))) in (
       close-is _ (l .result .board) (l .last .1 .1 .0) (o .last .1 .0) (l .result .out .place) (o .result)
           (omega (arith, h, j, s .pre .1 .1)) (omega (arith, o .ensures .1, m))
           (l .ensures .0) (o .ensures .0),

@@ -7,6 +7,7 @@ use lib.ListN.{take}
 use lib.Seq.{length-take-le}
 use Rattle.board.specs.Input.{held, served}
 use Rattle.board.proofs.Laws.{call-served}
+use Rattle.request.specs.Verbs.{cutLine}
 use borrow.Author.Needs.{needs}
 use Rattle.board.proofs.end_line.Statement.{statement}
 use Rattle.board.proofs.end_line.Tie as tie
@@ -19,7 +20,7 @@ returns c =
     let a = s .args in
     let j = take (a .s .out .place) (a .journal .now) in
     let k = c .before .before .serve-line in
-    let e : take 408 (a .part .now) ≡ take 408 (take (a .s .kept) (a .kept .now) ++ a .part .now) = rw (t .if1 .taken) in (
+    let e : take cutLine (a .part .now) ≡ take cutLine (take (a .s .kept) (a .kept .now) ++ a .part .now) = rw (t .if1 .taken) in (
       call-served (a .s .board) _ (a .journal .now) (a .s .out .place) (s .pre .0 .0) (s .pre .1 .0) (s .pre .1 .1)
           _ _ _ (k .ensures .0) (k .ensures .1 .0) (k .ensures .1 .1 .0)
           ∙ ap (λ (l : List ℕ). served (held (a .s .board) l j)) (c .before .before .before .before .cut .ensures ∙ e),

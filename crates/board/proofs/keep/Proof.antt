@@ -6,13 +6,14 @@ use native.Mathlib.Omega.{arith}
 use lib.ListN.{length, take, getD, length-set}
 use lib.Seq.{length-take-le}
 use Rattle.board.proofs.Laws.{keep-more, keep-full, keep-all}
+use Rattle.request.specs.Verbs.{cutLine}
 use borrow.Author.Needs.{needs}
 use Rattle.board.proofs.keep.Statement.{statement}
 use Rattle.board.proofs.keep.Tie as tie
 
 abbrev Inv-loop : tie.InvT-loop
 Inv-loop kept₀ len part n₀ i₀ kept n i =
-    (i ≤ length part) × (n ≡ len + i) × (n ≤ 408) × (length kept ≡ 408) × (take n kept ≡ take len kept₀ ++ take i part)
+    (i ≤ length part) × (n ≡ len + i) × (n ≤ cutLine) × (length kept ≡ cutLine) × (take n kept ≡ take len kept₀ ++ take i part)
 
 abbrev μ-loop : tie.MeasureT-loop
 μ-loop kept₀ len part n₀ i₀ kept n i = length part - i

@@ -6,7 +6,8 @@ use mathlib.Core.List.{_++_}
 use native.Mathlib.Omega.{arith}
 use lib.ListN.{length, take, drop, length-take, length-drop}
 use Rattle.laws.specs.Lists.{names}
-use Rattle.columns.specs.Columns.{columnsOf, flat}
+use Rattle.columns.specs.Columns.{programWidth, wordWidth, columnsOf}
+use Rattle.columns.specs.Rows.{flat}
 use Rattle.columns.proofs.Laws.{columns-length}
 use Rattle.columns.proofs.Rows.{start, step}
 use Rattle.lines.proofs.Laws.{names-stop, names-end}
@@ -17,15 +18,15 @@ use Rattle.board.proofs.put_programs.Tie as tie
 
 abbrev Inv-loop : tie.InvT-loop
 Inv-loop out₀ programs at₀ i₀ out at i =
-    (i ≤ 32) × (at ≡ 6 + 3 * i) × (length out ≡ length out₀)
-    × (out ≡ take 6 out₀ ++ flat columnsOf (take i programs) ++ drop (6 + 3 * i) out₀)
+    (i ≤ 32) × (at ≡ wordWidth + programWidth * i) × (length out ≡ length out₀)
+    × (out ≡ take wordWidth out₀ ++ flat (columnsOf programWidth) (take i programs) ++ drop (wordWidth + programWidth * i) out₀)
     × (names programs ≡ take i programs ++ names (drop i programs))
 
 abbrev μ-loop : tie.MeasureT-loop
 μ-loop out₀ programs at₀ i₀ out at i = 32 - i
 
 loop-holds : tie.Need-loop-holds Inv-loop μ-loop
-loop-holds c = (omega arith, omega arith, refl, start columnsOf (c .before .args .out .now) 6, refl)
+loop-holds c = (omega arith, omega arith, refl, start (columnsOf programWidth) (c .before .args .out .now) wordWidth, refl)
 
 -- an order has 32 places
 long : (s : tie.Start Inv-loop μ-loop) → length (s .args .t2) ≡ 32
@@ -44,7 +45,7 @@ loop-again c =
       omega arith,
       omega arith,
       same-len-mid (l .at) (length (l .out) - l .at) (l .out) (k .last .0) (k .kept .0) ∙ l .inv .2,
-      step columnsOf 3 columns-length (s .args .out .now) (l .out) (k .last .0) (s .args .t2) 0 6 (l .i) (l .at)
+      step (columnsOf programWidth) programWidth (columns-length programWidth) (s .args .out .now) (l .out) (k .last .0) (s .args .t2) 0 wordWidth (l .i) (l .at)
           (omega arith) (omega arith) (l .inv .1) (l .inv .3) (k .ensures),
       names-more (s .args .t2) (l .i) (omega arith) (c .before .before .before .before .if1 .left) (l .inv .4),
     )

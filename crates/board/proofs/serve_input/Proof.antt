@@ -10,13 +10,15 @@ use Rattle.rules.specs.Soundness.{sound}
 use Rattle.rules.specs.Worked.{worked, workedFrom}
 use Rattle.theory.specs.Sound.{sound-iff, good-sound}
 use Rattle.theory.specs.Worked.{worked-good}
+use Rattle.request.specs.Verbs.{cutLine}
+use Rattle.board.specs.Input.{bufferLength}
 use borrow.Author.Needs.{needs}
 use Rattle.board.proofs.serve_input.Statement.{statement}
 use Rattle.board.proofs.serve_input.Tie as tie
 
 abbrev Inv-loop : tie.InvT-loop
 Inv-loop input₀ journal₀ kept₀ s₀ turns₀ input journal kept s turns =
-    (s .kept ≤ 408) × (s .out .place ≡ 0) × (length input ≡ 65536) × (length kept ≡ 408) × (length journal ≡ 65536)
+    (s .kept ≤ cutLine) × (s .out .place ≡ 0) × (length input ≡ bufferLength) × (length kept ≡ cutLine) × (length journal ≡ bufferLength)
     × (sound (s .board) ≡ true)
 
 abbrev μ-loop : tie.MeasureT-loop

@@ -7,15 +7,16 @@ use native.Mathlib.Omega.{arith}
 use lib.ListN.{length, take, drop, length-take, length-drop}
 use lib.Seq.{take-all}
 use Rattle.rules.specs.Soundness.{sound}
-use Rattle.board.specs.Input.{held, flushed, fed}
+use Rattle.board.specs.Input.{bufferLength, held, flushed, fed}
 use Rattle.board.proofs.Laws.{chunk-begins, chunk-more}
+use Rattle.request.specs.Verbs.{cutLine}
 use borrow.Author.Needs.{needs}
 use Rattle.board.proofs.take_chunk.Statement.{statement}
 use Rattle.board.proofs.take_chunk.Tie as tie
 
 abbrev Inv-loop : tie.InvT-loop
 Inv-loop chunk kept₀ journal₀ s₀ at₀ kept journal s at =
-    (at ≤ length chunk) × (s .kept ≤ 408) × (s .out .place ≡ 0) × (length kept ≡ 408) × (length journal ≡ 65536)
+    (at ≤ length chunk) × (s .kept ≤ cutLine) × (s .out .place ≡ 0) × (length kept ≡ cutLine) × (length journal ≡ bufferLength)
     × (held (s .board) (take (s .kept) kept) [] ≡ flushed (fed (held (s₀ .board) (take (s₀ .kept) kept₀) []) (take at chunk)))
     × (sound (s .board) ≡ true) × (s₀ .out .failed ≡ true → s .out .failed ≡ true)
 

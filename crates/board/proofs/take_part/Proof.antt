@@ -7,15 +7,16 @@ use mathlib.Core.Bool.{true}
 use native.Mathlib.Omega.{arith}
 use lib.ListN.{length, take, length-take}
 use Rattle.rules.specs.Soundness.{sound}
-use Rattle.board.specs.Input.{held, fed}
+use Rattle.board.specs.Input.{bufferLength, lastPlace, held, fed}
 use Rattle.board.proofs.Laws.{part-begins, part-ends, part-line}
+use Rattle.request.specs.Verbs.{cutLine}
 use borrow.Author.Needs.{needs}
 use Rattle.board.proofs.take_part.Statement.{statement}
 use Rattle.board.proofs.take_part.Tie as tie
 
 abbrev Inv-loop : tie.InvT-loop
 Inv-loop part kept₀ journal₀ s₀ at₀ kept journal s at =
-    (at ≤ length part) × (s .kept ≤ 408) × (s .out .place ≤ 65024) × (length kept ≡ 408) × (length journal ≡ 65536)
+    (at ≤ length part) × (s .kept ≤ cutLine) × (s .out .place ≤ lastPlace) × (length kept ≡ cutLine) × (length journal ≡ bufferLength)
     × (held (s .board) (take (s .kept) kept) (take (s .out .place) journal) ≡ fed (held (s₀ .board) (take (s₀ .kept) kept₀) []) (take at part))
     × (sound (s .board) ≡ true) × (s .out .failed ≡ s₀ .out .failed)
 

@@ -1,43 +1,59 @@
 -- `read_number` meets its contract. Assumes nothing.
 use borrow.Author.Needs.{needs}
-use Prim.Native.Nat.{ℕ}
-use mathlib.Core.Path.{_≡_, sym, _∙_}
-use Rattle.columns.specs.Columns.{fieldOf}
-use Rattle.columns.specs.declared.Field.{Field}
-use Rattle.columns.proofs.Laws.{number-bad, number-low, number-high, number-in}
+use Prim.Native.Nat.{_-_, _≤_}
+use mathlib.Core.Path.{_≡_, refl, sym, _∙_}
+use native.Mathlib.Omega.{arith}
+use native.Mathlib.Numerals.{add-one}
+use lib.ListN.{length, drop}
+use Rattle.columns.specs.declared.Digits.{Digits}
+use Rattle.columns.specs.Columns.{readAll, ranged, Below}
+use Rattle.columns.proofs.Laws.{read-none, read-turn, read-ends}
 use Rattle.columns.proofs.read_number.Statement.{statement}
 use Rattle.columns.proofs.read_number.Tie as tie
 
-abbrev start : tie.After-read-field → tie.Start
-start r = r .before .before
+abbrev Inv-loop : tie.InvT-loop
+Inv-loop part width low high d₀ i₀ d i = (i ≤ length part) × Below high d
+    × (ranged low high (readAll Digits.Blank part) ≡ ranged low high (readAll d (drop i part)))
 
--- where the number is known
-abbrev read : tie.After-field → tie.After-read-field
-read f = f .before .before
+abbrev μ-loop : tie.MeasureT-loop
+μ-loop part width low high d₀ i₀ d i = length part - i
 
-abbrev number : tie.After-field → ℕ
-number f = f .field .given .0 .0
+-- where the part is known to have its width
+abbrev start : tie.Else1 Inv-loop μ-loop → tie.Start Inv-loop μ-loop
+start e = e .before .before
 
-number-is : (f : tie.After-field) → fieldOf (start (read f) .args .part .now) ≡ Field.Number (number f)
-number-is f = sym (read f .read-field .ensures) ∙ f .field .given .1
+returns : tie.Need-returns Inv-loop μ-loop
+returns c = let a = c .before .before .args in sym (read-none (a .low) (a .high) (a .width) (a .part .now) (c .if1 .taken))
 
-returns : tie.Need-returns
-returns c = let r = c .before .before in let a = start r .args in
-    sym (number-bad (a .low) (a .high) (a .part .now) (sym (r .read-field .ensures) ∙ c .enum-told .given .1))
+loop-holds : tie.Need-loop-holds Inv-loop μ-loop
+loop-holds c = (omega arith, Prim.tt, refl)
 
-returns-2 : tie.Need-returns-2
-returns-2 c = let f = c .before .before in let a = start (read f) .args in
-    sym (number-low (a .low) (a .high) (a .part .now) (number f) (number-is f) (c .if1 .taken))
+read-one-requires : tie.Need-read-one-requires Inv-loop μ-loop
+read-one-requires c κs = let l = c .before .before in (l .loop .inv .1, start (l .before) .pre)
 
-returns-3 : tie.Need-returns-3
-returns-3 c = let f = c .before .before .before in let a = start (read f) .args in
-    sym (number-high (a .low) (a .high) (a .part .now) (number f) (number-is f) (c .before .if1 .left) (c .if2 .taken))
+loop-again : tie.Need-loop-again Inv-loop μ-loop
+loop-again c = let t = c .before .before .before in let l = t .loop in let a = start (t .before) .args in (
+  omega arith,
+  c .read-one .ensures .1,
+  l .inv .2 ∙ rw (add-one (l .i)) (read-turn (a .low) (a .high) (l .d) _ (a .part .now) (l .i) (omega arith) (c .read-one .ensures .0)),
+)
 
-returns-4 : tie.Need-returns-4
-returns-4 c = let f = c .before .before .before in let a = start (read f) .args in
-    sym (number-in (a .low) (a .high) (a .part .now) (number f) (number-is f) (c .before .if1 .left) (c .if2 .left))
+returns-2 : tie.Need-returns-2 Inv-loop μ-loop
+returns-2 c = let t = c .before .before in let l = t .loop in let a = start (t .before) .args in
+    c .in-range .ensures ∙ read-ends (a .low) (a .high) (a .width) (l .d) (a .part .now) (l .i) (omega arith) (omega arith) (l .inv .2)
 
 pub read-number-spec : {M : Type 1} → statement M
 read-number-spec =
     tie.close
-    (tie.spec (λ c κs. search needs) (λ c. search needs) (λ c. search needs) returns returns-2 returns-3 returns-4)
+    (tie.spec
+    Inv-loop
+    μ-loop
+    returns
+    loop-holds
+    (λ c. omega arith)
+    read-one-requires
+    (λ c. omega arith)
+    (λ c. omega arith)
+    loop-again
+    (λ c κs. search needs)
+    returns-2)

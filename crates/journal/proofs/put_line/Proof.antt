@@ -1,17 +1,71 @@
 -- `put_line` meets its contract. Assumes nothing.
-use denote.Ref.{now}
-use Rattle.journal.specs.Journal.{lineBytes}
-use Rattle.journal.proofs.Laws.{line-length, put-is}
+use mathlib.Core.Path.{ap, sym, _∙_}
+use lib.ListN.{length}
+use lib.Seq.{length-front, length-take-le}
+use Rattle.columns.proofs.Rows.{copied-front}
+use Rattle.columns.specs.Columns.{wordWidth}
+use Rattle.journal.specs.Journal.{wordColumns, journalLine, lineBytes}
+use Rattle.journal.proofs.Laws.{word-length, line-length, line-put}
 use borrow.Author.Needs.{needs}
 use Rattle.journal.proofs.put_line.Statement.{statement}
 use Rattle.journal.proofs.put_line.Tie as tie
 
+-- where the second number is written, the first, the word, and where its columns are known
+abbrev second : tie.After-put-number3 → tie.After-put-number2
+second n = n .before .before .before .before .before
+
+abbrev first : tie.After-put-number2 → tie.After-put-number
+first n = n .before .before .before .before .before
+
+abbrev copied : tie.After-put-number → tie.After-copy
+copied n = n .before .before .before .before .before
+
+abbrev worded : tie.After-copy → tie.After-word-bytes
+worded k = k .before .before .before
+
+abbrev start : tie.After-put-number3 → tie.Start
+start n = worded (copied (first (second n))) .before .before
+
 returns : tie.Need-returns
 returns c =
-    let a = c .before .before .before .before .before .before .before .args in
-    let k = c .before .before .before .before .before .line-bytes in
-    put-is (lineBytes (a .l)) (k .result) (now (a .part)) _ (k .ensures) (line-length (a .l)) (c .before .before .copy .ensures .1)
+    let n₃ = c .before .before in
+    let n₂ = second n₃ in
+    let n₁ = first n₂ in
+    let k = copied n₁ in
+    let w = worded k in
+    let a = start n₃ .args in
+    line-put (a .l) (a .part .now) _ _ _ _ (start n₃ .pre)
+    (copied-front wordWidth (wordColumns (a .l .word)) (w .word-bytes .result) (a .part .now) _
+    (w .word-bytes .ensures) (word-length (a .l .word)) (k .copy .ensures .1))
+    (n₁ .put-number .ensures) (n₂ .put-number2 .ensures) (n₃ .put-number3 .ensures)
+
+same-length : tie.Need-same-length
+same-length c = let s = start (c .before .before) in let a = s .args in
+    ap length (returns c) ∙ length-front (a .part .now) (lineBytes (a .l)) journalLine
+    (line-length (a .l) ∙ sym (length-take-le journalLine (a .part .now) (s .pre)))
 
 pub put-line-spec : {M : Type 1} → statement M
 put-line-spec =
-    tie.close (tie.spec (λ c κs. search needs) (λ c. search needs) (λ c κs. search needs) (λ c. search needs) returns)
+    tie.close
+    (tie.spec
+    (λ c κs. search needs)
+    (λ c. search needs)
+    (λ c κs. search needs)
+    (λ c. search needs)
+    (λ c. search needs)
+    (λ c. search needs)
+    (λ c. search needs)
+    (λ c κs. search needs)
+    (λ c. search needs)
+    (λ c. search needs)
+    (λ c. search needs)
+    (λ c. search needs)
+    (λ c κs. search needs)
+    (λ c. search needs)
+    (λ c. search needs)
+    (λ c. search needs)
+    (λ c. search needs)
+    (λ c κs. search needs)
+    (λ c. search needs)
+    same-length
+    returns)

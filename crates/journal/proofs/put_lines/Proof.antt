@@ -5,9 +5,9 @@ use mathlib.Core.Path.{_≡_, refl, _∙_}
 use mathlib.Core.List.{_++_}
 use native.Mathlib.Omega.{arith}
 use lib.ListN.{length, take, drop, length-take, length-drop}
-use Rattle.columns.specs.Columns.{flat}
+use Rattle.columns.specs.Rows.{flat}
 use Rattle.columns.proofs.Rows.{start, step}
-use Rattle.journal.specs.Journal.{lineBytes}
+use Rattle.journal.specs.Journal.{journalLine, lineBytes}
 use Rattle.journal.proofs.Laws.{line-length, ends}
 use borrow.Author.Needs.{needs}
 use Rattle.journal.proofs.put_lines.Statement.{statement}
@@ -15,8 +15,8 @@ use Rattle.journal.proofs.put_lines.Tie as tie
 
 abbrev Inv-loop : tie.InvT-loop
 Inv-loop journal₀ place count lines at₀ i₀ journal at i =
-    (i ≤ count) × (at ≡ place + 16 * i) × (length journal ≡ length journal₀)
-    × (journal ≡ take place journal₀ ++ flat lineBytes (take i lines) ++ drop (place + 16 * i) journal₀)
+    (i ≤ count) × (at ≡ place + journalLine * i) × (length journal ≡ length journal₀)
+    × (journal ≡ take place journal₀ ++ flat lineBytes (take i lines) ++ drop (place + journalLine * i) journal₀)
 
 abbrev μ-loop : tie.MeasureT-loop
 μ-loop journal₀ place count lines at₀ i₀ journal at i = count - i
@@ -36,7 +36,7 @@ loop-again c =
     let l = u .loop in
     let k = c .before .before .put-line in
     let l32 : length (s .args .t3) ≡ 32 = s .good .1 .1 .0 .1 .0 .1 in
-    let e : _ = step lineBytes 16 line-length (s .args .journal .now) (l .journal) (k .last .0)
+    let e : _ = step lineBytes journalLine line-length (s .args .journal .now) (l .journal) (k .last .0)
     (s .args .t3) _ (s .args .place) (l .i) (l .at) (omega arith) (omega arith) (l .inv .1) (l .inv .3) (k .ensures) in (
       omega arith,
       omega arith,

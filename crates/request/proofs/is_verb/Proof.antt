@@ -6,15 +6,17 @@ use borrow.Author.Needs.{needs}
 use lib.ListN.{length, take, drop}
 use Rattle.laws.specs.Lists.{same}
 use Rattle.request.specs.Requests.{begins}
+use Rattle.columns.specs.Columns.{wordWidth}
+use Rattle.request.proofs.Verbs.{verb-length}
 use Rattle.request.proofs.Laws
 use Rattle.request.proofs.is_verb.Statement.{statement}
 use Rattle.request.proofs.is_verb.Tie as tie
 
 abbrev Inv-loop : tie.InvT-loop
-Inv-loop line w i₀ i = (i ≤ 6) × (same (take 6 line) w ≡ same (drop i (take 6 line)) (drop i w))
+Inv-loop line w i₀ i = (i ≤ wordWidth) × (same (take wordWidth line) w ≡ same (drop i (take wordWidth line)) (drop i w))
 
 abbrev μ-loop : tie.MeasureT-loop
-μ-loop line w i₀ i = 6 - i
+μ-loop line w i₀ i = wordWidth - i
 
 -- where the verb's columns are known, and before it that the line has six
 abbrev long : tie.After-verb-bytes Inv-loop μ-loop → tie.Else1 Inv-loop μ-loop
@@ -24,8 +26,8 @@ abbrev start : tie.Else1 Inv-loop μ-loop → tie.Start Inv-loop μ-loop
 start e = e .before .before
 
 -- a verb has six columns
-six : (k : tie.After-verb-bytes Inv-loop μ-loop) → length (k .verb-bytes .result) ≡ 6
-six k = ap length (k .verb-bytes .ensures) ∙ Laws.verb-length (start (long k) .args .v)
+six : (k : tie.After-verb-bytes Inv-loop μ-loop) → length (k .verb-bytes .result) ≡ wordWidth
+six k = ap length (k .verb-bytes .ensures) ∙ verb-length (start (long k) .args .v)
 
 returns : tie.Need-returns Inv-loop μ-loop
 returns c =

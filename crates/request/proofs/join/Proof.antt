@@ -1,7 +1,8 @@
 -- `join` meets its contract. Assumes nothing.
 use mathlib.Core.Path.{_≡_, ap, sym, _∙_}
 use Rattle.columns.specs.declared.Field.{Field}
-use Rattle.columns.specs.Columns.{numberOf}
+use Rattle.columns.specs.Columns.{fileWidth}
+use Rattle.request.specs.Requests.{fileIn}
 use Rattle.request.specs.Groups.{joined}
 use Rattle.request.proofs.Laws
 use borrow.Author.Needs.{needs}
@@ -15,7 +16,7 @@ returns c =
 
 cast-f : tie.Need-cast-f
 cast-f c =
-    let h = Laws.at-most 1 64 _ _ _ (c .before .before .before .read-number .ensures) (c .before .field .given .1) in
+    let h = Laws.at-most fileWidth 1 64 _ _ _ (c .before .before .before .read-number .ensures) (c .before .field .given .1) in
     search needs
 
 -- where the field's number is known
@@ -25,7 +26,7 @@ numbered w = w .before .before
 abbrev read : tie.After-field → tie.After-read-number
 read f = f .before .before
 
-number-is : (f : tie.After-field) → numberOf 1 64 (read f .before .before .before .args .part .now) ≡ Field.Number (f .field .given .0 .0)
+number-is : (f : tie.After-field) → fileIn (read f .before .before .before .args .part .now) ≡ Field.Number (f .field .given .0 .0)
 number-is f = sym (read f .read-number .ensures) ∙ f .field .given .1
 
 returns-2 : tie.Need-returns-2

@@ -8,7 +8,7 @@ use Rattle.request.proofs.read_as.Tie as tie
 
 returns : tie.Need-returns
 returns c = let s = c .before .before .before in let a = s .before .before .args in
-    c .read-enter .ensures ∙ ap (λ (x : Shape). readAs x (a .verb) (a .line .now)) (sym (c .before .enum-told .given .1) ∙ s .shape-of .ensures)
+    c .read-entry .ensures ∙ ap (λ (x : Shape). readAs x (a .verb) (a .line .now)) (sym (c .before .enum-told .given .1) ∙ s .shape-of .ensures)
 
 returns-2 : tie.Need-returns-2
 returns-2 c = let s = c .before .before .before in let a = s .before .before .args in

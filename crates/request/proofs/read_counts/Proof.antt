@@ -1,9 +1,9 @@
 -- `read_counts` meets its contract. Assumes nothing.
 use Prim.Native.Nat.{ℕ, _≤_}
 use mathlib.Core.Path.{_≡_, sym, _∙_}
-use lib.ListN.{take, drop}
 use Rattle.columns.specs.declared.Field.{Field}
-use Rattle.columns.specs.Columns.{numberOf}
+use Rattle.columns.specs.Columns.{fileWidth}
+use Rattle.request.specs.Requests.{wField, rField}
 use Rattle.request.proofs.Laws
 use borrow.Author.Needs.{needs}
 use Rattle.request.proofs.read_counts.Statement.{statement}
@@ -19,7 +19,8 @@ read f = f .before .before
 abbrev w : tie.After-first → ℕ
 w f = f .first .given .0 .0
 
-w-is : (f : tie.After-first) → numberOf 0 64 (take 3 (drop 17 (start (read f) .args .line .now))) ≡ Field.Number (w f)
+w-is : (f : tie.After-first) → wField (start (read f) .args .line .now) ≡ Field.Number (w f)
+unfolding wField
 w-is f = sym (read f .read-number .ensures) ∙ f .first .given .1
 
 -- where both counts are known
@@ -32,22 +33,25 @@ read2 s = s .before .before
 abbrev r : tie.After-second → ℕ
 r s = s .second .given .0 .0
 
-r-is : (s : tie.After-second) → numberOf 0 64 (take 3 (drop 20 (start (read (first (read2 s))) .args .line .now))) ≡ Field.Number (r s)
+r-is : (s : tie.After-second) → rField (start (read (first (read2 s))) .args .line .now) ≡ Field.Number (r s)
+unfolding rField
 r-is s = sym (read2 s .read-number2 .ensures) ∙ s .second .given .1
 
 range : (s : tie.After-second) → (w (first (read2 s)) ≤ 64) × (r s ≤ 64)
 range s = let f = first (read2 s) in (
-  Laws.at-most 0 64 _ _ _ (read f .read-number .ensures) (f .first .given .1),
-  Laws.at-most 0 64 _ _ _ (read2 s .read-number2 .ensures) (s .second .given .1),
+  Laws.at-most fileWidth 0 64 _ _ _ (read f .read-number .ensures) (f .first .given .1),
+  Laws.at-most fileWidth 0 64 _ _ _ (read2 s .read-number2 .ensures) (s .second .given .1),
 )
 
 returns : tie.Need-returns
+unfolding wField
 returns c = let n = c .before .before .before in let a = start n .args in
-    c .refusing .ensures ∙ sym (Laws.counts-w (a .line .now) (a .program) (sym (n .read-number .ensures) ∙ c .before .enum-told .given .1))
+    c .refusing .ensures ∙ sym (Laws.counts-w (a .verb) (a .line .now) (a .program) (sym (n .read-number .ensures) ∙ c .before .enum-told .given .1))
 
 returns-2 : tie.Need-returns-2
+unfolding rField
 returns-2 c = let n = c .before .before .before in let f = first n in let a = start (read f) .args in
-    c .refusing2 .ensures ∙ sym (Laws.counts-r (a .line .now) (a .program) (w f) (w-is f)
+    c .refusing2 .ensures ∙ sym (Laws.counts-r (a .verb) (a .line .now) (a .program) (w f) (w-is f)
     (sym (n .read-number2 .ensures) ∙ c .before .enum-told2 .given .1))
 
 add-files : tie.Need-add-files
@@ -61,11 +65,11 @@ add-if1 c = let h = range (c .before) in search needs
 
 returns-3 : tie.Need-returns-3
 returns-3 c = let s = c .before .before .before in let f = first (read2 s) in let a = start (read f) .args in
-    c .refusing3 .ensures ∙ sym (Laws.counts-length (a .line .now) (a .program) (w f) (r s) (w-is f) (r-is s) (c .before .if1 .taken))
+    c .refusing3 .ensures ∙ sym (Laws.counts-length (a .verb) (a .line .now) (a .program) (w f) (r s) (w-is f) (r-is s) (c .before .if1 .taken))
 
 returns-4 : tie.Need-returns-4
 returns-4 c = let s = c .before .before .before in let f = first (read2 s) in let a = start (read f) .args in
-    c .read-files .ensures ∙ sym (Laws.counts-good (a .line .now) (a .program) (w f) (r s) (w-is f) (r-is s) (c .before .if1 .left))
+    c .read-files .ensures ∙ sym (Laws.counts-good (a .verb) (a .line .now) (a .program) (w f) (r s) (w-is f) (r-is s) (c .before .if1 .left))
 
 pub read-counts-spec : {M : Type 1} → statement M
 read-counts-spec =

@@ -1,33 +1,32 @@
 -- `read_file` meets its contract. Assumes nothing.
 use Prim.Native.Nat.{ℕ}
 use mathlib.Core.Path.{_≡_, sym, _∙_}
-use lib.ListN.{take, drop}
 use Rattle.columns.specs.declared.Field.{Field}
-use Rattle.columns.specs.Columns.{numberOf}
+use Rattle.request.specs.Requests.{programField, fileField}
 use Rattle.request.proofs.Laws
 use borrow.Author.Needs.{needs}
 use Rattle.request.proofs.read_file.Statement.{statement}
 use Rattle.request.proofs.read_file.Tie as tie
 
--- where the length is known to be 12
-abbrev twelve : tie.After-read-number → tie.Else1
-twelve n = n .before .before
+-- where the length is known
+abbrev sized : tie.After-read-program → tie.Else1
+sized n = n .before
 
-abbrev start : tie.After-read-number → tie.Start
-start n = twelve n .before .before
+abbrev start : tie.After-read-program → tie.Start
+start n = sized n .before .before
 
 -- where the program's number is known
-abbrev numbered : tie.After-read-number2 → tie.After-first
+abbrev numbered : tie.After-read-number → tie.After-first
 numbered m = m .before .before .before
 
-abbrev read : tie.After-first → tie.After-read-number
+abbrev read : tie.After-first → tie.After-read-program
 read f = f .before .before
 
 abbrev program : tie.After-first → ℕ
 program f = f .first .given .0 .0
 
-program-is : (f : tie.After-first) → numberOf 1 32 (take 3 (drop 6 (start (read f) .args .line .now))) ≡ Field.Number (program f)
-program-is f = sym (read f .read-number .ensures) ∙ f .first .given .1
+program-is : (f : tie.After-first) → programField (start (read f) .args .line .now) ≡ Field.Number (program f)
+program-is f = sym (read f .read-program .ensures) ∙ f .first .given .1
 
 returns : tie.Need-returns
 returns c = let a = c .before .before .before .args in
@@ -35,18 +34,20 @@ returns c = let a = c .before .before .before .args in
 
 returns-2 : tie.Need-returns-2
 returns-2 c = let n = c .before .before .before in let a = start n .args in
-    c .refusing2 .ensures ∙ sym (Laws.file-program (a .verb) (a .line .now) (twelve n .if1 .left)
-    (sym (n .read-number .ensures) ∙ c .before .enum-told .given .1))
+    c .refusing2 .ensures ∙ sym (Laws.file-program (a .verb) (a .line .now) (sized n .if1 .left)
+    (sym (n .read-program .ensures) ∙ c .before .enum-told .given .1))
 
 returns-3 : tie.Need-returns-3
+unfolding fileField
 returns-3 c = let m = c .before .before .before in let f = numbered m in let n = read f in let a = start n .args in
-    c .refusing3 .ensures ∙ sym (Laws.file-file (a .verb) (a .line .now) (program f) (twelve n .if1 .left) (program-is f)
-    (sym (m .read-number2 .ensures) ∙ c .before .enum-told2 .given .1))
+    c .refusing3 .ensures ∙ sym (Laws.file-file (a .verb) (a .line .now) (program f) (sized n .if1 .left) (program-is f)
+    (sym (m .read-number .ensures) ∙ c .before .enum-told2 .given .1))
 
 returns-4 : tie.Need-returns-4
-returns-4 c = let m = c .before .before .before in let f = numbered m in let n = read f in let a = start n .args in
-    sym (Laws.file-good (a .verb) (a .line .now) (program f) _ (twelve n .if1 .left) (program-is f)
-    (sym (m .read-number2 .ensures) ∙ c .before .second .given .1))
+unfolding fileField
+returns-4 c = let g = c .before .before in let m = g .before .before in let f = numbered m in let n = read f in let a = start n .args in
+    c .taking .ensures ∙ sym (Laws.file-good (a .verb) (a .line .now) (program f) _ (sized n .if1 .left) (program-is f)
+    (sym (m .read-number .ensures) ∙ g .second .given .1))
 
 pub read-file-spec : {M : Type 1} → statement M
 read-file-spec =
@@ -54,9 +55,6 @@ read-file-spec =
     (tie.spec
     (λ c κs. search needs)
     returns
-    (λ c. search needs)
-    (λ c. search needs)
-    (λ c. search needs)
     (λ c κs. search needs)
     (λ c. search needs)
     (λ c. search needs)
@@ -70,4 +68,5 @@ read-file-spec =
     (λ c. search needs)
     (λ c κs. search needs)
     returns-3
+    (λ c κs. search needs)
     returns-4)

@@ -1,11 +1,13 @@
 -- `read_files` meets its contract. Assumes nothing.
-use Prim.Native.Nat.{ℕ, _+_, _*_}
+use Prim.Native.Nat.{ℕ}
 use mathlib.Core.Path.{_≡_, ap, ap₂, sym, _∙_}
 use mathlib.Core.Bool.{true}
 use lib.ListN.{drop}
 use borrow.Author.Tests.{not-true, not-false}
+use Rattle.rules.specs.declared.Verb.{Verb}
 use Rattle.request.specs.declared.Group.{Group}
-use Rattle.request.specs.Requests.{enterFiles}
+use Rattle.request.specs.Verbs.{entryLength}
+use Rattle.request.specs.Requests.{entryFiles}
 use Rattle.request.specs.Groups.{noGroup, groupFrom}
 use Rattle.request.proofs.Laws
 use borrow.Author.Needs.{needs}
@@ -31,9 +33,12 @@ read-q e = e .before .before
 abbrev both-files : tie.Else3 → tie.Else2
 both-files e = e .before .before
 
--- the program's number, and the group of V, when that of Q is read
+-- the verb, the program's number, and the group of V, when that of Q is read
 abbrev program : tie.After-read-group2 → ℕ
 program n = start (read-v (n .before)) .args .program
+
+abbrev verb : tie.After-read-group2 → Verb
+verb n = start (read-v (n .before)) .args .verb
 
 abbrev v-of : tie.After-read-group2 → Group
 v-of n = v (read-v (n .before))
@@ -49,35 +54,35 @@ v-rises e = not-false (v-of (read-q (both-files e)) .rising) (e .if3 .left)
 
 -- what the line says, by the two groups
 by-groups : (n : tie.After-read-group2) → let a = start (read-v (n .before)) .args in
-    enterFiles (a .line .now) (a .program) (a .w) (a .r) ≡ Laws.enterBy (v-of n) (q n) (program n)
+    entryFiles (a .verb) (a .line .now) (a .program) (a .w) (a .r) ≡ Laws.enterBy (a .verb) (v-of n) (q n) (program n)
 by-groups n = let a = start (read-v (n .before)) .args in
-    Laws.enter-by (a .line .now) (a .program) (a .w) (a .r)
-    ∙ ap₂ (λ (x y : Group). Laws.enterBy x y (program n)) (sym (read-v (n .before) .read-group .ensures)) (sym (n .read-group2 .ensures))
+    Laws.enter-by (a .verb) (a .line .now) (a .program) (a .w) (a .r)
+    ∙ ap₂ (λ (x y : Group). Laws.enterBy (a .verb) x y (program n)) (sym (read-v (n .before) .read-group .ensures)) (sym (n .read-group2 .ensures))
 
 returns : tie.Need-returns
 returns c = let n = c .before .before .before in let a = start n .args in
-    let later = groupFrom (a .r) (drop (23 + 3 * a .w) (a .line .now)) noGroup in
-    c .refusing .ensures ∙ sym (Laws.enter-by (a .line .now) (a .program) (a .w) (a .r)
-    ∙ ap (λ (x : Group). Laws.enterBy x later (a .program)) (sym (n .read-group .ensures))
-    ∙ Laws.v-bad (v n) later (a .program) (not-true (v n .good) (c .before .if1 .taken)))
+    let later = groupFrom (a .r) (drop (entryLength (a .w)) (a .line .now)) noGroup in
+    c .refusing .ensures ∙ sym (Laws.enter-by (a .verb) (a .line .now) (a .program) (a .w) (a .r)
+    ∙ ap (λ (x : Group). Laws.enterBy (a .verb) x later (a .program)) (sym (n .read-group .ensures))
+    ∙ Laws.v-bad (a .verb) (v n) later (a .program) (not-true (v n .good) (c .before .if1 .taken)))
 
 returns-2 : tie.Need-returns-2
 returns-2 c = let n = c .before .before .before in
-    c .refusing2 .ensures ∙ sym (by-groups n ∙ Laws.q-bad (v-of n) (q n) (program n) (v-good n) (not-true (q n .good) (c .before .if2 .taken)))
+    c .refusing2 .ensures ∙ sym (by-groups n ∙ Laws.q-bad (verb n) (v-of n) (q n) (program n) (v-good n) (not-true (q n .good) (c .before .if2 .taken)))
 
 returns-3 : tie.Need-returns-3
 returns-3 c = let e = c .before .before .before in let n = read-q e in
-    c .refusing3 .ensures ∙ sym (by-groups n ∙ Laws.v-falls (v-of n) (q n) (program n) (v-good n) (q-good e)
+    c .refusing3 .ensures ∙ sym (by-groups n ∙ Laws.v-falls (verb n) (v-of n) (q n) (program n) (v-good n) (q-good e)
     (not-true (v-of n .rising) (c .before .if3 .taken)))
 
 returns-4 : tie.Need-returns-4
 returns-4 c = let s = c .before .before .before in let e = both-files s in let n = read-q e in
-    c .refusing4 .ensures ∙ sym (by-groups n ∙ Laws.q-falls (v-of n) (q n) (program n) (v-good n) (q-good e) (v-rises s)
+    c .refusing4 .ensures ∙ sym (by-groups n ∙ Laws.q-falls (verb n) (v-of n) (q n) (program n) (v-good n) (q-good e) (v-rises s)
     (not-true (q n .rising) (c .before .if4 .taken)))
 
 returns-5 : tie.Need-returns-5
-returns-5 c = let f = c .before .before in let s = f .before .before in let e = both-files s in let n = read-q e in
-    sym (by-groups n ∙ Laws.both-good (v-of n) (q n) (program n) (v-good n) (q-good e) (v-rises s) (not-false (q n .rising) (f .if4 .left)))
+returns-5 c = let f = c .before .before .before in let s = f .before .before in let e = both-files s in let n = read-q e in
+    c .taking .ensures ∙ sym (by-groups n ∙ Laws.both-good (verb n) (v-of n) (q n) (program n) (v-good n) (q-good e) (v-rises s) (not-false (q n .rising) (f .if4 .left)))
 
 pub read-files-spec : {M : Type 1} → statement M
 read-files-spec =
@@ -95,4 +100,5 @@ read-files-spec =
     returns-3
     (λ c κs. search needs)
     returns-4
+    (λ c κs. search needs)
     returns-5)

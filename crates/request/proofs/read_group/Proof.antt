@@ -4,7 +4,8 @@ use Prim.Native.Nat.{ℕ, _+_, _-_, _*_, _≤_}
 use native.Mathlib.Omega.{arith}
 use borrow.Author.Needs.{needs}
 use lib.ListN.{drop}
-use Rattle.columns.specs.Columns.{numberOf}
+use Rattle.columns.specs.Columns.{fileWidth}
+use Rattle.request.specs.Requests.{fileIn}
 use Rattle.request.specs.Groups.{noGroup, joined, groupFrom}
 use Rattle.request.proofs.Laws
 use mathlib.Core.List.{List}
@@ -13,7 +14,7 @@ use Rattle.request.proofs.read_group.Tie as tie
 
 abbrev Inv-loop : tie.InvT-loop
 Inv-loop line start count g₀ a₀ i₀ g a i =
-    (i ≤ count) × (a ≡ start + 3 * i) × (groupFrom count (drop start line) noGroup ≡ groupFrom (count - i) (drop a line) g)
+    (i ≤ count) × (a ≡ start + fileWidth * i) × (groupFrom count (drop start line) noGroup ≡ groupFrom (count - i) (drop a line) g)
 
 abbrev μ-loop : tie.MeasureT-loop
 μ-loop line start count g₀ a₀ i₀ g a i = count - i
@@ -58,7 +59,7 @@ loop-again : tie.Need-loop-again Inv-loop μ-loop
 loop-again c =
     let k = c .before .before .before .loop in
     let l = c .before .before .before .before .before .args .line .now in
-    let e = c .join .ensures ∙ ap (λ (x : List ℕ). joined (k .g) (numberOf 1 64 x)) (Laws.part-three l (k .a)) in (
+    let e = c .join .ensures ∙ ap (λ (x : List ℕ). joined (k .g) (fileIn x)) (Laws.part-is l (k .a) fileWidth) in (
       omega arith,
       omega arith,
       k .inv .2 ∙ Laws.group-more (c .before .before .before .before .before .args .count)

@@ -29,7 +29,7 @@ returns c =
     let s = start p in
     let a = s .args in (
       omega (arith, r .ensures .0, w .ensures .0, l .ensures .0, h .ensures .0, s .pre .1),
-      entry-put (a .program) (a .w) (a .r) (a .label .now) (a .line .now) (h .last .0) (l .last .0) (w .last .0) (r .last .0)
+      entry-put (a .verb) (a .program) (a .w) (a .r) (a .label .now) (a .line .now) (h .last .0) (l .last .0) (w .last .0) (r .last .0)
           (h .result) (l .result) (w .result) (s .pre .0) (s .pre .1) (h .ensures .0) (h .ensures .1) (l .ensures .0) (l .ensures .1)
           (w .ensures .0) (w .ensures .1) (r .ensures .1),
     )

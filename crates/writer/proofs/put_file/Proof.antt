@@ -4,7 +4,7 @@ use mathlib.Core.Bool.{true}
 use mathlib.Core.List.{List}
 use Prim.Native.Nat.{ℕ}
 use native.Mathlib.Omega.{arith}
-use Rattle.columns.specs.Columns.{putAt}
+use Rattle.columns.specs.Rows.{putAt}
 use Rattle.files.specs.Sets.{member}
 use Rattle.writer.proofs.Laws.{columns-in, columns-out, put-none}
 use borrow.Author.Needs.{needs}
@@ -19,7 +19,7 @@ put-number-requires : tie.Need-put-number-requires
 put-number-requires c κs =
     let s = c .before .before .before .before in
     let e = columns-in _ (s .args .f) (in-set (c .before)) in
-    omega (arith, e .0, s .pre)
+    (omega arith, omega (arith, e .0, s .pre))
 
 returns : tie.Need-returns
 returns c =

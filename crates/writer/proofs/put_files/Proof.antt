@@ -5,7 +5,8 @@ use native.Mathlib.Omega.{arith}
 use lib.ListN.{length}
 use Rattle.files.specs.Sets.{member}
 use Rattle.request.specs.Requests.{filesOf, filesColumns}
-use Rattle.columns.specs.Columns.{putAt}
+use Rattle.columns.specs.Columns.{fileWidth}
+use Rattle.columns.specs.Rows.{putAt}
 use Rattle.writer.proofs.Laws.{filesFrom, count-more, columns-if, files-end, put-step, ends}
 use Rattle.writer.proofs.put_files.Statement.{statement}
 use Rattle.writer.proofs.put_files.Tie as tie
@@ -13,7 +14,7 @@ use Rattle.writer.proofs.put_files.Tie as tie
 abbrev Inv-loop : tie.InvT-loop
 Inv-loop line₀ start s at₀ f₀ line at f =
     (1 ≤ f) × (f ≤ 65) × (length line ≡ length line₀)
-    × (at + 3 * length (filesFrom (member s) f) ≡ start + 3 * length (filesOf s))
+    × (at + fileWidth * length (filesFrom (member s) f) ≡ start + fileWidth * length (filesOf s))
     × (putAt start (filesColumns (filesOf s)) line₀ ≡ putAt at (filesColumns (filesFrom (member s) f)) line)
 
 abbrev μ-loop : tie.MeasureT-loop

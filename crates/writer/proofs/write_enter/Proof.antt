@@ -1,25 +1,25 @@
 -- `write_enter` meets its contract. Assumes nothing.
 use mathlib.Core.Path.{sym, _∙_}
 use borrow.Author.Tests.{not-true, not-false}
-use Rattle.writer.proofs.Laws.{label-size, label-bad, label-good, enter-refused, enter-placed}
+use Rattle.writer.proofs.Laws.{label-size, label-bad, label-good, entry-refused, entry-placed}
 use borrow.Author.Needs.{needs}
 use Rattle.writer.proofs.write_enter.Statement.{statement}
 use Rattle.writer.proofs.write_enter.Tie as tie
 
 returns : tie.Need-returns
 returns c = let a = c .before .before .before .args in
-    enter-refused (a .program) (a .writable) (a .readable) (a .label .now) (a .line .now) (label-size (a .label .now) (c .if1 .taken))
+    entry-refused (a .a) (a .label .now) (a .line .now) (label-size (a .label .now) (c .if1 .taken))
 
--- where the label has eight bytes
-abbrev eight : tie.After-is-label → tie.Else1
-eight k = k .before
+-- where the label has its length
+abbrev sized : tie.After-is-label → tie.Else1
+sized k = k .before
 
 abbrev start : tie.Else1 → tie.Start
 start e = e .before .before .before
 
 returns-2 : tie.Need-returns-2
-returns-2 c = let k = c .before .is-label in let a = start (eight (c .before)) .args in
-    enter-refused (a .program) (a .writable) (a .readable) (a .label .now) (a .line .now)
+returns-2 c = let k = c .before .is-label in let a = start (sized (c .before)) .args in
+    entry-refused (a .a) (a .label .now) (a .line .now)
     (label-bad (a .label .now) (sym (k .ensures) ∙ not-true (k .result) (c .if2 .taken)))
 
 -- where all of them are label bytes
@@ -31,9 +31,9 @@ returns-3 c =
     let w = c .before .before .write-entry in
     let i = good (c .before .before) in
     let k = i .before .is-label in
-    let e = eight (i .before) in
+    let e = sized (i .before) in
     let a = start e .args in
-    enter-placed (a .program) (a .writable) (a .readable) (a .label .now) (a .line .now) (w .result) _
+    entry-placed (a .a) (a .label .now) (a .line .now) (w .result) _
     (label-good (a .label .now) (e .if1 .left) (sym (k .ensures) ∙ not-false (k .result) (i .if2 .left)))
     (w .ensures .0, w .ensures .1)
 

@@ -1,10 +1,11 @@
 -- `write_entry` meets its contract. Assumes nothing.
-use Prim.Native.Nat.{ℕ, _+_, _*_, _≤_}
+use Prim.Native.Nat.{ℕ, _+_, _≤_}
 use mathlib.Core.Path.{_≡_, ap₂, _∙_}
 use lib.ListN.{length}
-use Rattle.columns.specs.Columns.{putAt}
-use Rattle.rules.specs.Calls.{Enter}
-use Rattle.request.specs.Requests.{filesOf, lineOf}
+use Rattle.columns.specs.Rows.{putAt}
+use Rattle.request.specs.declared.Shape.{Shape}
+use Rattle.request.specs.Verbs.{entryLength}
+use Rattle.request.specs.Requests.{filesOf, lineAs}
 use native.Mathlib.Omega.{arith}
 use Rattle.request.proofs.Groups.{files-length}
 use Rattle.writer.specs.Rows.{entryColumns}
@@ -15,12 +16,12 @@ use Rattle.writer.proofs.write_entry.Tie as tie
 
 -- where the counts are known
 abbrev start : tie.After-count2 → tie.Start
-start k = k .before .before .before .before
+start k = k .before .before .before .before .before .before
 
 -- a set has at most 64 files
 few : (k : tie.After-count2) → (k .before .count .result ≤ 64) × (k .count2 .result ≤ 64)
 few k = let a = start k .args in
-    let v = files-length (a .writable) in let q = files-length (a .readable) in
+    let v = files-length (a .a .writable) in let q = files-length (a .a .readable) in
     (omega (arith, v, k .before .count .ensures), omega (arith, q, k .count2 .ensures))
 
 add-len : tie.Need-add-len
@@ -37,9 +38,9 @@ returns c =
     let k = c .before in
     let s = start k in
     let a = s .args in
-    placed-short (lineOf (Enter (a .program) (a .writable) (a .readable)) (a .label .now)) (a .line .now)
-    (23 + 3 * (length (filesOf (a .writable)) + length (filesOf (a .readable))))
-    (enter-length (a .program) (a .writable) (a .readable) (a .label .now) (s .pre))
+    placed-short (lineAs Shape.Entry (a .a) (a .label .now)) (a .line .now)
+    (entryLength (length (filesOf (a .a .writable)) + length (filesOf (a .a .readable))))
+    (enter-length (a .a) (a .label .now) (s .pre))
     (omega (arith, c .if1 .taken, k .before .count .ensures, k .count2 .ensures))
 
 -- where the files of V are written, and the columns before them
@@ -62,18 +63,18 @@ returns-2 c =
     let k = fits p .before in
     let s = start k in
     let a = s .args in
-    let v = a .writable in
-    let q = a .readable in
+    let v = a .a .writable in
+    let q = a .a .readable in
     let n = k .before .count .ensures in
     let m = k .count2 .ensures in
-    let room : 23 + 3 * (length (filesOf v) + length (filesOf q)) ≤ length (a .line .now) = omega (arith, fits p .if1 .left, n, m) in
-    let e : h .last .0 ≡ putAt 0 (entryColumns (a .program) (a .label .now) (length (filesOf v)) (length (filesOf q))) (a .line .now) =
-    h .ensures .1 ∙ ap₂ (λ (x y : ℕ). putAt 0 (entryColumns (a .program) (a .label .now) x y) (a .line .now)) n m in
-    placed-all (lineOf (Enter (a .program) v q) (a .label .now)) (a .line .now) (y .last .0)
-    (23 + 3 * (length (filesOf v) + length (filesOf q))) (y .result)
-    (enter-length (a .program) v q (a .label .now) (s .pre)) room
+    let room : entryLength (length (filesOf v) + length (filesOf q)) ≤ length (a .line .now) = omega (arith, fits p .if1 .left, n, m) in
+    let e : h .last .0 ≡ putAt 0 (entryColumns (a .a .verb) (a .a .program) (a .label .now) (length (filesOf v)) (length (filesOf q))) (a .line .now) =
+    h .ensures .1 ∙ ap₂ (λ (x y : ℕ). putAt 0 (entryColumns (a .a .verb) (a .a .program) (a .label .now) x y) (a .line .now)) n m in
+    placed-all (lineAs Shape.Entry (a .a) (a .label .now)) (a .line .now) (y .last .0)
+    (entryLength (length (filesOf v) + length (filesOf q))) (y .result)
+    (enter-length (a .a) (a .label .now) (s .pre)) room
     (omega (arith, y .ensures .0, x .ensures .0, h .ensures .0))
-    (enter-put (a .program) (h .result) (x .result) v q (a .label .now) (a .line .now) (h .last .0) (x .last .0) (y .last .0)
+    (enter-put (a .a) (h .result) (x .result) (a .label .now) (a .line .now) (h .last .0) (x .last .0) (y .last .0)
     (s .pre) room (h .ensures .0) e (x .ensures .0) (x .ensures .1) (y .ensures .1))
 
 pub write-entry-spec : {M : Type 1} → statement M

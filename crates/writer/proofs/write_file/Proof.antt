@@ -4,7 +4,10 @@ use mathlib.Core.Bool.{true}
 use native.Mathlib.Omega.{arith}
 use borrow.Author.Tests.{not-true, not-false}
 use Rattle.files.specs.Sets.{isFile}
-use Rattle.writer.specs.Rows.{fileLine}
+use mathlib.Core.List.{[]}
+use Rattle.request.specs.declared.Shape.{Shape}
+use Rattle.request.specs.Verbs.{fileLength}
+use Rattle.request.specs.Requests.{lineAs}
 use Rattle.writer.proofs.Laws.{file-length, file-put, file-refused, file-placed, placed-short, placed-all}
 use borrow.Author.Needs.{needs}
 use Rattle.writer.proofs.write_file.Statement.{statement}
@@ -12,19 +15,19 @@ use Rattle.writer.proofs.write_file.Tie as tie
 
 returns : tie.Need-returns
 returns c = let k = c .before .is-number in let a = c .before .before .before .args in
-    file-refused (a .verb) (a .program) (a .file) (a .line .now) (sym (k .ensures) ∙ not-true (k .result) (c .if1 .taken))
+    file-refused (a .a) (a .line .now) (sym (k .ensures) ∙ not-true (k .result) (c .if1 .taken))
 
 abbrev start : tie.Else1 → tie.Start
 start e = e .before .before .before
 
 -- the file is one
-is-file : (c : tie.Else1) → isFile (start c .args .file) ≡ true
+is-file : (c : tie.Else1) → isFile (start c .args .a .file) ≡ true
 is-file c = let k = c .before .is-number in sym (k .ensures) ∙ not-false (k .result) (c .if1 .left)
 
 returns-2 : tie.Need-returns-2
 returns-2 c = let a = start (c .before) .args in
-    file-placed (a .verb) (a .program) (a .file) (a .line .now) _ _ (is-file (c .before))
-    (placed-short (fileLine (a .verb) (a .program) (a .file)) (a .line .now) 12 (file-length (a .verb) (a .program) (a .file)) (c .if2 .taken))
+    file-placed (a .a) (a .line .now) _ _ (is-file (c .before))
+    (placed-short (lineAs Shape.File (a .a) []) (a .line .now) fileLength (file-length (a .a)) (c .if2 .taken))
 
 -- where the line is known to fit, and the columns of verb and program are written
 abbrev with-head : tie.After-put-number → tie.After-put-head
@@ -40,11 +43,11 @@ returns-3 c =
     let h = p .put-head in
     let i = fits p in
     let a = start (i .before) .args in
-    let e = file-put (a .verb) (a .program) (a .file) (h .result) (a .line .now) (h .last .0) (k .last .0)
+    let e = file-put (a .a) (h .result) (a .line .now) (h .last .0) (k .last .0)
     (i .if2 .left) (h .ensures .0) (h .ensures .1) (k .ensures .1) in
-    file-placed (a .verb) (a .program) (a .file) (a .line .now) _ _ (is-file (i .before))
-    (placed-all (fileLine (a .verb) (a .program) (a .file)) (a .line .now) (k .last .0) 12 (k .result)
-    (file-length (a .verb) (a .program) (a .file)) (i .if2 .left) (omega (arith, k .ensures .0, h .ensures .0)) e)
+    file-placed (a .a) (a .line .now) _ _ (is-file (i .before))
+    (placed-all (lineAs Shape.File (a .a) []) (a .line .now) (k .last .0) fileLength (k .result)
+    (file-length (a .a)) (i .if2 .left) (omega (arith, k .ensures .0, h .ensures .0)) e)
 
 pub write-file-spec : {M : Type 1} → statement M
 write-file-spec =

@@ -5,7 +5,7 @@ use Prim.Native.Nat.{_-_, _*_, _≤_}
 use native.Mathlib.Omega.{arith}
 use lib.ListN.{length, take, drop}
 use lib.Seq.{take-all}
-use Rattle.columns.specs.Columns.{flat}
+use Rattle.columns.specs.Rows.{flat}
 use Rattle.image.specs.Image.{bytesN}
 use Rattle.image.proofs.Laws.{put-row}
 use Rattle.host.proofs.Digraph.{row-length}

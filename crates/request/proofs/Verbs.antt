@@ -1,0 +1,109 @@
+-- Laws of the table of verbs: what each row and each call gives, a clause for each; and the fields of a line. Assumes nothing.
+use Prim.Native.Nat.{ℕ, _<_, _≤_, _^_}
+use mathlib.Core.Path.{_≡_, refl, ap, _∙_}
+use mathlib.Core.List.{List}
+use mathlib.Core.Option.{some}
+use lib.ListN.{length, take}
+use lib.Seq.{take-at}
+use native.Mathlib.Omega.{arith}
+use Rattle.laws.specs.Lists.{first, same}
+use Rattle.laws.specs.Laws.{first-same}
+use Rattle.columns.specs.declared.Field.{Field}
+use Rattle.columns.specs.Columns.{wordWidth, programWidth, fileWidth, columnsOf}
+use Rattle.columns.proofs.Laws.{number-columns}
+use Rattle.files.specs.declared.FileSet.{FileSet}
+use Rattle.files.specs.Sets.{noFiles}
+use Rattle.rules.specs.declared.Verb.{Verb}
+use Rattle.rules.specs.declared.Asked.{Asked}
+use Rattle.rules.specs.Calls.{Call, Enter, Open, Close, Drop, Leave, Cancel, callWith, callOf}
+use Rattle.request.specs.declared.Shape.{Shape}
+use Rattle.request.specs.Verbs.{verbs, verbColumns, shapeOf}
+use Rattle.request.specs.Requests.{asking, begins, programIn, fileIn, countIn, verbOf, askedBy, lineAs}
+
+-- ---- a clause for each verb
+
+-- what is asked for by a line of this shape is what its call asks for
+abbrev pub AskedBack : Shape → Verb → Type 0
+AskedBack Shape.Entry v = (p : ℕ) (w r : FileSet) → askedBy (callWith v p 0 w r) ≡ asking v p 0 w r
+AskedBack Shape.File v = (p f : ℕ) → askedBy (callWith v p f noFiles noFiles) ≡ asking v p f noFiles noFiles
+AskedBack Shape.Alone v = (p : ℕ) → askedBy (callWith v p 0 noFiles noFiles) ≡ asking v p 0 noFiles noFiles
+
+-- what a line of this shape says is the same
+abbrev pub SameAs : Shape → Asked → Asked → Type 0
+SameAs Shape.Entry a b = (a .verb ≡ b .verb) × (a .program ≡ b .program) × (a .writable ≡ b .writable) × (a .readable ≡ b .readable)
+SameAs Shape.File a b = (a .verb ≡ b .verb) × (a .program ≡ b .program) × (a .file ≡ b .file)
+SameAs Shape.Alone a b = (a .verb ≡ b .verb) × (a .program ≡ b .program)
+
+pub record VerbGood (v : Verb) : Type 0 where
+  pub size : length (verbColumns v) ≡ wordWidth
+  pub found : first (λ u. same (verbColumns v) (verbColumns u)) verbs ≡ some v
+  pub back : AskedBack (shapeOf v) v
+  pub verb : (p f : ℕ) (w r : FileSet) → askedBy (callWith v p f w r) .verb ≡ v
+  pub same : (p f : ℕ) (w r : FileSet) → SameAs (shapeOf v) (askedBy (callWith v p f w r)) (asking v p f w r)
+
+pub verb-good : (v : Verb) → VerbGood v
+unfolding first same
+verb-good Verb.Enter =
+    record { size = refl; found = refl; back = λ p w r. refl; verb = λ p f w r. refl; same = λ p f w r. (refl, refl, refl, refl) }
+verb-good Verb.Open =
+    record { size = refl; found = refl; back = λ p f. refl; verb = λ p f w r. refl; same = λ p f w r. (refl, refl, refl) }
+verb-good Verb.Close =
+    record { size = refl; found = refl; back = λ p f. refl; verb = λ p f w r. refl; same = λ p f w r. (refl, refl, refl) }
+verb-good Verb.Drop =
+    record { size = refl; found = refl; back = λ p f. refl; verb = λ p f w r. refl; same = λ p f w r. (refl, refl, refl) }
+verb-good Verb.Leave =
+    record { size = refl; found = refl; back = λ p. refl; verb = λ p f w r. refl; same = λ p f w r. (refl, refl) }
+verb-good Verb.Cancel =
+    record { size = refl; found = refl; back = λ p. refl; verb = λ p f w r. refl; same = λ p f w r. (refl, refl) }
+
+pub verb-length : (v : Verb) → length (verbColumns v) ≡ wordWidth
+verb-length v = verb-good v .size
+
+-- ---- a clause for each call
+
+-- what a line of this shape does not say is 0 or empty
+abbrev pub ProperAs : Shape → Asked → Type 0
+ProperAs Shape.Entry a = a .file ≡ 0
+ProperAs Shape.File a = (a .writable ≡ noFiles) × (a .readable ≡ noFiles)
+ProperAs Shape.Alone a = (a .file ≡ 0) × (a .writable ≡ noFiles) × (a .readable ≡ noFiles)
+
+pub record CallGood (c : Call) : Type 0 where
+  pub back : callOf (askedBy c) ≡ c
+  pub proper : ProperAs (shapeOf (askedBy c .verb)) (askedBy c)
+
+pub call-good : (c : Call) → CallGood c
+call-good (Enter p v q) = record { back = refl; proper = refl }
+call-good (Open p f) = record { back = refl; proper = (refl, refl) }
+call-good (Close p f) = record { back = refl; proper = (refl, refl) }
+call-good (Drop p f) = record { back = refl; proper = (refl, refl) }
+call-good (Leave p) = record { back = refl; proper = (refl, refl, refl) }
+call-good (Cancel p) = record { back = refl; proper = (refl, refl, refl) }
+
+-- ---- the verb of a line
+
+-- a line begins with the columns of its verb
+pub line-begins : (s : Shape) (a : Asked) (label : List ℕ) → take wordWidth (lineAs s a label) ≡ verbColumns (a .verb)
+line-begins Shape.Entry a label = take-at (verbColumns (a .verb)) _ wordWidth (verb-length (a .verb))
+line-begins Shape.File a label = take-at (verbColumns (a .verb)) _ wordWidth (verb-length (a .verb))
+line-begins Shape.Alone a label = take-at (verbColumns (a .verb)) _ wordWidth (verb-length (a .verb))
+
+-- so this verb is found
+pub verb-found : (v : Verb) (l : List ℕ) → take wordWidth l ≡ verbColumns v → verbOf l ≡ some v
+unfolding verbOf begins
+verb-found v l e = first-same (λ u. same (take wordWidth l) (verbColumns u)) (λ u. same (verbColumns v) (verbColumns u)) verbs
+    (λ u m. ap (λ x. same x (verbColumns u)) e) ∙ verb-good v .found
+
+-- ---- fields
+
+pub program-columns : (p : ℕ) → 1 ≤ p → p ≤ 32 → programIn (columnsOf programWidth p) ≡ Field.Number p
+program-columns p h k = let m : p < 1000 = omega arith in number-columns programWidth 1 32 p (omega arith) m h k
+
+-- files, and counts of files, have room in their columns
+file-fits : (f : ℕ) → f ≤ 64 → f < 10 ^ fileWidth
+file-fits f h = let m : 64 < 10 ^ fileWidth = omega arith in omega arith
+
+pub file-columns : (f : ℕ) → 1 ≤ f → f ≤ 64 → fileIn (columnsOf fileWidth f) ≡ Field.Number f
+file-columns f h k = number-columns fileWidth 1 64 f (omega arith) (file-fits f k) h k
+
+pub count-columns : (n : ℕ) → n ≤ 64 → countIn (columnsOf fileWidth n) ≡ Field.Number n
+count-columns n k = number-columns fileWidth 0 64 n (omega arith) (file-fits n k) (omega arith) k
