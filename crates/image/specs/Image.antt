@@ -1,83 +1,38 @@
--- The image of a board: 1,187 bytes.
+-- The image of a board, section by section.
 -- Assumes nothing.
-use Prim.Native.Nat.{ℕ, zero, suc, _+_, _*_, _/_, _%_}
-use mathlib.Core.List.{List, [], _∷_, _++_}
+use Prim.Native.Nat.{ℕ}
+use mathlib.Core.Path.{_≡_, refl}
+use mathlib.Core.List.{List, [], _∷_}
 use mathlib.Core.Bool.{Bool, true, false, cond}
-use lib.ListN.{length, getD, take, drop}
+use lib.ListN.{length, getD}
 use lib.Dec.{leb, eqb}
-use Rattle.columns.specs.Columns.{flat}
 use Rattle.files.specs.declared.FileSet.{FileSet}
 use Rattle.rules.specs.declared.Standing.{Standing}
 use Rattle.rules.specs.declared.Program.{Program}
 use Rattle.rules.specs.declared.Board.{Board}
 use Rattle.rules.specs.Boards.{emptyBoard, awaitedOf}
 use Rattle.image.specs.declared.Loaded.{Loaded}
+use Rattle.image.specs.Sections.{Section, _▸_, seen, many, byte, run, number}
+unfoldable pub use Rattle.image.specs.Sections.{bytesN}
 
--- ---- the parts after the programs: where each begins, and the length of all
+-- ---- a set: "8 bytes each, lowest first, file 1 the lowest bit"
 
-abbrev pub waitingAt : ℕ
-waitingAt = 1088
+abbrev pub toSet : ℕ → FileSet
+toSet x = record { bits = x }
 
-abbrev pub entryAt : ℕ
-entryAt = 1120
+abbrev pub fromSet : FileSet → ℕ
+fromSet s = s .bits
 
-abbrev pub numbersAt : ℕ
-numbersAt = 1152
+abbrev pub setSection : Section FileSet
+setSection = seen toSet fromSet (number 8)
 
-abbrev pub countsAt : ℕ
-countsAt = 1155
+-- ---- a standing: "standing (0 absent, 1 running, 2 waiting, 3 held), awaited file, 0 unless waiting"
 
-abbrev pub imageLength : ℕ
-imageLength = 1187
-
--- ---- writing
-
--- n bytes, lowest first
-unfoldable pub bytesN : ℕ → ℕ → List ℕ
-bytesN zero x = []
-bytesN (suc n) x = x % 256 ∷ bytesN n (x / 256)
-
--- "8 bytes each, lowest first, file 1 the lowest bit"
-abbrev pub bytesOf : ℕ → List ℕ
-bytesOf x = bytesN 8 x
-
--- "standing (0 absent, 1 running, 2 waiting, 3 held)"
 abbrev pub kindOf : Standing → ℕ
 kindOf Standing.Absent = 0
 kindOf Standing.Running = 1
 kindOf (Standing.Waiting f) = 2
 kindOf Standing.Held = 3
-
--- the 34 bytes of a program: V, Q, W, R, its standing, "awaited file, 0 unless waiting"
-unfoldable pub rowBytes : Program → List ℕ
-rowBytes p =
-    bytesOf (p .writable .bits)
-    ++ (bytesOf (p .readable .bits)
-    ++ (bytesOf (p .writing .bits)
-    ++ (bytesOf (p .reading .bits)
-    ++ (kindOf (p .standing) ∷ awaitedOf (p .standing) ∷ []))))
-
-abbrev pub rowsBytes : List Program → List ℕ
-rowsBytes ps = flat rowBytes ps
-
--- "favoured, number at favouring, leaves"
-abbrev pub numbersOf : Board → List ℕ
-numbersOf b = b .favoured ∷ b .initial ∷ b .leaves ∷ []
-
--- the programs, "then waiting line (32), entry line (32)", the three numbers, and "32 count bytes at its end"
-unfoldable pub imageOf : Board → List ℕ
-imageOf b = rowsBytes (b .programs) ++ (b .waiting ++ (b .entry ++ (numbersOf b ++ b .passed)))
-
--- ---- reading
-
--- the number of bytes, lowest first
-unfoldable pub valueOf : List ℕ → ℕ
-valueOf [] = 0
-valueOf (b ∷ l) = b + 256 * valueOf l
-
--- the set of eight bytes
-abbrev pub setOf : List ℕ → FileSet
-setOf l = record { bits = valueOf l }
 
 -- the standing of two bytes
 unfoldable pub standingOf : ℕ → ℕ → Standing
@@ -89,56 +44,84 @@ standingOf k f =
 unfoldable pub kindFits : ℕ → ℕ → Bool
 kindFits k f = cond (leb k 3) (cond (eqb k 2) true (eqb f 0)) false
 
--- the last two of 34 bytes are those of a standing
-unfoldable pub rowIs : List ℕ → Bool
-rowIs l = kindFits (getD l 32 0) (getD l 33 0)
-
--- the program of 34 bytes
-unfoldable pub rowOf : List ℕ → Program
-rowOf l =
+abbrev pub standingSection : Section Standing
+standingSection =
     record {
-      writable = setOf (take 8 l);
-      readable = setOf (take 8 (drop 8 l));
-      writing = setOf (take 8 (drop 16 l));
-      reading = setOf (take 8 (drop 24 l));
-      standing = standingOf (getD l 32 0) (getD l 33 0);
+      size = 2;
+      holds = λ s. Unit {0};
+      write = λ s. kindOf s ∷ awaitedOf s ∷ [];
+      read = λ l. standingOf (getD l 0 0) (getD l 1 0);
+      fits = λ l. kindFits (getD l 0 0) (getD l 1 0);
     }
 
--- the first n rows are of their layout
-unfoldable pub rowsFit : ℕ → List ℕ → Bool
-rowsFit zero l = true
-rowsFit (suc n) l = cond (rowIs (take 34 l)) (rowsFit n (drop 34 l)) false
+-- ---- a program: V, Q, W, R, its standing
 
--- the programs of the first n rows
-unfoldable pub rowsOf : ℕ → List ℕ → List Program
-rowsOf zero l = []
-rowsOf (suc n) l = rowOf (take 34 l) ∷ rowsOf n (drop 34 l)
+abbrev pub ProgramParts : Type 0
+ProgramParts = (((FileSet × FileSet) × FileSet) × FileSet) × Standing
 
--- the board of 1,187 bytes
+abbrev pub toProgram : ProgramParts → Program
+toProgram ((((v, q), w), r), s) = record { writable = v; readable = q; writing = w; reading = r; standing = s }
+
+abbrev pub fromProgram : Program → ProgramParts
+fromProgram p = ((((p .writable, p .readable), p .writing), p .reading), p .standing)
+
+abbrev pub programSection : Section Program
+programSection = seen toProgram fromProgram (setSection ▸ setSection ▸ setSection ▸ setSection ▸ standingSection)
+
+-- ---- the image: the programs, "then waiting line (32), entry line (32), favoured, number at favouring, leaves", and "32 count bytes at its end"
+
+abbrev pub programsSection : Section (List Program)
+programsSection = many 32 programSection
+
+abbrev pub lineSection : Section (List ℕ)
+lineSection = run 32
+
+abbrev pub numbersSection : Section ((ℕ × ℕ) × ℕ)
+numbersSection = byte ▸ byte ▸ byte
+
+abbrev pub countsSection : Section (List ℕ)
+countsSection = run 32
+
+abbrev pub BoardParts : Type 0
+BoardParts = (((List Program × List ℕ) × List ℕ) × ((ℕ × ℕ) × ℕ)) × List ℕ
+
+abbrev pub toBoard : BoardParts → Board
+toBoard ((((ps, w), e), ((f, n), v)), c) =
+    record { programs = ps; waiting = w; entry = e; favoured = f; initial = n; leaves = v; passed = c }
+
+abbrev pub fromBoard : Board → BoardParts
+fromBoard b = ((((b .programs, b .waiting), b .entry), ((b .favoured, b .initial), b .leaves)), b .passed)
+
+abbrev pub imageSection : Section Board
+imageSection = seen toBoard fromBoard (programsSection ▸ lineSection ▸ lineSection ▸ numbersSection ▸ countsSection)
+
+abbrev pub imageLength : ℕ
+imageLength = imageSection .size
+
+-- "1,187 in all"
+pub length-02 : imageLength ≡ 1187
+length-02 = refl
+
+-- the image of a board
+unfoldable pub imageOf : Board → List ℕ
+imageOf = imageSection .write
+
+-- the board of an image
 unfoldable pub boardOf : List ℕ → Board
-boardOf l =
-    record {
-      programs = rowsOf 32 l;
-      waiting = take 32 (drop waitingAt l);
-      entry = take 32 (drop entryAt l);
-      favoured = getD l numbersAt 0;
-      initial = getD l (numbersAt + 1) 0;
-      leaves = getD l (numbersAt + 2) 0;
-      passed = take 32 (drop countsAt l);
-    }
+boardOf = imageSection .read
 
--- an image that hasn't 1,187 bytes or isn't of its layout; whether the board is sound is asked by the caller
+-- an image that hasn't its length or isn't of its layout; whether the board is sound is asked by the caller
 abbrev pub refusedImage : Loaded
 refusedImage = record { ok = false; board = emptyBoard }
 
 -- what reading an image finds: the board, or a refusal with the empty board
 unfoldable pub loadedOf : List ℕ → Loaded
 loadedOf l =
-    cond (eqb (length l) imageLength) (cond (rowsFit 32 l) (record { ok = true; board = boardOf l }) refusedImage) refusedImage
+    cond (eqb (length l) imageLength) (cond (imageSection .fits l) (record { ok = true; board = boardOf l }) refusedImage) refusedImage
 
 -- ---- writing into a buffer
 
--- the buffer has 1,187 bytes
+-- the buffer has the length of an image
 abbrev pub imageFits : List ℕ → Bool
 imageFits buffer = eqb (length buffer) imageLength
 

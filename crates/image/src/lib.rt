@@ -1,4 +1,4 @@
-// The image of a board: 1,187 bytes, written and read.
+// The image of a board, section by section, written and read.
 use files::FileSet;
 use rules::Board;
 use rules::Program;
@@ -8,20 +8,36 @@ ghost use mathlib.Core.List.{_++_};
 ghost use mathlib.Core.Bool.{true};
 ghost use Prim.Native.Nat.{_+_, _*_, _≤_, _<_};
 ghost use lib.ListN.{length, drop};
-ghost use Rattle.image.specs.Image.{bytesOf, valueOf, kindOf, rowBytes, rowsBytes, imageOf, standingOf, rowIs, rowOf, rowsFit, rowsOf};
-ghost use Rattle.image.specs.Image.{imageLength, loadedOf, kindFits, imageFits, imageIn};
-ghost use Rattle.columns.specs.Columns.{putAt};
+ghost use Rattle.image.specs.Image.{kindOf, standingOf, kindFits, setSection, programSection, programsSection};
+ghost use Rattle.image.specs.Image.{imageSection, imageLength, imageOf, loadedOf, imageFits, imageIn};
+ghost use Rattle.columns.specs.Rows.{putAt};
 
-// Where the parts after the programs begin, and how many bytes an image has.
-const WAITING_AT: usize = 1088;
+// How many bytes a set has.
+const SET_LEN: usize = 8;
 
-const ENTRY_AT: usize = 1120;
+// Where the sets after the first begin in a program's row, where its standing does, and how many bytes a row has.
+const READABLE_AT: usize = SET_LEN;
 
-const NUMBERS_AT: usize = 1152;
+const WRITING_AT: usize = READABLE_AT + SET_LEN;
 
-const COUNTS_AT: usize = 1155;
+const READING_AT: usize = WRITING_AT + SET_LEN;
 
-pub const IMAGE_LEN: usize = 1187;
+const STANDING_AT: usize = READING_AT + SET_LEN;
+
+const AWAITED_AT: usize = STANDING_AT + 1;
+
+const ROW_LEN: usize = AWAITED_AT + 1;
+
+// Where the sections after the programs begin, and how many bytes an image has.
+const WAITING_AT: usize = ROW_LEN * 32;
+
+const ENTRY_AT: usize = WAITING_AT + 32;
+
+const NUMBERS_AT: usize = ENTRY_AT + 32;
+
+const COUNTS_AT: usize = NUMBERS_AT + 3;
+
+pub const IMAGE_LEN: usize = COUNTS_AT + 32;
 
 // What reading an image finds: whether it is of the layout, and the board, empty if not.
 pub struct Loaded {
@@ -29,10 +45,11 @@ pub struct Loaded {
     pub board: Board,
 }
 
-// Eight bytes, lowest first.
-fn u64_bytes(x: u64) -> [u8; 8]
-    ensures { λ r. ⌜ r ≡ bytesOf x ⌝ }
+// A set's bytes, lowest first.
+fn set_bytes(s: FileSet) -> [u8; SET_LEN]
+    ensures { λ r. ⌜ r ≡ setSection .write s ⌝ }
 {
+    let x = s.bits;
     let a = x / 256;
     let b = a / 256;
     let c = b / 256;
@@ -64,55 +81,6 @@ fn kind(s: Standing) -> u8
     }
 }
 
-// A program's 34 bytes.
-fn row_bytes(p: Program) -> [u8; 34]
-    ensures { λ r. ⌜ r ≡ rowBytes p ⌝ }
-{
-    let s = p.standing;
-    let v = u64_bytes(p.writable.bits);
-    let q = u64_bytes(p.readable.bits);
-    let w = u64_bytes(p.writing.bits);
-    let r = u64_bytes(p.reading.bits);
-    let k = kind(s);
-    let f = s.awaited();
-    [
-        v[0],
-        v[1],
-        v[2],
-        v[3],
-        v[4],
-        v[5],
-        v[6],
-        v[7],
-        q[0],
-        q[1],
-        q[2],
-        q[3],
-        q[4],
-        q[5],
-        q[6],
-        q[7],
-        w[0],
-        w[1],
-        w[2],
-        w[3],
-        w[4],
-        w[5],
-        w[6],
-        w[7],
-        r[0],
-        r[1],
-        r[2],
-        r[3],
-        r[4],
-        r[5],
-        r[6],
-        r[7],
-        k,
-        f,
-    ]
-}
-
 // Writes all of src into out from a place on; the rest keeps its contents.
 pub fn put_at(out: &mut [u8], at: usize, src: &[u8])
     requires { ⌜ at + length (now src) ≤ length (now out) ⌝ }
@@ -121,20 +89,50 @@ pub fn put_at(out: &mut [u8], at: usize, src: &[u8])
     bytes::copy(src, &mut out[at..]);
 }
 
+// Writes a set from a place on.
+fn put_set(out: &mut [u8], at: usize, s: FileSet)
+    requires { ⌜ at + setSection .size ≤ length (now out) ⌝ }
+    ensures { λ r. ⌜ now (out .exit) ≡ putAt at (setSection .write s) (now (out .entry)) ⌝ }
+{
+    let bytes = set_bytes(s);
+    put_at(out, at, &bytes);
+}
+
+// Writes a program's row at the front of a part; the rest keeps its contents.
+fn put_row(out: &mut [u8], p: Program)
+    requires { ⌜ programSection .size ≤ length (now out) ⌝ }
+    ensures { λ r. ⌜ now (out .exit) ≡ programSection .write p ++ drop (programSection .size) (now (out .entry)) ⌝ }
+{
+    let s = p.standing;
+    let standing = [kind(s), s.awaited()];
+    put_set(out, 0, p.writable);
+    put_set(out, READABLE_AT, p.readable);
+    put_set(out, WRITING_AT, p.writing);
+    put_set(out, READING_AT, p.reading);
+    put_at(out, STANDING_AT, &standing);
+}
+
 // Writes the programs' rows at the front of a part; the rest keeps its contents.
 fn put_rows(out: &mut [u8], programs: [Program; 32])
-    requires { ⌜ 1088 ≤ length (now out) ⌝ }
-    ensures { λ r. ⌜ now (out .exit) ≡ rowsBytes programs ++ drop 1088 (now (out .entry)) ⌝ }
+    requires { ⌜ programsSection .size ≤ length (now out) ⌝ }
+    ensures { λ r. ⌜ now (out .exit) ≡ programsSection .write programs ++ drop (programsSection .size) (now (out .entry)) ⌝ }
 {
     let mut i: usize = 0;
     while i < 32 {
-        let row = row_bytes(programs[i]);
-        put_at(out, 34 * i, &row);
+        put_row(&mut out[ROW_LEN * i..], programs[i]);
         i += 1;
     }
 }
 
-// Writes the image of a board into 1,187 bytes.
+// Writes 32 bytes from a place on: a line, or the counts.
+fn put_places(out: &mut [u8], at: usize, places: [u8; 32])
+    requires { ⌜ at + 32 ≤ length (now out) ⌝ }
+    ensures { λ r. ⌜ now (out .exit) ≡ putAt at places (now (out .entry)) ⌝ }
+{
+    put_at(out, at, &places);
+}
+
+// Writes the image of a board into a buffer of its length, section by section.
 fn fill_image(out: &mut [u8], b: Board)
     requires { ⌜ length (now out) ≡ imageLength ⌝ }
     ensures { λ r. ⌜ now (out .exit) ≡ imageOf b ⌝ }
@@ -145,13 +143,13 @@ fn fill_image(out: &mut [u8], b: Board)
     let numbers = [b.favoured, b.initial, b.leaves];
     let passed = b.passed;
     put_rows(out, programs);
-    put_at(out, WAITING_AT, &waiting);
-    put_at(out, ENTRY_AT, &entry);
+    put_places(out, WAITING_AT, waiting);
+    put_places(out, ENTRY_AT, entry);
     put_at(out, NUMBERS_AT, &numbers);
-    put_at(out, COUNTS_AT, &passed);
+    put_places(out, COUNTS_AT, passed);
 }
 
-// Writes the image of a board, sound or not, and says whether it could: a buffer that hasn't 1,187 bytes stays as it was.
+// Writes the image of a board, sound or not, and says whether it could: a buffer of another length stays as it was.
 pub fn put_image(out: &mut [u8], b: Board) -> bool
     ensures { λ r. ⌜ r ≡ imageFits (now (out .entry)) ⌝ }
     ensures { λ r. ⌜ now (out .exit) ≡ imageIn (now (out .entry)) b ⌝ }
@@ -170,16 +168,18 @@ fn pair(a: u8, b: u8) -> u64
     a as u64 + 256 * (b as u64)
 }
 
-// The number of eight bytes, lowest first.
-fn read_u64(s: &[u8]) -> u64
-    requires { ⌜ length (now s) ≡ 8 ⌝ }
-    ensures { λ r. ⌜ r ≡ valueOf (now (s .entry)) ⌝ }
+// The set of its bytes.
+fn read_set(s: &[u8]) -> FileSet
+    requires { ⌜ length (now s) ≡ setSection .size ⌝ }
+    ensures { λ r. ⌜ r ≡ setSection .read (now (s .entry)) ⌝ }
 {
     let a = pair(s[0], s[1]);
     let b = pair(s[2], s[3]);
     let c = pair(s[4], s[5]);
     let d = pair(s[6], s[7]);
-    a + 65536 * b + 4294967296 * (c + 65536 * d)
+    FileSet {
+        bits: a + 65536 * b + 4294967296 * (c + 65536 * d),
+    }
 }
 
 // The standing of two bytes.
@@ -213,40 +213,40 @@ fn kind_fits(k: u8, f: u8) -> bool
 
 // Whether a row is of its layout.
 fn row_fits(s: &[u8]) -> bool
-    requires { ⌜ length (now s) ≡ 34 ⌝ }
-    ensures { λ r. ⌜ r ≡ rowIs (now (s .entry)) ⌝ }
+    requires { ⌜ length (now s) ≡ programSection .size ⌝ }
+    ensures { λ r. ⌜ r ≡ programSection .fits (now (s .entry)) ⌝ }
 {
-    kind_fits(s[32], s[33])
+    kind_fits(s[STANDING_AT], s[AWAITED_AT])
 }
 
 // The program of a row.
 fn read_row(s: &[u8]) -> Program
-    requires { ⌜ length (now s) ≡ 34 ⌝ }
-    ensures { λ r. ⌜ r ≡ rowOf (now (s .entry)) ⌝ }
+    requires { ⌜ length (now s) ≡ programSection .size ⌝ }
+    ensures { λ r. ⌜ r ≡ programSection .read (now (s .entry)) ⌝ }
 {
-    let v = read_u64(&s[0..8]);
-    let q = read_u64(&s[8..16]);
-    let w = read_u64(&s[16..24]);
-    let r = read_u64(&s[24..32]);
-    let standing = standing_of(s[32], s[33]);
+    let writable = read_set(&s[0..READABLE_AT]);
+    let readable = read_set(&s[READABLE_AT..WRITING_AT]);
+    let writing = read_set(&s[WRITING_AT..READING_AT]);
+    let reading = read_set(&s[READING_AT..STANDING_AT]);
+    let standing = standing_of(s[STANDING_AT], s[AWAITED_AT]);
     Program {
-        writable: FileSet { bits: v },
-        readable: FileSet { bits: q },
-        writing: FileSet { bits: w },
-        reading: FileSet { bits: r },
+        writable,
+        readable,
+        writing,
+        reading,
         standing,
     }
 }
 
 // Whether every row is of its layout.
 fn rows_fit(s: &[u8]) -> bool
-    requires { ⌜ 1088 ≤ length (now s) ⌝ }
-    ensures { λ r. ⌜ r ≡ rowsFit 32 (now (s .entry)) ⌝ }
+    requires { ⌜ programsSection .size ≤ length (now s) ⌝ }
+    ensures { λ r. ⌜ r ≡ programsSection .fits (now (s .entry)) ⌝ }
 {
     let mut i: usize = 0;
     while i < 32 {
-        let a = 34 * i;
-        if !row_fits(&s[a..a + 34]) {
+        let a = ROW_LEN * i;
+        if !row_fits(&s[a..a + ROW_LEN]) {
             return false;
         }
         i += 1;
@@ -256,28 +256,36 @@ fn rows_fit(s: &[u8]) -> bool
 
 // The programs of the rows.
 fn read_rows(s: &[u8]) -> [Program; 32]
-    requires { ⌜ 1088 ≤ length (now s) ⌝ }
-    ensures { λ r. ⌜ r ≡ rowsOf 32 (now (s .entry)) ⌝ }
+    requires { ⌜ programsSection .size ≤ length (now s) ⌝ }
+    ensures { λ r. ⌜ r ≡ programsSection .read (now (s .entry)) ⌝ }
 {
     let p = Program::ABSENT;
     let mut ps = [p; 32];
     let mut i: usize = 0;
     while i < 32 {
-        let a = 34 * i;
-        ps[i] = read_row(&s[a..a + 34]);
+        let a = ROW_LEN * i;
+        ps[i] = read_row(&s[a..a + ROW_LEN]);
         i += 1;
     }
     ps
 }
 
-// A run of 32 bytes as an array: a line, or the counts.
-fn read_run(s: &[u8]) -> [u8; 32]
+// 32 bytes as an array: a line, or the counts.
+fn read_places(s: &[u8]) -> [u8; 32]
     requires { ⌜ length (now s) ≡ 32 ⌝ }
     ensures { λ r. ⌜ r ≡ now (s .entry) ⌝ }
 {
     let mut a = [0u8; 32];
     bytes::copy(s, &mut a);
     a
+}
+
+// Whether an image is of its layout.
+fn layout_fits(image: &[u8]) -> bool
+    requires { ⌜ length (now image) ≡ imageLength ⌝ }
+    ensures { λ r. ⌜ r ≡ imageSection .fits (now (image .entry)) ⌝ }
+{
+    rows_fit(image)
 }
 
 // The board of an image, or a refusal with the empty board.
@@ -288,11 +296,11 @@ pub fn load(image: &[u8]) -> Loaded
         let board = Board::EMPTY;
         return Loaded { ok: false, board };
     }
-    if rows_fit(image) {
+    if layout_fits(image) {
         let programs = read_rows(image);
-        let waiting = read_run(&image[WAITING_AT..ENTRY_AT]);
-        let entry = read_run(&image[ENTRY_AT..NUMBERS_AT]);
-        let passed = read_run(&image[COUNTS_AT..IMAGE_LEN]);
+        let waiting = read_places(&image[WAITING_AT..ENTRY_AT]);
+        let entry = read_places(&image[ENTRY_AT..NUMBERS_AT]);
+        let passed = read_places(&image[COUNTS_AT..IMAGE_LEN]);
         let board = Board {
             programs,
             waiting,

@@ -1,15 +1,20 @@
 -- `load` meets its contract. Assumes nothing.
-use mathlib.Core.Path.{refl, sym, _∙_}
+use Prim.Native.Nat.{ℕ}
+use mathlib.Core.Path.{sym, _∙_}
 use native.Mathlib.Omega.{arith}
-use Rattle.image.specs.Image.{boardOf}
-use Rattle.image.proofs.Laws.{board-same, load-good, load-long, load-bad}
+use Rattle.image.specs.Sections.{_▸_}
+use Rattle.image.specs.Image.{programsSection, lineSection, boardOf}
+use Rattle.image.proofs.Laws.{byte-at, load-good, load-long, load-bad}
 use borrow.Author.Needs.{needs}
 use Rattle.image.proofs.load.Statement.{statement}
 use Rattle.image.proofs.load.Tie as tie
 
+-- where the three numbers begin
+abbrev numbersAt : ℕ
+numbersAt = (programsSection ▸ lineSection ▸ lineSection) .size
+
 returns : tie.Need-returns
-returns c =
-    sym (load-long (c .before .before .args .image .now) (c .if1 .taken))
+returns c = sym (load-long (c .before .before .args .image .now) (c .if1 .taken))
 
 returns-2 : tie.Need-returns-2
 unfolding boardOf
@@ -20,12 +25,20 @@ returns-2 c =
     let rows = waiting .before .before in
     let good = rows .before in
     let l = good .before .before .before .before .args .image .now in
-    load-good l _ (omega arith) (sym (good .before .rows-fit .ensures) ∙ good .if2 .taken)
-    (board-same _ (boardOf l) (rows .read-rows .ensures) (waiting .read-run .ensures) (entry .read-run2 .ensures) refl refl refl (counts .read-run3 .ensures))
+    load-good l _ (omega arith) (sym (good .before .layout-fits .ensures) ∙ good .if2 .taken)
+    (rw (
+      rows .read-rows .ensures,
+      waiting .read-places .ensures,
+      entry .read-places2 .ensures,
+      counts .read-places3 .ensures,
+      byte-at l numbersAt 0,
+      byte-at l numbersAt 1,
+      byte-at l numbersAt 2,
+    ))
 
 returns-3 : tie.Need-returns-3
 returns-3 c =
-    sym (load-bad (c .before .before .before .before .args .image .now) (omega arith) (sym (c .before .rows-fit .ensures) ∙ c .if2 .left))
+    sym (load-bad (c .before .before .before .before .args .image .now) (omega arith) (sym (c .before .layout-fits .ensures) ∙ c .if2 .left))
 
 pub load-spec : {M : Type 1} → statement M
 load-spec =

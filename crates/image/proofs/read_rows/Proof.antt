@@ -1,25 +1,25 @@
 -- `read_rows` meets its contract. Assumes nothing.
 use borrow.Author.Needs.{needs}
-use mathlib.Core.List.{append-nil}
-use Rattle.image.proofs.Laws.{rows-step}
-use Rattle.image.specs.Image.{rowsOf}
-use mathlib.Core.Path.{_≡_, refl, ap, sym, _∙_}
-use mathlib.Core.List.{_++_}
-use Prim.Native.Nat.{ℕ, _+_, _-_, _*_, _≤_}
+use mathlib.Core.Path.{_≡_, refl, _∙_}
+use mathlib.Core.List.{_++_, append-nil}
+use Prim.Native.Nat.{_-_, _≤_}
 use native.Mathlib.Omega.{arith}
 use native.Mathlib.Nat.{add-sub-cancel-left}
-use lib.ListN.{take, drop, length-take, length-drop}
+use lib.ListN.{drop, length-take, length-drop}
+use Rattle.image.specs.Sections.{readMany}
+use Rattle.image.specs.Image.{programSection}
+use Rattle.image.proofs.Sections.{read-step, row-part}
 use Rattle.image.proofs.read_rows.Statement.{statement}
 use Rattle.image.proofs.read_rows.Tie as tie
 
 abbrev Inv-loop : tie.InvT-loop
-Inv-loop s ps₀ i₀ ps i = (i ≤ 32) × (ps ≡ rowsOf i s ++ drop i ps₀)
+Inv-loop s ps₀ i₀ ps i = (i ≤ 32) × (ps ≡ readMany programSection i s ++ drop i ps₀)
 
 abbrev μ-loop : tie.MeasureT-loop
 μ-loop s ps₀ i₀ ps i = 32 - i
 
 loop-holds : tie.Need-loop-holds Inv-loop μ-loop
-unfolding rowsOf
+unfolding readMany
 loop-holds c = (omega arith, refl)
 
 read-row-requires : tie.Need-read-row-requires Inv-loop μ-loop
@@ -29,9 +29,7 @@ loop-again : tie.Need-loop-again Inv-loop μ-loop
 loop-again c =
     let s = c .before .before .before .before .before .args .s .now in
     let l = c .before .before .before .loop in
-    let e : take 34 (drop (34 * l .i) s) ≡ take (34 * l .i + 34 - 34 * l .i) (drop (34 * l .i) s) =
-    ap (λ (k : ℕ). take k (drop (34 * l .i) s)) (sym (add-sub-cancel-left (34 * l .i) 34)) in
-    (omega arith, rw (c .read-row .ensures, ← e) (rows-step s (l .ps) _ (l .i) (omega arith) (l .inv .1)))
+    (omega arith, rw (c .read-row .ensures, row-part programSection s (l .i)) (read-step programSection s (l .ps) _ (l .i) (omega arith) (l .inv .1)))
 
 returns : tie.Need-returns Inv-loop μ-loop
 returns c =

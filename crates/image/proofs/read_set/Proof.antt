@@ -1,9 +1,12 @@
--- `read_u64` meets its contract. Assumes nothing.
-use borrow.Author.Needs.{needs}
+-- `read_set` meets its contract. Assumes nothing.
+use mathlib.Core.Path.{ap}
+use Prim.Native.Nat.{ℕ}
 use denote.Ref.{now}
+use borrow.Author.Needs.{needs}
+use Rattle.files.specs.declared.FileSet.{FileSet}
 use Rattle.image.proofs.Laws.{word-eight}
-use Rattle.image.proofs.read_u64.Statement.{statement}
-use Rattle.image.proofs.read_u64.Tie as tie
+use Rattle.image.proofs.read_set.Statement.{statement}
+use Rattle.image.proofs.read_set.Tie as tie
 
 returns : tie.Need-returns
 returns c =
@@ -11,10 +14,11 @@ returns c =
     let p₂ = p₃ .before .before .before in
     let p₁ = p₂ .before .before .before in
     let s = p₁ .before .before .before .before in
-    word-eight (now (s .args .s)) _ _ _ _ (s .pre) (p₁ .pair .ensures .0) (p₂ .pair2 .ensures .0) (p₃ .pair3 .ensures .0) (c .pair4 .ensures .0)
+    ap {B = FileSet} (λ (x : ℕ). record { bits = x })
+    (word-eight (now (s .args .s)) _ _ _ _ (s .pre) (p₁ .pair .ensures .0) (p₂ .pair2 .ensures .0) (p₃ .pair3 .ensures .0) (c .pair4 .ensures .0))
 
-pub read-u64-spec : {M : Type 1} → statement M
-read-u64-spec =
+pub read-set-spec : {M : Type 1} → statement M
+read-set-spec =
     tie.close
     (tie.spec
     (λ c. search needs)
