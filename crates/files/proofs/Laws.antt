@@ -72,9 +72,6 @@ pub ⊑-within : (s t : FileSet) → s ⊑ t → within s t ≡ true
 pub none-⊑ : (s : FileSet) → noFiles ⊑ s
 none-⊑ s i z = never z (zero-has i)
 
-pub member-⊑ : (s t : FileSet) (f : ℕ) → s ⊑ t → member s f ≡ true → member t f ≡ true
-member-⊑ s t f d e = and-both (isFile f) (has t (f - 1)) (member-file s f e) (d (f - 1) (has-bit 64 (s .bits) f e))
-
 -- ---- meeting
 
 pub meets-mono : (s t s′ t′ : FileSet) → s ⊑ s′ → t ⊑ t′ → meets s t ≡ true → meets s′ t′ ≡ true

@@ -12,7 +12,7 @@ use mathlib.Core.List.{List·Memᴰ·eq-of-singleton, Memᴰ·cast}
 use lib.Dec.{eqb}
 use lib.ListN.{length, replicate}
 use borrow.Author.Tests.{eqb-true, eqb-false, eq-eqb, ne-eqb}
-use Rattle.laws.specs.Tests.{by-test, never, or-cases, or-left, or-right, and-left, and-right, and-both, no-true, not-true, true-not, same-test}
+use Rattle.laws.specs.Tests.{by-test, never, or-cases, or-left, or-right, and-left, and-right, and-both, no-true, not-true, true-not}
 use Rattle.laws.specs.Lists.{any, all, keep, first, found, rising, listed, distinct, without, same, names, padded}
 
 infix 4 _∈_
@@ -101,9 +101,6 @@ module _ {A : Type 0} where
   first-none t [] e p m = absurd (List·Memᴰ·not-nil m)
   first-none t (q ∷ l) e p m = by-test (t q) (λ u. no-some (sym (rw u at e)))
       (λ u. by-mem m (λ d. ap t d ∙ u) (first-none t l (rw u at e) p))
-
-pub eqb-turn : (a b : ℕ) → eqb a b ≡ eqb b a
-eqb-turn a b = same-test (eqb a b) (eqb b a) (λ e. eq-eqb b a (sym (eqb-true a b e))) (λ e. eq-eqb a b (sym (eqb-true b a e)))
 
 pub found-some : {A : Type 0} (k : Option A) → found k ≡ true → (a : A) × (k ≡ some a)
 found-some none e = never {t = false} e refl

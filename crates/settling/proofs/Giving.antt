@@ -19,7 +19,7 @@ use Rattle.rules.specs.declared.Line.{Line}
 use Rattle.laws.specs.Lists.{all, names, without}
 use Rattle.rules.specs.Boards.{noProgram, at, awaited, awaitedOf, isProgram, isAdmitted, setProgram, setWaiting, setFavour, setStanding, uncount, opening}
 use Rattle.rules.specs.Orders.{withGiven, canGive}
-use Rattle.rules.specs.Settling.{line, unfavour, resume, tryGive, pass}
+use Rattle.rules.specs.Settling.{line, unfavour, resume, tryGive}
 use Rattle.laws.specs.Laws.{_∈_, Pairs, here, each-all}
 use Rattle.theory.specs.Programs.{Is, of-is, Sized, standing-same}
 use Rattle.theory.specs.Loose.{Loose, waiting-in}
@@ -123,9 +123,6 @@ module _ (w s : Written) (l asked sets : List ℕ) (u : Uses) (k j : ℕ) (a : A
     within = next-at .0 .within;
     gives = next-at .0 .gives;
   }
-
-  pub next-on : k ≤ j
-  next-on = next-at .0 .onward
 
 module _ (w s : Written) (l asked sets : List ℕ) (u : Uses) (j : ℕ) (a : Found w l asked j s sets u) (m : length l ≡ 32) (h : j < 32) where
   pass-at : PassAt w l j s

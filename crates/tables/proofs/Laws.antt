@@ -10,7 +10,7 @@ use native.Mathlib.Omega.{arith}
 use lib.Bits.{or-lt}
 use lib.Pow.{pow-lt}
 use lib.Dec.{eqb}
-use lib.ListN.{length, getD, set}
+use lib.ListN.{length, getD}
 use borrow.Author.Tests.{eqb-true, eqb-false}
 use Rattle.laws.specs.Tests.{by-test, never, no-true}
 use Rattle.files.specs.Bits.{hasBit, isNumber}
@@ -183,11 +183,3 @@ module _ (t : ℕ → Bool) (p : ℕ) where
   pub keep-more : p ≤ 32 → t p ≡ true → length (keep t (rising (33 - p) p)) ≡ suc (length (keep t (rising (33 - suc p) (suc p))))
   unfolding keep
   keep-more h e = rw (rising-step p h, e)
-
-  pub keep-less : p ≤ 32 → t p ≡ false → length (keep t (rising (33 - p) p)) ≡ length (keep t (rising (33 - suc p) (suc p)))
-  unfolding keep
-  keep-less h e = rw (rising-step p h, e)
-
-  pub keep-end : 32 < p → length (keep t (rising (33 - p) p)) ≡ 0
-  unfolding keep
-  keep-end h = rw (rising-end p h)

@@ -211,10 +211,6 @@ loose-shrink P w e fav n l p x c r s d o k = record {
 
 -- ── Close ──
 
-closing-standing : (x : Program) (f : ℕ) → closing x f .standing ≡ x .standing
-unfolding closing
-closing-standing x f = refl
-
 pub loose-close : (P : Progs) (w e : List ℕ) (fav n l p f : ℕ) → Is p → stands P p ≡ Standing.Running
     → LooseIn P w e fav n l → LooseIn (put P p (closing (prog P p) f)) w e fav n l
 unfolding closing
@@ -359,9 +355,6 @@ module _ (P : Progs) (p f : ℕ) (z : Sized P) (c : Is p) where
   given-size : Sized (give P p f)
   unfolding give
   given-size = sized-put P p (opening (prog P p) f) z
-
-  pub served-size : Sized (served P p f)
-  served-size = sized-put (give P p f) p (setStanding (prog (give P p f) p) Standing.Running) given-size
 
   pub served-runs : stands (served P p f) p ≡ Standing.Running
   served-runs = ap (λ (q : Program). q .standing) (put-same (give P p f) p

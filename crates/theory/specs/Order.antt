@@ -205,11 +205,6 @@ order-below h h′ l o f c = record {
       (λ t. never (f b a (c .only b k) (c .only a m) (λ d. n (sym d)) t) u) (λ t. t)) (c .once) (c .clear);
 }
 
--- The same order for another list with the same members.
-pub order-members : (h : ℕ → ℕ → Bool) (l l′ o : List ℕ) → ((a : ℕ) → a ∈ l′ → a ∈ l) → ((a : ℕ) → a ∈ l → a ∈ l′)
-    → IsOrder h l o → IsOrder h l′ o
-order-members h l l′ o f g c = record { all = λ a m. c .all a (f a m); only = λ a m. g a (c .only a m); once = c .once; clear = c .clear }
-
 -- One more program p, which holds back nobody, at the end.
 pub order-last : (h : ℕ → ℕ → Bool) (l l′ o : List ℕ) (p : ℕ)
     → ((a : ℕ) → a ∈ l′ → (a ≡ p) ⊎ (a ∈ l)) → ((a : ℕ) → a ∈ l → a ∈ l′) → p ∈ l′ → (p ∈ l → ⊥)

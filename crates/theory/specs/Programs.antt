@@ -388,10 +388,6 @@ opening-own x f m a o = record {
   gone = λ d n. sym (opening-claims x f n) ∙ o .gone d n;
 }
 
-pub give-put : (P : Progs) (p f : ℕ) → give P p f ≡ put P p (opening (prog P p) f)
-unfolding give
-give-put P p f = refl
-
 pub ins-give : (P : Progs) (p f : ℕ) → Sized P → Is p → ins (give P p f) ≡ ins P
 unfolding give
 ins-give P p f z c = ins-same P p (opening (prog P p) f) z c (ap isAdmitted (opening-standing (prog P p) f))
