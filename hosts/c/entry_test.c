@@ -5,9 +5,9 @@
  *     entry_test                      what is refused, and what is then kept
  *
  * NAME.host has for each request line the answer, the Adler-32 of the image after
- * the call and the Adler-32 of the journal after it. Each call is handed 512 bytes
- * of journal that hold 170, and place 0. After each the order is compared with one
- * that is worked out here, by the specification's words.
+ * the call and the Adler-32 of the journal after it. Each call is handed just the
+ * journal that it asks for, whose bytes hold 170, and place 0. After each the order
+ * is compared with one that is worked out here, by the specification's words.
  */
 #include "lock_board.h"
 
@@ -61,18 +61,24 @@ static void all_hold(const uint8_t *bytes, size_t len, int fill, const char *wha
             fail(what, (unsigned long)i);
 }
 
-/* A set of an image's program: V, Q, W and R stand in this sequence, 8 bytes each, lowest first. */
-static uint64_t set_of(const uint8_t *image, int program, int which) {
+/* A byte of an image's program. */
+static uint8_t byte_of(const uint8_t *image, int program, int at) {
+    return image[LOCK_BOARD_PROGRAM_LEN * (program - 1) + at];
+}
+
+/* A set of an image's program: a bit for each file, the lowest byte first. */
+static uint64_t set_of(const uint8_t *image, int program, int at) {
     uint64_t set = 0;
-    for (int i = 7; i >= 0; i--)
-        set = set << 8 | image[34 * (program - 1) + 8 * which + i];
+    for (int i = LOCK_BOARD_FILES / 8 - 1; i >= 0; i--)
+        set = set << 8 | byte_of(image, program, at + i);
     return set;
 }
 
 static int holds_back(const uint8_t *image, int i, int j) {
-    enum { V, Q, W, R };
-    const uint64_t v = set_of(image, j, V), q = set_of(image, j, Q);
-    return (set_of(image, i, W) & (v | q)) != 0 || (set_of(image, i, R) & v) != 0;
+    const uint64_t v = set_of(image, j, LOCK_BOARD_WRITE_CLAIM);
+    const uint64_t q = set_of(image, j, LOCK_BOARD_READ_CLAIM);
+    return (set_of(image, i, LOCK_BOARD_WRITE_OPEN) & (v | q)) != 0 ||
+           (set_of(image, i, LOCK_BOARD_READ_OPEN) & v) != 0;
 }
 
 /* Whether no other remaining program holds back p. */
@@ -88,8 +94,8 @@ static size_t worked_order(const uint8_t *image, uint8_t *order) {
     int remains[LOCK_BOARD_PROGRAMS + 1] = {0};
     size_t admitted = 0, count = 0;
     for (int p = 1; p <= LOCK_BOARD_PROGRAMS; p++) {
-        const int standing = image[34 * (p - 1) + 32];
-        remains[p] = standing == 1 || standing == 2; /* running or waiting */
+        const int standing = byte_of(image, p, LOCK_BOARD_STANDING);
+        remains[p] = standing == LOCK_BOARD_RUNNING || standing == LOCK_BOARD_WAITING;
         admitted += (size_t)remains[p];
     }
     while (count < admitted) {
@@ -188,19 +194,21 @@ static void refused(size_t image_len, int at, int byte, size_t journal_len, uint
 static int edges(void) {
     uint8_t image[LOCK_BOARD_IMAGE_LEN + 1];
     const uint64_t highest = LOCK_BOARD_HIGHEST_PLACE;
-    refused(LOCK_BOARD_IMAGE_LEN, 32, 4, 512, 0, LOCK_BOARD_UNSOUND);
-    refused(LOCK_BOARD_IMAGE_LEN, 32, 3, 512, 0, LOCK_BOARD_UNSOUND);
-    refused(LOCK_BOARD_IMAGE_LEN, 1155, 1, 512, 0, LOCK_BOARD_UNSOUND); /* counts of absent ones */
-    refused(LOCK_BOARD_IMAGE_LEN, 1186, 1, 512, 0, LOCK_BOARD_UNSOUND);
-    refused(1155, 0, 0, 512, 0, LOCK_BOARD_UNSOUND); /* an image without counts */
-    refused(LOCK_BOARD_IMAGE_LEN - 1, 0, 0, 512, 0, LOCK_BOARD_UNSOUND);
-    refused(LOCK_BOARD_IMAGE_LEN + 1, 0, 0, 512, 0, LOCK_BOARD_UNSOUND);
+    const size_t len = LOCK_BOARD_IMAGE_LEN, room = LOCK_BOARD_JOURNAL_ROOM;
+    const int first = LOCK_BOARD_PASSED, last = first + LOCK_BOARD_PROGRAMS - 1;
+    refused(len, LOCK_BOARD_STANDING, LOCK_BOARD_HELD + 1, room, 0, LOCK_BOARD_UNSOUND);
+    refused(len, LOCK_BOARD_STANDING, LOCK_BOARD_HELD, room, 0, LOCK_BOARD_UNSOUND);
+    refused(len, first, 1, room, 0, LOCK_BOARD_UNSOUND); /* counts of absent ones */
+    refused(len, last, 1, room, 0, LOCK_BOARD_UNSOUND);
+    refused(LOCK_BOARD_PASSED, 0, 0, room, 0, LOCK_BOARD_UNSOUND); /* an image without counts */
+    refused(len - 1, 0, 0, room, 0, LOCK_BOARD_UNSOUND);
+    refused(len + 1, 0, 0, room, 0, LOCK_BOARD_UNSOUND);
     refused(0, 0, 0, 0, UINT64_MAX, LOCK_BOARD_UNSOUND);
-    refused(LOCK_BOARD_IMAGE_LEN, 0, 0, 0, 0, LOCK_BOARD_JOURNAL_FULL);
-    refused(LOCK_BOARD_IMAGE_LEN, 0, 0, 511, 0, LOCK_BOARD_JOURNAL_FULL);
-    refused(LOCK_BOARD_IMAGE_LEN, 0, 0, 1024, 513, LOCK_BOARD_JOURNAL_FULL);
-    refused(LOCK_BOARD_IMAGE_LEN, 0, 0, 1024, highest + 1, LOCK_BOARD_JOURNAL_FULL);
-    refused(LOCK_BOARD_IMAGE_LEN, 0, 0, 1024, UINT64_MAX, LOCK_BOARD_JOURNAL_FULL);
+    refused(len, 0, 0, 0, 0, LOCK_BOARD_JOURNAL_FULL);
+    refused(len, 0, 0, room - 1, 0, LOCK_BOARD_JOURNAL_FULL);
+    refused(len, 0, 0, 2 * room, room + 1, LOCK_BOARD_JOURNAL_FULL);
+    refused(len, 0, 0, 2 * room, highest + 1, LOCK_BOARD_JOURNAL_FULL);
+    refused(len, 0, 0, 2 * room, UINT64_MAX, LOCK_BOARD_JOURNAL_FULL);
     memset(image, FILL, sizeof image);
     if (lock_board_empty(image, sizeof image) != LOCK_BOARD_UNSOUND)
         fail("an empty board for length", sizeof image);

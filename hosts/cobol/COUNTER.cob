@@ -122,7 +122,7 @@
            END-IF.
 
       * A line up to its byte 10, which the last one may lack. One
-      * over 407 bytes is handed on as its first 408.
+      * over LB-LONGEST-REQUEST bytes is cut to LB-CUT-REQUEST.
        READ-LINE.
            ADD 1 TO LINE-NUMBER
            MOVE 0 TO LB-REQUEST-LEN

@@ -224,7 +224,7 @@
            IF NOT LB-BUFFER-SHORT
                PERFORM FAIL
            END-IF
-           MOVE 408 TO LB-REQUEST-ROOM
+           MOVE LB-CUT-REQUEST TO LB-REQUEST-ROOM
            MOVE 33 TO LB-CALL-PROGRAM
            PERFORM ASK-WRITE
            IF NOT LB-WRITE-OUT-OF-RANGE
@@ -459,19 +459,19 @@
            IF NOT LB-REFUSE (1) OR NOT LB-NOT-CLAIMED
                PERFORM FAIL
            END-IF
-           MOVE 511 TO LB-JOURNAL-LEN
+           SUBTRACT 1 FROM LB-JOURNAL-LEN
            PERFORM ASK
            IF NOT LB-JOURNAL-FULL
                PERFORM FAIL
            END-IF
-           MOVE 512 TO LB-JOURNAL-LEN
-           MOVE 1186 TO LB-IMAGE-LEN
+           ADD 1 TO LB-JOURNAL-LEN
+           SUBTRACT 1 FROM LB-IMAGE-LEN
            PERFORM ASK
            IF NOT LB-UNSOUND
                PERFORM FAIL
            END-IF
-      *    Its lower half is 1187: no half of a number is lost.
-           MOVE 4294968483 TO LB-IMAGE-LEN
+      *    Its lower half is right: no half of a number is lost.
+           ADD 4294967297 TO LB-IMAGE-LEN
            PERFORM ASK
            IF NOT LB-UNSOUND
                PERFORM FAIL

@@ -47,13 +47,13 @@ impl Board {
     /// The board of an image, which must have [`IMAGE_LEN`] bytes and hold a sound board.
     ///
     /// ```
-    /// use lock_board::{Board, Error, Refusal};
+    /// use lock_board::{Board, Error, Refusal, IMAGE_LEN};
     ///
     /// let mut image = *Board::new().image();
     /// assert!(Board::from_image(&image).is_ok());
     /// image[32] = 4; // no standing of a program
     /// assert_eq!(Board::from_image(&image), Err(Error::Refused(Refusal::NotSound)));
-    /// assert_eq!(Board::from_image(&image[1..]), Err(Error::ImageLength(1186)));
+    /// assert_eq!(Board::from_image(&image[1..]), Err(Error::ImageLength(IMAGE_LEN - 1)));
     /// ```
     pub fn from_image(image: &[u8]) -> Result<Board, Error> {
         let image: [u8; IMAGE_LEN] = image

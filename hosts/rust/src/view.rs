@@ -1,22 +1,25 @@
 //! What stands on a board, read from its image by the layout that `include/lock_board.h` describes.
 
-use crate::{Board, FILES, PROGRAMS};
+use crate::{Board, FILES, IMAGE_LEN, PROGRAMS};
 
-/// Bytes of one program, and where its fields begin in them.
-const PROGRAM_LEN: usize = 34;
+/// Where the fields of a program begin in its bytes, and how many it has.
+const SET_LEN: usize = FILES / 8;
 const WRITE_CLAIM: usize = 0;
-const READ_CLAIM: usize = 8;
-const WRITE_OPEN: usize = 16;
-const READ_OPEN: usize = 24;
-const STANDING: usize = 32;
-const AWAITED_FILE: usize = 33;
+const READ_CLAIM: usize = WRITE_CLAIM + SET_LEN;
+const WRITE_OPEN: usize = READ_CLAIM + SET_LEN;
+const READ_OPEN: usize = WRITE_OPEN + SET_LEN;
+const STANDING: usize = READ_OPEN + SET_LEN;
+const AWAITED_FILE: usize = STANDING + 1;
+const PROGRAM_LEN: usize = AWAITED_FILE + 1;
 /// Where the rest of the image begins.
-const WAITING_LINE: usize = 1088;
-const ENTRY_LINE: usize = 1120;
-const FAVOURED: usize = 1152;
-const AT_FAVOURING: usize = 1153;
-const LEAVES: usize = 1154;
-const PASSED: usize = 1155;
+const WAITING_LINE: usize = PROGRAMS * PROGRAM_LEN;
+const ENTRY_LINE: usize = WAITING_LINE + PROGRAMS;
+const FAVOURED: usize = ENTRY_LINE + PROGRAMS;
+const AT_FAVOURING: usize = FAVOURED + 1;
+const LEAVES: usize = AT_FAVOURING + 1;
+const PASSED: usize = LEAVES + 1;
+
+const _: () = assert!(PASSED + PROGRAMS == IMAGE_LEN);
 
 /// A set of files.
 #[derive(Clone, Copy, Debug, Default, PartialEq, Eq, Hash)]
@@ -122,7 +125,7 @@ impl Board {
         let mut programs = self.image().chunks_exact(PROGRAM_LEN).take(PROGRAMS);
         let bytes = programs.nth(place)?;
         let set = |at: usize| {
-            bytes[at..at + 8]
+            bytes[at..at + SET_LEN]
                 .iter()
                 .rfold(0, |set, &b| set << 8 | u64::from(b))
         };

@@ -8,6 +8,8 @@
 //! LOCK_BOARD_SEED chooses another seed, LOCK_BOARD_LINES another number of
 //! calls (200,000). A difference is printed as the smallest session that shows
 //! it; `-- --nocapture` prints seed and counters of a run without one.
+//! LOCK_BOARD_WRITE=1 writes files of expected answers anew, by the model
+//! (cases/mod.rs).
 //! Run it with --release.
 
 extern crate lock_board as _;

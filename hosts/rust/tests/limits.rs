@@ -4,6 +4,16 @@
 
 use lock_board as _; // links the board's archive
 
+#[path = "model/fields.rs"]
+mod fields;
+#[allow(dead_code)] // this program needs some of it
+#[path = "model/layout.rs"]
+mod layout;
+
+use layout::image::LENGTH as IMAGE;
+use layout::journal::{COLUMNS, ROOM};
+use layout::FILE_COLUMNS;
+
 unsafe extern "C" {
     fn lock_board_empty(image: *mut u8, image_len: usize) -> u64;
     fn lock_board_line(
@@ -17,8 +27,6 @@ unsafe extern "C" {
     ) -> u64;
 }
 
-const IMAGE: usize = 1187;
-const ROOM: usize = 512;
 const REFUSAL_1: u64 = u64::MAX;
 const REFUSAL_2: u64 = u64::MAX - 1;
 /// What journals, and images before lock_board_empty, hold before a call.
@@ -127,8 +135,12 @@ fn call_line(image: &[u8], request: &[u8], room: usize, place: u64) -> Came {
 /// The first byte in which a buffer is not as expected.
 fn difference(name: &str, came: &[u8], expected: &[u8]) -> Option<String> {
     let i = (0..expected.len()).find(|&i| came[i] != expected[i])?;
+    let field = match (name, fields::names(i).pop()) {
+        ("image", Some(field)) => format!(" ({field})"),
+        _ => String::new(),
+    };
     Some(format!(
-        "byte {i} of the {name} is {}, expected {}",
+        "byte {i} of the {name}{field} is {}, expected {}",
         came[i], expected[i]
     ))
 }
@@ -142,7 +154,8 @@ fn notation(inside: &str) -> Read<Vec<u8>> {
     }
     if let Some((first, last)) = inside.split_once(" to ") {
         let files = number(first)?..=number(last)?;
-        return Ok(files.flat_map(|f| format!("{f:3}").into_bytes()).collect());
+        let columns = |f| format!("{f:FILE_COLUMNS$}").into_bytes();
+        return Ok(files.flat_map(columns).collect());
     }
     let byte = u8::try_from(number(inside)?);
     Ok(vec![byte.map_err(|_| format!("<{inside}> is no byte"))?])
@@ -237,25 +250,17 @@ fn answer(text: &str) -> Read<u64> {
     }
 }
 
-/// Takes the word before a list of bytes off.
-fn byte_list(text: &str) -> Option<&str> {
-    text.strip_prefix("bytes ")
-        .or_else(|| text.strip_prefix("byte "))
-}
-
 /// Reads the journal lines, the answer and the changes at the end of a line.
 fn expected(text: &str) -> Read<Expected> {
     let mut parts: Vec<&str> = text.split("; ").collect();
-    let changes = parts.last().and_then(|p| byte_list(p)).map(str::to_string);
-    if changes.is_some() {
-        parts.pop();
-    }
+    let changes = parts.pop_if(|last| last.contains(" = "));
     let answer = answer(parts.pop().ok_or("the answer is missing")?)?;
     let mut written = Vec::new();
     if parts != ["nothing"] {
         for line in parts {
-            if line.len() != 15 {
-                return Err(format!("'{line}' has not the 15 columns of a journal line"));
+            if line.len() != COLUMNS {
+                let words = format!("the {COLUMNS} columns of a journal line");
+                return Err(format!("'{line}' has not {words}"));
             }
             written.extend([line.as_bytes(), b"\n"].concat());
         }
@@ -267,22 +272,22 @@ fn expected(text: &str) -> Read<Expected> {
         text: text.to_string(),
         written,
         answer,
-        changes,
+        changes: changes.map(str::to_string),
     })
 }
 
-/// Changes bytes of an image, as in "32 = 4, 33 = 1"; each must have held another value.
+/// Changes fields of an image, as in "standing of 1 = absent, V of 1 = {}"; each must have held
+/// another value.
 fn change(image: &mut [u8], changes: &str) -> Read<()> {
     for one in changes.split(", ") {
-        let (at, value) = one.split_once(" = ").ok_or("a change needs BYTE = VALUE")?;
-        let (at, value) = (number(at)? as usize, number(value)?);
-        let byte = image
-            .get_mut(at)
-            .ok_or_else(|| format!("the image has no byte {at}"))?;
-        if u64::from(*byte) == value {
-            return Err(format!("byte {at} of the image is {value} already"));
+        let (at, bytes) = fields::read(one)?;
+        let held = image
+            .get_mut(at..at + bytes.len())
+            .ok_or_else(|| format!("the image is too short for '{one}'"))?;
+        if *held == bytes {
+            return Err(format!("'{one}' is so already"));
         }
-        *byte = u8::try_from(value).map_err(|_| format!("{value} is no byte"))?;
+        held.copy_from_slice(&bytes);
     }
     Ok(())
 }
@@ -303,10 +308,10 @@ fn condition(q: &mut Question, text: &str) -> Read<()> {
         q.image.resize(number(len)? as usize, 0);
         return Ok(());
     }
-    let changes = byte_list(text).ok_or_else(|| format!("'{text}' is no condition"))?;
-    let (changes, words) = changes
-        .split_once(" (")
-        .ok_or("a change needs its (words)")?;
+    if !text.contains(" = ") {
+        return Err(format!("'{text}' is no condition"));
+    }
+    let (changes, words) = text.split_once(" (").ok_or("a change needs its (words)")?;
     words
         .strip_suffix(')')
         .ok_or("a change needs its (words)")?;
@@ -406,8 +411,8 @@ fn image_expected(q: &Question) -> Read<Vec<u8>> {
     let accepted = !written.is_empty() && !written.starts_with(b"REFUSE");
     match &q.expected.changes {
         Some(changes) if accepted => change(&mut image, changes)?,
-        Some(_) => return Err("a refusal changes no bytes of the image".to_string()),
-        None if accepted => return Err("the bytes that the call changes are missing".to_string()),
+        Some(_) => return Err("a refusal changes nothing in the image".to_string()),
+        None if accepted => return Err("the fields that the call changes are missing".to_string()),
         None => {}
     }
     Ok(image)
@@ -526,49 +531,150 @@ fn every_question_has_its_answer() {
     );
 }
 
-/// Lines of which each has one thing wrong, about a board on which program 1 runs.
+/// The messages for a line, which is asked about a board on which program 1 runs.
+fn messages_for(line: &str) -> Vec<String> {
+    let text = format!("After |ENTER   1LABEL     0  0|:\n{line}\n");
+    let mut messages = failures(&text);
+    messages.retain(|message| message.starts_with(&format!("limits.txt:2: {line}\n")));
+    messages
+}
+
+/// Lines of which each has one thing wrong.
 #[test]
 fn a_wrong_line_fails() {
+    let (less, more, room) = (IMAGE - 1, IMAGE + 1, ROOM - 1);
     let wrong = [
-        "|LEAVE   1| 9 bytes: DONE    1  0  0; place 32; byte 32 = 0",
-        "|LEAVE   1| 9 bytes: DONE    1  1  0; place 16; byte 32 = 0",
-        "|LEAVE   1| 9 bytes: DONE    1  0  0; place 16; byte 33 = 1",
-        "|LEAVE   1| 9 bytes: DONE    1  0  0; place 16; bytes 32 = 0, 33 = 1",
-        "|LEAVE   1| 9 bytes: DONE    1  0  0; place 16; byte 32 = 1",
+        "|LEAVE   1| 9 bytes: DONE    1  0  0; place 32; standing of 1 = absent",
+        "|LEAVE   1| 9 bytes: DONE    1  1  0; place 16; standing of 1 = absent",
+        "|LEAVE   1| 9 bytes: DONE    1  0  0; place 16; awaited file of 1 = 1",
+        "|LEAVE   1| 9 bytes: DONE    1  0  0; place 16; standing of 1 = absent, leaves = 1",
+        "|LEAVE   1| 9 bytes: DONE    1  0  0; place 16; standing of 2 = absent",
+        "|LEAVE   1| 9 bytes: DONE    1  0  0; place 16; standing of 1 = held",
+        "|LEAVE   1| 9 bytes: DONE    1  0  0; place 16; standing of 1 = running",
+        "|LEAVE   1| 9 bytes: DONE    1  0  0; place 16; V of 1 = {}, standing of 1 = absent",
         "|LEAVE   1| 9 bytes: DONE    1  0  0; place 16",
         "|LEAVE   1| 9 bytes: REFUSE  1  0 11; place 16",
         "|LEAVE   1| 9 bytes: nothing; place 16",
-        "|LEAVE   1| 9 bytes: DONE    1  0  0; byte 32 = 0",
-        "|LEAVE   1| 9 bytes: DONE  1  0  0; place 16; byte 32 = 0",
-        "|LEAVE   1| 10 bytes: DONE    1  0  0; place 16; byte 32 = 0",
-        "LEAVE   1: DONE    1  0  0; place 16; byte 32 = 0",
-        "|LEAVE   2| 9 bytes: REFUSE  2  0 11; place 16; byte 32 = 0",
-        "journal of 511 bytes, place 0: |LEAVE   1| 9 bytes: nothing; refusal 1",
-        "journal of 511 bytes: |LEAVE   1| 9 bytes: nothing; refusal 2",
-        "byte 32 = 4: |LEAVE   1| 9 bytes: nothing; refusal 1",
-        "byte 32 = 1 (runs): |LEAVE   1| 9 bytes: DONE    1  0  0; place 16; byte 32 = 0",
-        "image of 1188 bytes: |LEAVE   1| 9 bytes: nothing; refusal 2",
-        "lock_board_empty of 1186 bytes: the empty board; place 0",
-        "lock_board_empty of 1187 bytes: nothing; place 0",
-        "lock_board_empty of 1187 bytes: the empty board; refusal 1",
+        "|LEAVE   1| 9 bytes: DONE    1  0  0; standing of 1 = absent",
+        "|LEAVE   1| 9 bytes: DONE  1  0  0; place 16; standing of 1 = absent",
+        "|LEAVE   1| 10 bytes: DONE    1  0  0; place 16; standing of 1 = absent",
+        "LEAVE   1: DONE    1  0  0; place 16; standing of 1 = absent",
+        "|LEAVE   2| 9 bytes: REFUSE  2  0 11; place 16; standing of 1 = absent",
+        &format!("journal of {room} bytes, place 0: |LEAVE   1| 9 bytes: nothing; refusal 1"),
+        &format!("journal of {room} bytes: |LEAVE   1| 9 bytes: nothing; refusal 2"),
+        "standing of 1 = 4: |LEAVE   1| 9 bytes: nothing; refusal 1",
+        "standing of 1 = running (runs): |LEAVE   1| 9 bytes: DONE    1  0  0; place 16; standing of 1 = absent",
+        "standing of 1 = 4 (words): |LEAVE   1| 9 bytes: DONE    1  0  0; place 16; standing of 1 = absent",
+        &format!("image of {more} bytes: |LEAVE   1| 9 bytes: nothing; refusal 2"),
+        "image of 0 bytes; leaves = 1 (words): |LEAVE   1| 9 bytes: nothing; refusal 1",
+        &format!("lock_board_empty of {less} bytes: the empty board; place 0"),
+        &format!("lock_board_empty of {IMAGE} bytes: nothing; place 0"),
+        &format!("lock_board_empty of {IMAGE} bytes: the empty board; refusal 1"),
         "After |LEAVE   1|:",
         "2 questions",
         " # no comment",
     ];
     for line in wrong {
-        let text = format!("After |ENTER   1LABEL     0  0|:\n{line}\n");
-        let messages = failures(&text);
-        let named = messages
-            .iter()
-            .filter(|m| m.starts_with(&format!("limits.txt:2: {line}")));
-        assert_eq!(named.count(), 1, "{line} must fail");
+        assert_eq!(messages_for(line).len(), 1, "{line} must fail");
     }
+}
+
+/// What cannot be read in the place of a field, and what is said of it.
+#[test]
+fn a_field_that_cannot_be_read_is_told() {
+    let many = format!("waiting line = [{}1]", "1,".repeat(layout::PROGRAMS));
+    for (field, said) in [
+        ("byte 32 = 4", "the image has no field 'byte 32'"),
+        ("32 = 4", "the image has no field '32'"),
+        ("Standing of 1 = 4", "the image has no field 'Standing'"),
+        ("standing = 4", "'standing': of which program?"),
+        ("standing of 0 = 4", "'standing of 0': programs are 1 to 32"),
+        (
+            "standing of 33 = 4",
+            "'standing of 33': programs are 1 to 32",
+        ),
+        (
+            "standing of +1 = 4",
+            "'standing of +1': programs are 1 to 32",
+        ),
+        (
+            "standing of 1 of 1 = 4",
+            "'standing of 1 of 1': programs are 1 to 32",
+        ),
+        ("leaves of 1 = 4", "'leaves of 1': the board has one leaves"),
+        ("standing of 1 = gone", "standing of 1: 'gone' is no number"),
+        ("standing of 1 = -1", "standing of 1: '-1' is no number"),
+        ("standing of 1 = ", "standing of 1: '' is no number"),
+        (
+            "standing of 1 = 256",
+            "standing of 1: 256 does not fit into 8 bits",
+        ),
+        ("favoured = [2]", "favoured: '[2]' is no number"),
+        (
+            "leaves = 1,V of 1 = {}",
+            "leaves: '1,V of 1 = {}' is no number",
+        ),
+        ("leaves = 1, V of 1", "'V of 1' is no FIELD = VALUE"),
+        ("V of 1 = 1", "V of 1: '1' does not stand between { and }"),
+        ("V of 1 = {0}", "V of 1: files are 1 to 64, not 0"),
+        ("V of 1 = {65}", "V of 1: files are 1 to 64, not 65"),
+        (
+            "V of 1 = {1 to 65}",
+            "V of 1: files are 1 to 64, not 1 to 65",
+        ),
+        ("V of 1 = {2,1}", "V of 1: the files of {2,1} do not rise"),
+        ("V of 1 = {2,2}", "V of 1: the files of {2,2} do not rise"),
+        (
+            "V of 1 = {3 to 2}",
+            "V of 1: the files of {3 to 2} do not rise",
+        ),
+        ("V of 1 = {1,}", "V of 1: '' is no number"),
+        (
+            "entry line = 2",
+            "entry line: '2' does not stand between [ and ]",
+        ),
+        (
+            "entry line = [2,0]",
+            "entry line: [2,0] ends with 0, as every line does",
+        ),
+        (
+            "entry line = [256]",
+            "entry line: 256 does not fit into 8 bits",
+        ),
+        (&many, "waiting line: the line has 32 places, not 33"),
+    ] {
+        let line = format!("{field} (words): |LEAVE   1| 9 bytes: nothing; refusal 1");
+        let messages = messages_for(&line);
+        let end = format!("\n    cannot be read: {said}");
+        assert!(
+            messages.len() == 1 && messages[0].ends_with(&end),
+            "{messages:?} does not say: {said}"
+        );
+    }
+}
+
+/// Each byte of the image belongs to one field, and the field of a byte can be read.
+#[test]
+fn every_byte_belongs_to_a_field() {
+    for at in 0..IMAGE {
+        let names = fields::names(at);
+        assert_eq!(names.len(), 1, "byte {at} belongs to {names:?}");
+        let name = names[0].split(", byte ").next().expect("a name");
+        let values = ["held", "{}", "[]"].map(|value| fields::read(&format!("{name} = {value}")));
+        let number = fields::read(&format!("{name} = 4"));
+        let read: Vec<(usize, Vec<u8>)> = values.into_iter().chain([number]).flatten().collect();
+        assert!(!read.is_empty(), "{name} takes no value");
+        for (from, bytes) in read {
+            assert!((from..from + bytes.len()).contains(&at), "{name}");
+        }
+    }
+    assert_eq!(fields::names(IMAGE), [""; 0]);
 }
 
 #[test]
 fn a_changed_guard_is_a_fault() {
-    for i in [0, GUARDS - 1, GUARDS + 512, 2 * GUARDS + 511] {
-        let mut journal = Guarded::new("journal", &[BEFORE; 512]);
+    for i in [0, GUARDS - 1, GUARDS + ROOM, 2 * GUARDS + ROOM - 1] {
+        let mut journal = Guarded::new("journal", &[BEFORE; ROOM]);
         journal.bytes[GUARDS] = 0;
         assert!(journal.faults().is_empty());
         journal.bytes[i] = 0;

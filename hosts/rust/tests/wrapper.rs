@@ -2,7 +2,42 @@
 
 use lock_board::{entry, Board, Error, Line, Refusal, Reply, Request, Standing, Word};
 use lock_board::{CUT_LINE, HIGHEST_PLACE, IMAGE_LEN, JOURNAL_LINE, JOURNAL_ROOM, LONGEST_LINE};
-use lock_board::{LOOP_ROOM, MOST_PASSED, PROGRAMS, REACH_LEN};
+use lock_board::{FILES, LABEL_LEN, LOOP_ROOM, MOST_PASSED, PROGRAMS, REACH_LEN};
+
+#[allow(dead_code)] // this program needs some of it
+#[path = "model/fields.rs"]
+mod fields;
+#[allow(dead_code)]
+#[path = "model/layout.rs"]
+mod layout;
+
+/// The limits are those that the model of the tests has from the documents.
+#[test]
+fn limits_are_those_of_the_documents() {
+    for (name, limit, documents) in [
+        ("IMAGE_LEN", IMAGE_LEN, layout::image::LENGTH),
+        ("JOURNAL_LINE", JOURNAL_LINE, layout::journal::LINE),
+        ("JOURNAL_ROOM", JOURNAL_ROOM, layout::journal::ROOM),
+        ("LONGEST_LINE", LONGEST_LINE, layout::line::LONGEST),
+        ("CUT_LINE", CUT_LINE, layout::line::CUT),
+        ("LABEL_LEN", LABEL_LEN, layout::line::LABEL.len()),
+        ("PROGRAMS", PROGRAMS, layout::PROGRAMS),
+        ("FILES", FILES, layout::FILES),
+        ("MOST_PASSED", MOST_PASSED.into(), layout::MOST_PASSES),
+    ] {
+        assert_eq!(limit, documents, "{name}");
+    }
+    assert_eq!(HIGHEST_PLACE, layout::journal::HIGHEST_PLACE);
+}
+
+/// The image with a field that has another value.
+fn changed(image: &[u8; IMAGE_LEN], field: &str) -> [u8; IMAGE_LEN] {
+    let (at, bytes) = fields::read(field).unwrap();
+    let mut changed = *image;
+    changed[at..at + bytes.len()].copy_from_slice(&bytes);
+    assert_ne!(changed, *image, "{field}");
+    changed
+}
 
 fn board_after(lines: &[&str]) -> Board {
     let mut board = Board::new();
@@ -98,12 +133,12 @@ fn wait_is_typed() {
 /// to all of them.
 fn fullest_reply() -> Reply {
     let mut board = board_after(&["ENTER   1WRITER    1  0  1", "OPEN    1  1"]);
-    for program in 2..=32 {
+    for program in 2..=PROGRAMS {
         let enter = format!("ENTER {program:3}READER    0  1  1");
         let admitted = board.serve(enter.as_bytes());
         assert_eq!(admitted.unwrap().answer().word, Word::Admit);
     }
-    for program in 2..=32 {
+    for program in 2..=PROGRAMS {
         let open = board.serve(format!("OPEN  {program:3}  1").as_bytes());
         assert_eq!(open.unwrap().answer().word, Word::Wait);
     }
@@ -115,7 +150,8 @@ fn the_most_lines_fill_the_journal() {
     let reply = fullest_reply();
     assert_eq!(reply.journal().len(), JOURNAL_ROOM);
     assert_eq!(reply.lines().count(), JOURNAL_ROOM / JOURNAL_LINE);
-    let given: Vec<Line> = (2..=32).map(|p| line(Word::Given, p, 1)).collect();
+    let readers = 2..=PROGRAMS as u8;
+    let given: Vec<Line> = readers.map(|p| line(Word::Given, p, 1)).collect();
     assert_eq!(reply.settled(), given);
 }
 
@@ -155,9 +191,9 @@ fn refusals_of_the_line() {
         let text = String::from_utf8_lossy(request);
         assert_eq!(refusal_of(&mut board, request), number, "{text}");
     }
-    let mut longest = b"ENTER   1LABEL    64 64".to_vec();
-    for file in (1..=64).chain(1..=64) {
-        longest.extend(format!("{file:3}").bytes());
+    let mut longest = b"ENTER   1LABEL   ".to_vec();
+    for number in [FILES, FILES].into_iter().chain(1..=FILES).chain(1..=FILES) {
+        longest.extend(format!("{number:3}").bytes());
     }
     assert_eq!(longest.len(), LONGEST_LINE);
     assert_eq!(refusal_of(&mut board, &longest), 10);
@@ -268,7 +304,8 @@ fn a_waiter_is_passed_by_eight() {
     let leave = board.serve(b"LEAVE   1").unwrap();
     let settled = [line(Word::Given, 2, 1), line(Word::Admit, 3, 0)];
     assert_eq!(leave.settled(), settled);
-    let counts: Vec<u8> = (1..=32).filter_map(|p| board.passed(p)).collect();
+    let programs = 1..=PROGRAMS as u8;
+    let counts: Vec<u8> = programs.filter_map(|p| board.passed(p)).collect();
     assert_eq!(counts, [0; PROGRAMS]);
 }
 
@@ -297,7 +334,7 @@ fn a_board_goes_on_from_its_image() {
 #[test]
 fn images_of_another_length() {
     let image = [0; IMAGE_LEN + 1];
-    for len in [0, 1, 1155, IMAGE_LEN - 1, IMAGE_LEN + 1] {
+    for len in [0, 1, layout::image::COUNTS, IMAGE_LEN - 1, IMAGE_LEN + 1] {
         let refused = Board::from_image(&image[..len]);
         assert_eq!(refused, Err(Error::ImageLength(len)));
     }
@@ -309,15 +346,20 @@ fn images_that_are_not_sound() {
     // W outside V; no such standing; a running program that awaits a file; a name in each line;
     // somebody favoured who is not waiting; a number though nobody is favoured; a count of one who
     // runs and of one who is absent.
-    for place in [16, 32, 33, 1088, 1120, 1152, 1153, 1154, 1155, 1186] {
-        let mut bad = image;
-        bad[place] ^= 8;
-        let refused = Board::from_image(&bad);
-        assert_eq!(
-            refused,
-            Err(Error::Refused(Refusal::NotSound)),
-            "byte {place}"
-        );
+    for field in [
+        "W of 1 = {3,4}",
+        "standing of 1 = 9",
+        "awaited file of 1 = 8",
+        "waiting line = [8]",
+        "entry line = [8]",
+        "favoured = 8",
+        "number at favouring = 8",
+        "leaves = 8",
+        "count of 1 = 8",
+        "count of 32 = 8",
+    ] {
+        let refused = Board::from_image(&changed(&image, field));
+        assert_eq!(refused, Err(Error::Refused(Refusal::NotSound)), "{field}");
     }
 }
 
@@ -326,10 +368,10 @@ fn images_that_are_not_sound() {
 fn images_with_counts() {
     let mut image = *passed_by(0).image();
     for count in 0..=u8::MAX {
-        image[1156] = count;
+        image[layout::image::COUNTS + 2 - 1] = count;
         let read = Board::from_image(&image).map(|board| board.passed(2));
         let expected = match count {
-            0..=8 => Ok(Some(count)),
+            0..=MOST_PASSED => Ok(Some(count)),
             _ => Err(Error::Refused(Refusal::NotSound)),
         };
         assert_eq!(read, expected, "count {count}");
@@ -340,16 +382,19 @@ fn images_with_counts() {
 fn the_entry_keeps_what_it_does_not_write() {
     let empty = *Board::new().image();
     let mut image = empty;
-    let mut journal = [170; JOURNAL_ROOM + 16];
+    let mut journal = [170; JOURNAL_ROOM + JOURNAL_LINE];
     let request = b"ENTER   1STOCK     1  0  3";
-    for place in [17, HIGHEST_PLACE, HIGHEST_PLACE + 1, u64::MAX] {
+    let (last, end) = (JOURNAL_LINE as u64, 2 * JOURNAL_LINE);
+    for place in [last + 1, HIGHEST_PLACE, HIGHEST_PLACE + 1, u64::MAX] {
         let answer = entry::line(&mut image, request, &mut journal, place);
         assert_eq!(answer, entry::JOURNAL_FULL, "place {place}");
-        assert_eq!((image, journal), (empty, [170; JOURNAL_ROOM + 16]));
+        assert_eq!(image, empty);
+        assert_eq!(journal, [170; JOURNAL_ROOM + JOURNAL_LINE]);
     }
-    assert_eq!(entry::line(&mut image, request, &mut journal, 16), 32);
-    assert_eq!(&journal[16..32], b"ADMIT   1  0  0\n");
-    let kept = journal[..16].iter().chain(&journal[32..]);
+    let answer = entry::line(&mut image, request, &mut journal, last);
+    assert_eq!(answer, end as u64);
+    assert_eq!(&journal[JOURNAL_LINE..end], b"ADMIT   1  0  0\n");
+    let kept = journal[..JOURNAL_LINE].iter().chain(&journal[end..]);
     assert!(kept.copied().all(|byte| byte == 170));
     assert_ne!(image, empty);
     let mut short = [7; IMAGE_LEN - 1];
@@ -549,7 +594,8 @@ fn errors_in_words() {
         "refusal 1: The image holds no sound board"
     );
     let length = Error::ImageLength(3);
-    assert_eq!(length.to_string(), "an image has 1187 bytes, not 3");
+    let words = format!("an image has {IMAGE_LEN} bytes, not 3");
+    assert_eq!(length.to_string(), words);
 }
 
 #[test]

@@ -5,32 +5,46 @@ use super::seed;
 use crate::compare::call::Call;
 use crate::compare::counters::Counters;
 use crate::compare::session::{one, Session};
-use crate::generate::lines;
+use crate::generate::lines::damage;
 use crate::generate::random::Random;
-use crate::model::journal::columns;
+use crate::model::board::{only, FILES};
+use crate::model::events::Request;
+use crate::model::journal::{file_columns, program_columns};
+use crate::model::layout::FILE_COLUMNS;
+use crate::model::line::{self, claimed, BEFORE_FILES, COUNT_R, COUNT_W, FILE, LONGEST, PROGRAM};
 
-const LINES: [&[u8]; 7] = [
-    b"ENTER   7STOCK     2  1  1 12 30",
-    b"ENTER   7STOCK     0  0",
-    b"OPEN    1  1",
-    b"CLOSE   2 10",
-    b"DROP    1 11",
-    b"LEAVE   2",
-    b"CANCEL  3",
-];
+fn enter(p: usize, v: &[usize], q: &[usize]) -> Request {
+    let [v, q] = [v, q].map(|files| files.iter().fold(0, |set, &f| set | only(f)));
+    Request::Enter { p, v, q }
+}
 
-/// An image on which the lines above are taken.
+/// The lines that are taken apart.
+fn taken() -> [Vec<u8>; 7] {
+    let requests = [
+        enter(7, &[1, 12], &[30]),
+        enter(7, &[], &[]),
+        Request::Open { p: 1, f: 1 },
+        Request::Close { p: 2, f: 10 },
+        Request::Drop { p: 1, f: 11 },
+        Request::Leave { p: 2 },
+        Request::Cancel { p: 3 },
+    ];
+    requests.map(|request| line::write(&request, b"STOCK   "))
+}
+
+/// An image on which they are taken.
 fn start() -> Vec<u8> {
     let mut session = Session::empty();
     let mut image = session.start.clone();
-    for line in [
-        &b"ENTER   1STOCK     1  1  1 11"[..],
-        b"ENTER   2BILLS     1  0 10",
-        b"OPEN    2 10",
-        b"ENTER   3LISTS     0  1 10",
-        b"OPEN    3 10",
+    for request in [
+        enter(1, &[1], &[11]),
+        enter(2, &[10], &[]),
+        Request::Open { p: 2, f: 10 },
+        enter(3, &[], &[10]),
+        Request::Open { p: 3, f: 10 },
     ] {
-        image = session.add(&image, Call::plain(line)).image;
+        let line = line::write(&request, b"BILLS   ");
+        image = session.add(&image, Call::plain(&line)).image;
     }
     image
 }
@@ -43,9 +57,9 @@ fn compare(image: &[u8], line: &[u8], met: &mut Counters) {
 #[test]
 fn every_length_agrees() {
     let mut random = Random::new(seed() ^ 0x2222);
-    let (image, mut met) = (start(), Counters::default());
-    for len in 0..=420 {
-        for line in LINES {
+    let (image, lines, mut met) = (start(), taken(), Counters::default());
+    for len in 0..=LONGEST + 13 {
+        for line in &lines {
             let mut blanks = line.to_vec();
             blanks.resize(len, b' ');
             compare(&image, &blanks, &mut met);
@@ -64,24 +78,26 @@ fn every_length_agrees() {
 
 /// ENTER lines of a length, with counts that fit it or nearly do.
 fn enters(len: usize, random: &mut Random) -> Vec<Vec<u8>> {
-    let files = len.saturating_sub(23) / 3;
-    let least = files.saturating_sub(64);
-    let w = random.within(least, files.min(64).max(least));
-    let rising = |count: usize| (65usize.saturating_sub(count)..=64).flat_map(columns);
+    let files = len.saturating_sub(BEFORE_FILES) / FILE_COLUMNS;
+    let least = files.saturating_sub(FILES);
+    let w = random.within(least, files.min(FILES).max(least));
+    let rising = |count: usize| ((FILES + 1).saturating_sub(count)..=FILES).flat_map(file_columns);
     let mut all = Vec::new();
     for (more_w, more_r) in [(0, 0), (1, 0), (0, 1)] {
-        let mut line = b"ENTER   4\x7E       ".to_vec();
-        line.extend(columns(w + more_w));
-        line.extend(columns(files - w + more_r));
-        line.extend((1..=w).flat_map(columns));
+        let mut line = b"ENTER ".to_vec();
+        line.extend(program_columns(4));
+        line.extend(b"\x7E       ");
+        line.extend(file_columns(w + more_w));
+        line.extend(file_columns(files - w + more_r));
+        line.extend((1..=w).flat_map(file_columns));
         line.extend(rising(files - w));
         line.resize(len, b' ');
         all.push(line);
     }
     let mut falling = all[0].clone();
     if files > 1 {
-        let at = 23 + 3 * random.below(files - 1);
-        falling.copy_within(at..at + 3, at + 3);
+        let n = random.below(files - 1);
+        falling.copy_within(claimed(n), claimed(n + 1).start);
     }
     all.push(falling);
     all
@@ -90,7 +106,7 @@ fn enters(len: usize, random: &mut Random) -> Vec<Vec<u8>> {
 #[test]
 fn every_byte_agrees() {
     let (image, mut met) = (start(), Counters::default());
-    for line in LINES {
+    for line in &taken() {
         for at in 0..line.len() {
             for byte in 0..=255 {
                 let mut changed = line.to_vec();
@@ -106,25 +122,26 @@ fn every_byte_agrees() {
 
 #[test]
 fn every_number_agrees() {
-    let (image, mut met) = (start(), Counters::default());
+    let (image, lines, mut met) = (start(), taken(), Counters::default());
     let bytes = *b" 0123456789+-.\0\x2F\x3A\xB1";
-    for (line, at) in [
-        (0, 6),
-        (0, 17),
-        (0, 20),
-        (0, 23),
-        (0, 29),
-        (2, 6),
-        (2, 9),
-        (4, 9),
-        (5, 6),
-        (6, 6),
+    for (line, field) in [
+        (0, PROGRAM),
+        (0, COUNT_W),
+        (0, COUNT_R),
+        (0, claimed(0)),
+        (0, claimed(2)),
+        (2, PROGRAM),
+        (2, FILE),
+        (4, FILE),
+        (5, PROGRAM),
+        (6, PROGRAM),
     ] {
-        for code in 0..bytes.len().pow(3) {
-            let mut changed = LINES[line].to_vec();
-            changed[at] = bytes[code % bytes.len()];
-            changed[at + 1] = bytes[code / bytes.len() % bytes.len()];
-            changed[at + 2] = bytes[code / bytes.len() / bytes.len()];
+        for code in 0..bytes.len().pow(field.len() as u32) {
+            let (mut changed, mut rest) = (lines[line].to_vec(), code);
+            for byte in &mut changed[field.clone()] {
+                *byte = bytes[rest % bytes.len()];
+                rest /= bytes.len();
+            }
             compare(&image, &changed, &mut met);
         }
     }
@@ -134,10 +151,10 @@ fn every_number_agrees() {
 #[test]
 fn damaged_lines_agree() {
     let mut random = Random::new(seed() ^ 0x3333);
-    let (image, mut met) = (start(), Counters::default());
+    let (image, lines, mut met) = (start(), taken(), Counters::default());
     for round in 0..20_000 {
-        let mut line = LINES[round % LINES.len()].to_vec();
-        lines::damage(&mut line, &mut random);
+        let mut line = lines[round % lines.len()].clone();
+        damage(&mut line, &mut random);
         compare(&image, &line, &mut met);
     }
     met.print("damaged lines");

@@ -7,7 +7,7 @@ use crate::model::{image, program};
 use std::path::{Path, PathBuf};
 
 /// The examples' requests.
-fn examples() -> Vec<PathBuf> {
+pub fn examples() -> Vec<PathBuf> {
     let folder = Path::new(env!("CARGO_MANIFEST_DIR")).join("../../examples");
     let files = std::fs::read_dir(folder).expect("the examples");
     let mut paths: Vec<PathBuf> = files.map(|file| file.unwrap().path()).collect();

@@ -467,8 +467,8 @@ fn matrices(image: &[u8], board: Option<&Board>) {
         assert_eq!(asked, model_reach(board, len), "{len} bytes");
         let answer = match board {
             None => REFUSED_1,
-            Some(_) if len < 128 => REFUSED_17,
-            Some(_) => 128,
+            Some(_) if len < REACH => REFUSED_17,
+            Some(_) => REACH as u64,
         };
         assert_eq!(asked.answer, answer, "{len} bytes");
     }

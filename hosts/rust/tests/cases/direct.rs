@@ -14,10 +14,10 @@ use crate::generate::numbers::{self, NUMBERS};
 use crate::generate::random::Random;
 use crate::generate::scripts::SCRIPTS;
 use crate::generate::sessions::{wild, Cast, PROFILES};
-use crate::model::board::{only, Files, PROGRAMS};
+use crate::model::board::{only, Files, FILES, MOST_PASSES, PROGRAMS};
 use crate::model::direct::{self, Reply};
 use crate::model::events::Request;
-use crate::model::journal::{Entry, Word};
+use crate::model::journal::{Entry, Word, MOST_LINES};
 use crate::model::{digraph, image, line};
 use std::path::{Path, PathBuf};
 
@@ -33,8 +33,8 @@ pub fn count(reply: &Reply, met: &mut Counters) {
     for line in &reply.lines {
         met.add(std::str::from_utf8(line.word.text()).unwrap().trim_end());
     }
-    if reply.lines.len() == 32 {
-        met.add("32 lines");
+    if reply.lines.len() == MOST_LINES {
+        met.add("the most lines");
     }
 }
 
@@ -98,7 +98,7 @@ fn direct_calls_agree() {
         assert!(met.get(name) > 0, "{name} not met");
     }
     assert_eq!(met.get("refusal 1"), 0);
-    assert!(met.get("32 lines") > 0, "no call has 32 lines");
+    met.assert_met(&["the most lines"]);
 }
 
 /// The request; now and then with another number or with claims that may meet.
@@ -165,7 +165,8 @@ fn direct_calls_agree_on_edges() {
         return;
     };
     let session = session();
-    let last = [enter(32, &[64], &[63]), Request::Open { p: 32, f: 64 }];
+    let (p, f) = (PROGRAMS, FILES);
+    let last = [enter(p, &[f], &[f - 1]), Request::Open { p, f }];
     let boards = [&[], &session[..7], &last[..]].map(board_after);
     let mut met = Counters::default();
     for board in boards {
@@ -392,7 +393,7 @@ fn enter_behind_a_count_of_8(asking: &mut Asking) -> Vec<(Word, usize)> {
         enter(2, &[1], &[]),
         Request::Open { p: 2, f: 1 },
     ]);
-    image[image::COUNTS + 1] = 8;
+    image[image::COUNTS + 2 - 1] = MOST_PASSES as u8;
     asking.add(Record::Image(image));
     let reply = asking.call(enter(3, &[], &[]));
     let line = |line: &Entry| (line.word, line.program);
@@ -403,11 +404,10 @@ fn enter_behind_a_count_of_8(asking: &mut Asking) -> Vec<(Word, usize)> {
 /// the model's: 01's session, whose UNSAFE carries a loop, cancels of a waiting,
 /// an absent and a running program, a number out of range, a line on the lent
 /// board, a board that is not sound, an enter that favours, labels, matrices and
-/// lists to check. "Which loop is free": the file has that of the library, and
-/// the model takes it. LOCK_BOARD_WRITE=1 writes both files anew, but keeps an
-/// output that the model takes.
+/// lists to check. "Which loop is free": 2 1 is the crate's choice, and the model's
+/// checker takes it.
 #[test]
-fn records_of_the_crate_are_the_models() {
+fn records_of_asked_agree_with_the_model() {
     let mut asking = Asking::new();
     for request in session() {
         asking.call(request);
@@ -437,11 +437,7 @@ fn records_of_the_crate_are_the_models() {
     matrices_and_lists(&mut asking);
     let folder = Path::new(env!("CARGO_MANIFEST_DIR")).join("../../crates/asked");
     of_the_model(&folder.join("stdin"), &asking.input());
-    let stdout = folder.join("stdout");
-    match std::fs::read(&stdout) {
-        Ok(output) if asking.takes(&output) => {}
-        _ => of_the_model(&stdout, &asking.output()),
-    }
+    of_the_model(&folder.join("stdout"), &asking.output(&[&[2, 1]]));
 }
 
 /// The matrix of 01's board before the UNSAFE and of the one that giving the file

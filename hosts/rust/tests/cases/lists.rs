@@ -9,7 +9,7 @@ use crate::generate::scripts::{Script, SCRIPTS};
 use crate::generate::sessions::{Cast, Profile, PROFILES};
 use crate::model::board::Board;
 use crate::model::image::{self, REFUSED_2};
-use crate::model::journal::LINE;
+use crate::model::journal::{LINE, PROGRAM, WORD};
 
 /// A list that the library or the model is to answer.
 pub struct List {
@@ -81,6 +81,6 @@ fn lines(outcome: &Outcome) -> Vec<(&str, usize)> {
     let program = |bytes| text(bytes).parse().expect("a program");
     let written = outcome.journal[..outcome.answer as usize].chunks(LINE);
     written
-        .map(|line| (text(&line[..6]), program(&line[6..9])))
+        .map(|line| (text(&line[WORD]), program(&line[PROGRAM])))
         .collect()
 }

@@ -8,6 +8,7 @@ mod digraph;
 mod digraph_vectors;
 mod direct;
 mod entry_vectors;
+mod examples;
 mod favoured;
 mod image_files;
 mod images;
@@ -49,8 +50,11 @@ fn calls() -> u64 {
     number("LOCK_BOARD_LINES", 200_000)
 }
 
-/// A file has the bytes that the model has for it. LOCK_BOARD_WRITE=1 writes
-/// such files anew.
+/// A file has the bytes that the model has for it. When a rule has changed, or the
+/// form of lines, journal or image, this writes all such files anew from their
+/// inputs, by the model alone; `git diff` shows which have changed:
+///
+///     LOCK_BOARD_WRITE=1 cargo test --release agree_with_the_model
 fn of_the_model(file: &Path, bytes: &[u8]) {
     if std::env::var_os("LOCK_BOARD_WRITE").is_some() {
         std::fs::write(file, bytes).expect("the file is written");

@@ -110,7 +110,8 @@ fn keep_promise(list: &List, met: &mut Counters) {
     let mut told = Told::default();
     list.each(|request, lines, outcome| {
         told.take(request, lines, met);
-        assert_eq!(outcome.image[COUNTS..], told.counts(), "the counts");
+        let counts = &outcome.image[COUNTS..COUNTS + PROGRAMS];
+        assert_eq!(counts, told.counts(), "the counts");
     });
     met.calls += list.len();
 }

@@ -9,6 +9,7 @@ use crate::generate::lines;
 use crate::generate::random::Random;
 use crate::generate::sessions::{Cast, PROFILES};
 use crate::model::board::Board;
+use crate::model::line::LONGEST;
 use crate::model::{image, program};
 use std::fs::File;
 use std::io::Seek;
@@ -165,7 +166,7 @@ pub fn input(round: usize, random: &mut Random) -> Vec<u8> {
             lines::damage(&mut line, random);
         }
         if random.per_mille(10) {
-            line.resize(random.within(400, 5000), b' ');
+            line.resize(random.within(LONGEST - 7, 12 * LONGEST), b' ');
         }
         for line in program::requests(&line) {
             board = image::step(&board, line).0;

@@ -1,7 +1,7 @@
 //! Refusals as the three hosts show them, whole: those of the vectors, of random
 //! sessions, and of the sessions in refusals.txt.
 
-use super::{program, seed, vectors};
+use super::{of_the_model, program, seed, vectors};
 use crate::expected::refusals::{Document, Session};
 use crate::generate::random::Random;
 use crate::model::board::Board;
@@ -10,7 +10,7 @@ use crate::model::program::requests;
 use crate::running::whole::{file, run};
 use crate::running::{built, HOSTS};
 use std::ffi::OsStr;
-use std::path::Path;
+use std::path::{Path, PathBuf};
 
 fn document() -> Document {
     let path = Path::new(env!("CARGO_MANIFEST_DIR")).join("../../docs/REFUSALS.md");
@@ -107,6 +107,38 @@ fn refusals_on_an_image_agree() {
             std::fs::write(&file, image::write(&board)).expect("the image is written");
         });
     }
+}
+
+fn refusals() -> PathBuf {
+    Path::new(env!("CARGO_MANIFEST_DIR")).join("tests/refusals.txt")
+}
+
+/// A session of refusals.txt, with what the model shows behind each request.
+fn session_anew(document: &Document, part: &str) -> String {
+    let (mut session, mut lines) = (Session::new(document, Board::EMPTY), Vec::new());
+    for line in part.lines().filter(|line| !line.starts_with("= ")) {
+        lines.push(line.to_string());
+        if line.starts_with('#') {
+            continue;
+        }
+        let known = session.shown.len();
+        for request in requests(&[bytes(line), vec![10]].concat()) {
+            session.serve(request);
+        }
+        for shown in &session.shown[known..] {
+            let (_, text) = shown.split_once(": refusal ").expect("a refusal");
+            lines.push(format!("= {text}"));
+        }
+    }
+    lines.join("\n")
+}
+
+#[test]
+fn explanations_agree_with_the_model() {
+    let (document, text) = (document(), std::fs::read_to_string(refusals()).unwrap());
+    let parts = text.trim_end().split("\n\n");
+    let parts: Vec<String> = parts.map(|part| session_anew(&document, part)).collect();
+    of_the_model(&refusals(), (parts.join("\n\n") + "\n").as_bytes());
 }
 
 /// The sessions of refusals.txt, and what is shown of each.

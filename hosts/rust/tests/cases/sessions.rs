@@ -9,9 +9,9 @@ use crate::generate::lines;
 use crate::generate::random::Random;
 use crate::generate::scripts::SCRIPTS;
 use crate::generate::sessions::{Cast, PROFILES};
-use crate::model::board::Board;
+use crate::model::board::{Board, MOST_PASSES, PROGRAMS};
 use crate::model::events::{self, Request};
-use crate::model::journal::Word;
+use crate::model::journal::{Word, MOST_LINES};
 use crate::model::{image, line, order};
 
 /// What the sessions must have met, each at least once.
@@ -73,9 +73,9 @@ fn assert_all_met(met: &Counters) {
         );
     }
     assert_eq!(met.get("refusal 1"), 0);
-    assert_eq!(met.get_most("admitted"), 32);
-    assert_eq!(met.get_most("count"), 8);
-    assert_eq!(met.get_most("lines of one call"), 32);
+    assert_eq!(met.get_most("admitted"), PROGRAMS as u64);
+    assert_eq!(met.get_most("count"), MOST_PASSES as u64);
+    assert_eq!(met.get_most("lines of one call"), MOST_LINES as u64);
 }
 
 /// One session under way.

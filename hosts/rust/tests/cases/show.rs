@@ -4,7 +4,7 @@
 use super::chosen;
 use crate::expected::phrases::users;
 use crate::expected::show::{dot, edges, given_edges, show, Loops};
-use crate::model::board::{only, Board, Files, Program, Standing, MOST_PASSES};
+use crate::model::board::{only, Board, Files, Program, Standing, FILES, MOST_PASSES, PROGRAMS};
 use crate::model::image;
 use crate::running::whole::{file, run};
 use crate::running::{built, HOSTS};
@@ -71,15 +71,15 @@ fn admitted(standing: Standing, v: Files, q: Files, w: Files, r: Files) -> Progr
 /// The boards with the longest texts: one with 32 readers of all files, one where 31
 /// readers of 63 files hold back a program that waits for the last, and the longest loop.
 fn longest_texts() -> Vec<Board> {
-    let last = only(64);
+    let last = only(FILES);
     let mut all_read = Board::EMPTY;
     let mut one_waits = Board::EMPTY;
-    for p in 1..=32 {
+    for p in 1..=PROGRAMS {
         *all_read.get_mut(p) = admitted(Standing::Running, 0, !0, 0, !0);
         *one_waits.get_mut(p) = admitted(Standing::Running, 0, !0, 0, !last);
     }
-    *one_waits.get_mut(32) = admitted(Standing::Waiting(64), !0, 0, 0, 0);
-    one_waits.waiting.push(32);
+    *one_waits.get_mut(PROGRAMS) = admitted(Standing::Waiting(FILES), !0, 0, 0, 0);
+    one_waits.waiting.push(PROGRAMS);
     let longest = vec![all_read, one_waits, longest_loop()];
     for board in &longest {
         assert!(image::read(&image::write(board)).is_ok(), "a sound board");
@@ -91,14 +91,15 @@ fn longest_texts() -> Vec<Board> {
 /// the first that of the last; this one waits for its own.
 fn longest_loop() -> Board {
     let mut board = Board::EMPTY;
-    for p in 1..=32 {
-        let before = if p == 1 { 32 } else { p - 1 };
-        let (own, read) = (only(32 + p), only(32 + before));
+    let file = |p: usize| FILES - PROGRAMS + p;
+    for p in 1..=PROGRAMS {
+        let before = if p == 1 { PROGRAMS } else { p - 1 };
+        let (own, read) = (only(file(p)), only(file(before)));
         *board.get_mut(p) = admitted(Standing::Running, own, read, own, 0);
     }
-    let last = board.get_mut(32);
-    (last.standing, last.w) = (Standing::Waiting(64), 0);
-    board.waiting.push(32);
+    let last = board.get_mut(PROGRAMS);
+    (last.standing, last.w) = (Standing::Waiting(FILES), 0);
+    board.waiting.push(PROGRAMS);
     board
 }
 
@@ -108,7 +109,7 @@ fn met(board: &Board, loops: &Loops) -> Vec<&'static str> {
     for list in loops.values() {
         met.push(match list.len() {
             2 => "a loop of two",
-            32 => "a loop of all",
+            PROGRAMS => "a loop of all",
             _ => "a longer loop",
         });
     }

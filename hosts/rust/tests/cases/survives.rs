@@ -9,7 +9,7 @@ use crate::generate::lines;
 use crate::generate::random::Random;
 use crate::generate::sessions::{Cast, PROFILES};
 use crate::model::board::Board;
-use crate::model::journal::{columns, Entry, Word};
+use crate::model::journal::{program_columns, Entry, Word};
 use crate::model::{image, order};
 use crate::running::{Place, Running, HOSTS, SIGHUP, SIGINT, SIGKILL, SIGTERM};
 use std::collections::BTreeMap;
@@ -217,7 +217,7 @@ fn whole_session(host: &str, place: &Place, start: Board, random: &mut Random) {
     let mut journal = expected.journal[..expected.ends[5]].to_vec();
     let order = order::carried(&expected.boards[5]).expect("an order");
     journal.extend(b"ORDER ");
-    journal.extend(order.into_iter().flat_map(columns));
+    journal.extend(order.into_iter().flat_map(program_columns));
     journal.push(10);
     assert!(status.success(), "{host}: {}", place.messages());
     assert_eq!(

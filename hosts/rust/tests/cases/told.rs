@@ -8,8 +8,9 @@
 
 use crate::compare::call::{library, model, Call, Outcome};
 use crate::compare::session::Session;
+use crate::model::board::PROGRAMS;
 use crate::model::image::{COUNTS, ENTRY_LINE, FAVOURED, LENGTH, PROGRAM, WAITING_LINE};
-use crate::model::journal::LINE;
+use crate::model::journal::{COLUMNS, LINE};
 
 /// The library and the model go through a session as it is told.
 pub fn told(start: &str, rest: &str) {
@@ -58,7 +59,7 @@ fn change(end: &mut [u8], part: &str) {
 fn journal(outcome: &Outcome) -> String {
     let written = outcome.journal[..outcome.answer as usize].chunks(LINE);
     let lines: Vec<String> = written
-        .map(|line| line[..LINE - 1].escape_ascii().to_string())
+        .map(|line| line[..COLUMNS].escape_ascii().to_string())
         .collect();
     lines.join("; ")
 }
@@ -73,7 +74,7 @@ fn cancelled(program: &str, answer: &str, before: &[u8], after: &[u8]) {
     let bytes = &after[PROGRAM * (p - 1)..PROGRAM * p];
     assert!(bytes.iter().all(|&byte| byte == 0), "{program} has bytes");
     for line in [WAITING_LINE, ENTRY_LINE] {
-        let names = &after[line..line + 32];
+        let names = &after[line..line + PROGRAMS];
         assert!(!names.contains(&(p as u8)), "{program} is in a line");
     }
 }

@@ -1,14 +1,10 @@
 //! The model replays the vectors: the program's output with its order, and the
 //! host entry's answers, images and journals. The library replays them too.
-//!
-//! When a rule or the image has changed, this writes what the sets expect anew,
-//! by the model alone; `git diff` shows which have changed:
-//!
-//!     LOCK_BOARD_WRITE=1 cargo test --release vectors_agree_with_the_model
 
 use super::of_the_model;
 use crate::compare::call::{library, model, Call, Outcome};
 use crate::compare::session::Session;
+use crate::model::image::ROOM;
 use crate::model::program;
 use std::path::PathBuf;
 
@@ -67,7 +63,7 @@ pub fn sums(mut image: Vec<u8>, input: &[u8], host: fn(&[u8], &Call) -> Outcome)
     for line in program::requests(input) {
         let call = Call {
             line: line.to_vec(),
-            journal: 512,
+            journal: ROOM,
             place: 0,
             fill: Call::ALL_170,
         };

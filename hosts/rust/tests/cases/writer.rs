@@ -7,7 +7,9 @@ use crate::compare::written::{both, expect, library, model, Written};
 use crate::generate::numbers::NUMBERS;
 use crate::generate::random::Random;
 use crate::generate::writings;
-use crate::model::board::{Files, FILES};
+use crate::model::board::{Files, FILES, PROGRAMS};
+use crate::model::journal::{file_columns, ROOM};
+use crate::model::line::{enter_length, BEFORE_FILES, CUT, LONGEST};
 use crate::model::writer::{Writing, VERBS};
 
 const ENTER: u64 = 1;
@@ -98,17 +100,33 @@ fn lines_at_the_edges_are_written() {
     both_write(line, enter(4, b"MEETING ", 0b110, 0b1100));
 }
 
-/// Every file in both claims: the longest line, 407 bytes.
+/// Every file in both claims: the longest line.
 #[test]
 fn the_longest_line_is_written() {
-    let group: String = (1..=64).map(|f| format!("{f:>3}")).collect();
-    let line = format!("ENTER  20LONGEST  64 64{group}{group}");
-    assert_eq!(line.len(), 407);
+    let group: Vec<u8> = (1..=FILES).flat_map(file_columns).collect();
+    let mut line = b"ENTER  20LONGEST ".to_vec();
+    line.extend(
+        [
+            file_columns(FILES),
+            file_columns(FILES),
+            group.clone(),
+            group,
+        ]
+        .concat(),
+    );
+    assert_eq!(line.len(), LONGEST);
     let writing = enter(20, b"LONGEST ", Files::MAX, Files::MAX);
-    for len in [407, 408, 512, 65_536, 65_536 + 406, (1 << 20) + 1] {
-        both_leave(Ok(line.as_bytes()), &writing, len);
+    for len in [
+        LONGEST,
+        CUT,
+        ROOM,
+        65_536,
+        65_536 + LONGEST - 1,
+        (1 << 20) + 1,
+    ] {
+        both_leave(Ok(&line), &writing, len);
     }
-    for len in [0, 1, 255, 256, 406] {
+    for len in [0, 1, 255, 256, LONGEST - 1] {
         both_leave(Err(17), &writing, len);
     }
 }
@@ -147,7 +165,7 @@ fn refusals_of_the_writer_come_in_order() {
         (enter(1, b"STOCK  \x7F", 0, 0), 22, 6),
         (enter(1, b"\x1FSTOCK  ", 3, 3), 22, 6),
         // the buffer alone
-        (enter(1, label, 3, 3), 34, 17),
+        (enter(1, label, 3, 3), enter_length(4) - 1, 17),
         (other(LEAVE, 1, 65), 8, 17),
         (other(CANCEL, 1, 65), 8, 17),
     ];
@@ -174,7 +192,7 @@ fn writings_agree_on_numbers() {
                     q,
                     label,
                 };
-                both(&writing, &[170; 34], &mut met);
+                both(&writing, &[170; enter_length(3) + 2], &mut met);
             }
         }
     }
@@ -226,8 +244,8 @@ fn writings_agree_on_counts() {
                 let files = random.shuffled(FILES);
                 files[..count].iter().fold(0, |set, f| set | 1 << (f - 1))
             });
-            let len = 23 + 3 * (w + r);
-            let writing = enter(random.within(1, 32) as u64, b"STOCK   ", v, q);
+            let len = enter_length(w + r);
+            let writing = enter(random.within(1, PROGRAMS) as u64, b"STOCK   ", v, q);
             let written = both(&writing, &random.bytes(len), &mut met);
             assert_eq!(written.answer, len as u64);
             both(&writing, &random.bytes(len - 1), &mut met);
@@ -246,7 +264,9 @@ fn writings_agree_in_every_buffer() {
     let any = |_| writings::writing(&mut random);
     let all: Vec<Writing> = std::iter::once(full).chain((0..200).map(any)).collect();
     for writing in all {
-        let len = writing.line(usize::MAX).map_or(23, |line| line.len());
+        let len = writing
+            .line(usize::MAX)
+            .map_or(BEFORE_FILES, |line| line.len());
         for room in 0..=len + 3 {
             both(&writing, &random.bytes(room), &mut met);
         }

@@ -1,15 +1,31 @@
 //! The vectors of the writer, through the library and the model; their form is
 //! told in vectors-writer/README.md.
 
+use super::of_the_model;
 use crate::compare::asked::Asking;
 use crate::compare::call::{self, Call};
 use crate::compare::written::{expect, library, model, Written};
-use crate::model::board::{only, Files};
+use crate::model::board::{members, only, Files};
 use crate::model::journal::{Entry, Word};
 use crate::model::line;
 use crate::model::writer::{Writing, VERBS};
 use std::collections::BTreeSet;
-use std::path::Path;
+use std::path::{Path, PathBuf};
+
+const WRITE: [&str; 4] = ["write-1", "write-1-contest", "write-2", "write-2-contest"];
+const BACK: [&str; 2] = ["back-1", "back-2"];
+
+fn path(name: &str, ending: &str) -> PathBuf {
+    Path::new(env!("CARGO_MANIFEST_DIR"))
+        .join("tests/vectors-writer")
+        .join(format!("{name}.{ending}"))
+}
+
+fn lines(path: &Path) -> Vec<String> {
+    let text = std::fs::read_to_string(path);
+    let text = text.unwrap_or_else(|error| panic!("{}: {error}", path.display()));
+    text.lines().map(String::from).collect()
+}
 
 /// The cases of some files, each with its answer.
 fn cases(names: &[&str]) -> Vec<(String, String)> {
@@ -17,13 +33,7 @@ fn cases(names: &[&str]) -> Vec<(String, String)> {
 }
 
 fn cases_of(name: &str) -> Vec<(String, String)> {
-    let folder = Path::new(env!("CARGO_MANIFEST_DIR")).join("tests/vectors-writer");
-    let [cases, answers] = ["in", "out"].map(|ending| {
-        let path = folder.join(format!("{name}.{ending}"));
-        let text = std::fs::read_to_string(&path)
-            .unwrap_or_else(|error| panic!("{}: {error}", path.display()));
-        text.lines().map(String::from).collect::<Vec<String>>()
-    });
+    let [cases, answers] = ["in", "out"].map(|ending| lines(&path(name, ending)));
     assert_eq!(cases.len(), answers.len(), "{name}");
     assert!(!cases.is_empty(), "{name}");
     cases.into_iter().zip(answers).collect()
@@ -70,6 +80,61 @@ fn writing(words: &[&str]) -> Writing {
     }
 }
 
+/// What is asked of the writer: the writing, and the buffer's length.
+fn asked(case: &str) -> (Writing, usize) {
+    let words: Vec<&str> = case.split(' ').collect();
+    let (buffer, words) = words.split_last().expect("a case");
+    (writing(words), number(buffer) as usize)
+}
+
+/// `refusal length kept line`, by the model.
+fn written(case: &str) -> String {
+    let (writing, room) = asked(case);
+    match writing.line(room) {
+        Ok(line) => {
+            let text = String::from_utf8(line).expect("plain text");
+            format!("0 {} kept {text}", text.len())
+        }
+        Err(refusal) => format!("{refusal} 0 kept"),
+    }
+}
+
+/// A refusal, or `0 VERB program file record label V Q J`, by the model.
+fn read(case: &str) -> String {
+    let text = bytes(case);
+    let request = match line::read(&text) {
+        Ok(request) => request,
+        Err(refusal) => return refusal.to_string(),
+    };
+    let Writing {
+        verb,
+        program,
+        file,
+        v,
+        q,
+        label,
+    } = Writing::of(&request, line::label(&text));
+    let or_none = |text: String| if text.is_empty() { "-".into() } else { text };
+    let label = or_none(label.iter().map(|byte| format!("{byte:02x}")).collect());
+    let [v, q] = [v, q].map(|set| {
+        let files: Vec<String> = members(set).iter().map(usize::to_string).collect();
+        or_none(files.join(","))
+    });
+    let verb = VERBS[verb as usize - 1];
+    format!("0 {verb} {program} {file} 0 {label} {v} {q} -")
+}
+
+#[test]
+fn vectors_of_the_writer_agree_with_the_model() {
+    let all = WRITE.map(|name| (name, written as fn(&str) -> String));
+    let back = BACK.map(|name| (name, read as fn(&str) -> String));
+    for (name, answer) in all.into_iter().chain(back) {
+        let cases = lines(&path(name, "in"));
+        let answers = cases.iter().map(|case| answer(case) + "\n");
+        of_the_model(&path(name, "out"), answers.collect::<String>().as_bytes());
+    }
+}
+
 /// What `refusal length kept line` says of a buffer.
 fn expected(answer: &str, before: &[u8]) -> Written {
     let words: Vec<&str> = answer.splitn(4, ' ').collect();
@@ -86,10 +151,9 @@ fn expected(answer: &str, before: &[u8]) -> Written {
 #[test]
 fn vectors_are_written() {
     let (mut refusals, mut verbs) = (BTreeSet::new(), BTreeSet::new());
-    for (case, answer) in cases(&["write-1", "write-1-contest", "write-2", "write-2-contest"]) {
-        let words: Vec<&str> = case.split(' ').collect();
-        let (buffer, words) = words.split_last().expect("a case");
-        let (writing, before) = (writing(words), vec![170; number(buffer) as usize]);
+    for (case, answer) in cases(&WRITE) {
+        let (writing, room) = asked(&case);
+        let before = vec![170; room];
         let expected = expected(&answer, &before);
         for side in [model, library] {
             expect(&expected, &side(&writing, &before), &writing, &before);
@@ -115,7 +179,7 @@ fn answered(writing: &Writing) -> Entry {
 #[test]
 fn vectors_are_read_and_written_back() {
     let (mut taken, mut refused) = (BTreeSet::new(), BTreeSet::new());
-    for (case, answer) in cases(&["back-1", "back-2"]) {
+    for (case, answer) in cases(&BACK) {
         let (text, words) = (bytes(&case), answer.split(' ').collect::<Vec<&str>>());
         let entry = match words[..] {
             [refusal] => {

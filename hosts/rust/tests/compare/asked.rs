@@ -39,8 +39,9 @@ struct Answer {
     given: Option<Box<Board>>,
 }
 
-/// Where the loop stands in the answer to a call: its count, then its places.
-const CARRIED: Range<usize> = 164..197;
+/// Where the loop stands in the answer to a call, after four numbers, the lines and
+/// the order: its count, then its places.
+const CARRIED: Range<usize> = 4 + 4 * PROGRAMS + PROGRAMS..5 + 4 * PROGRAMS + 2 * PROGRAMS;
 
 impl Answer {
     fn plain(bytes: Vec<u8>) -> Answer {
@@ -245,15 +246,21 @@ impl Asking {
         input(&self.records)
     }
 
-    /// What the program may write: with the loops of the model.
-    pub fn output(&self) -> Vec<u8> {
-        let answers = answers(&self.records).into_iter();
-        answers.flat_map(|answer| answer.bytes).collect()
-    }
-
-    /// Whether the program may write this.
-    pub fn takes(&self, output: &[u8]) -> bool {
-        difference(&self.records, output).is_none()
+    /// All that the program is to write, if its answers carry these loops. A list
+    /// that is no loop ends the test.
+    pub fn output(&self, loops: &[&[u8]]) -> Vec<u8> {
+        let (mut output, mut loops) = (Vec::new(), loops.iter());
+        for mut answer in answers(&self.records) {
+            if let Some(given) = &answer.given {
+                let list = loops.next().expect("a loop for each answer with one");
+                assert!(digraph::is_loop(given, list), "{list:?}");
+                let carried = [&[list.len() as u8], places(list.to_vec()).as_slice()].concat();
+                answer.bytes[CARRIED].copy_from_slice(&carried);
+            }
+            output.extend(answer.bytes);
+        }
+        assert_eq!(loops.next(), None, "a loop that no answer carries");
+        output
     }
 
     /// Runs the program. A difference ends the test, with few records that

@@ -4,7 +4,7 @@ use super::digraph::{self, Seen};
 use super::guard::{spilt, Guarded};
 use super::orders::{self, Asked};
 use crate::generate::random::Random;
-use crate::model::image;
+use crate::model::image::{self, ROOM};
 
 extern "C" {
     fn lock_board_empty(image: *mut u8, image_len: usize) -> u64;
@@ -37,7 +37,7 @@ impl Call {
     pub fn plain(line: &[u8]) -> Call {
         Call {
             line: line.to_vec(),
-            journal: 512,
+            journal: ROOM,
             place: 0,
             fill: 1,
         }

@@ -3,7 +3,7 @@
 use super::call::{Call, Outcome};
 use crate::model::board::{Board, Standing, MOST_PASSES};
 use crate::model::image::{REFUSED_1, REFUSED_2};
-use crate::model::journal::{Word, LINE};
+use crate::model::journal::{Word, LINE, REFUSAL, WORD};
 use crate::model::settle::awaited;
 use std::collections::BTreeMap;
 
@@ -80,10 +80,12 @@ impl Counters {
         let (from, to) = (call.place as usize, outcome.answer as usize);
         let lines: Vec<&[u8]> = outcome.journal[from..to].chunks(LINE).collect();
         for line in &lines {
-            self.add(std::str::from_utf8(&line[..6]).unwrap().trim_end());
+            self.add(std::str::from_utf8(&line[WORD]).unwrap().trim_end());
         }
         if lines[0].starts_with(Word::Refuse.text()) {
-            let number = std::str::from_utf8(&lines[0][12..15]).unwrap().trim_start();
+            let number = std::str::from_utf8(&lines[0][REFUSAL])
+                .unwrap()
+                .trim_start();
             self.add(&format!("refusal {number}"));
             if call.line.starts_with(b"CANCEL") {
                 self.add(&format!("cancel refused with {number}"));

@@ -2,7 +2,10 @@
 
 use super::call::{Call, Outcome};
 use super::session::Session;
-use crate::model::image;
+use crate::model::board::PROGRAMS;
+use crate::model::fields;
+use crate::model::image::{self, ROOM};
+use crate::model::journal::LINE;
 
 /// The session's lines, then the expected and the found answer of its last.
 pub fn text(session: &Session, calls_before: usize) -> String {
@@ -44,31 +47,15 @@ fn start(bytes: &[u8]) -> String {
 
 /// What an image's byte belongs to.
 pub fn name(at: usize) -> String {
-    match at {
-        image::LENGTH.. => format!("end + {}", at - image::LENGTH),
-        image::COUNTS.. => format!("count of program {}", at - image::COUNTS + 1),
-        image::LEAVES => "leaves".into(),
-        image::NUMBER => "number at favouring".into(),
-        image::FAVOURED => "favoured".into(),
-        image::ENTRY_LINE.. => format!("entry line {}", at - image::ENTRY_LINE + 1),
-        image::WAITING_LINE.. => format!("waiting line {}", at - image::WAITING_LINE + 1),
-        _ => {
-            let field = match at % image::PROGRAM {
-                image::AWAITED => "awaited",
-                image::STANDING => "standing",
-                image::R.. => "R",
-                image::W.. => "W",
-                image::Q.. => "Q",
-                _ => "V",
-            };
-            format!("program {} {field}", at / image::PROGRAM + 1)
-        }
+    match fields::names(at).pop() {
+        Some(name) => name,
+        None => format!("end + {}", at - image::LENGTH),
     }
 }
 
 fn request(call: &Call) -> String {
     let mut text = format!("  {:?}", call.line.escape_ascii().to_string());
-    if (call.journal, call.place) != (512, 0) {
+    if (call.journal, call.place) != (ROOM, 0) {
         text += &format!("  (journal of {}, place {})", call.journal, call.place);
     }
     text + "\n"
@@ -81,11 +68,11 @@ fn outcome(outcome: &Outcome, call: &Call, before: &[u8]) -> String {
         image::REFUSED_2 => "refusal 2\n".to_string(),
         place => format!("place {place}\n"),
     };
-    let written = outcome.answer.saturating_sub(call.place).min(512) as usize;
+    let written = outcome.answer.saturating_sub(call.place).min(ROOM as u64) as usize;
     let from = call.place.min(outcome.journal.len() as u64) as usize;
     let to = outcome.journal.len().min(from + written);
     if outcome.answer < image::REFUSED_2 {
-        for line in outcome.journal[from..to].chunks(16) {
+        for line in outcome.journal[from..to].chunks(LINE) {
             text += &format!("  {}\n", line.escape_ascii());
         }
     }
@@ -118,13 +105,16 @@ fn digraph(outcome: &Outcome) -> String {
     text
 }
 
+/// The most programs of an order.
+const MOST: u64 = PROGRAMS as u64;
+
 /// The order after the call: each answer, with its buffer.
 fn order(outcome: &Outcome) -> String {
     let mut text = String::new();
     for asked in &outcome.order {
         let (len, below) = (asked.buffer.len(), asked.answer.wrapping_neg());
         text += &match asked.answer {
-            0..=32 => format!(
+            0..=MOST => format!(
                 "  order of {} in {len} bytes: {:?}\n",
                 asked.answer, asked.buffer
             ),

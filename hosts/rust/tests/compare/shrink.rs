@@ -3,6 +3,7 @@
 
 use super::call::Call;
 use super::session::Session;
+use crate::model::board::{FILES, PROGRAMS};
 use crate::model::image;
 
 pub fn shrink(mut session: Session) -> Session {
@@ -71,7 +72,7 @@ fn drop_calls(session: &mut Session) {
 /// Takes single programs out of the image, also out of its lines; with one
 /// less at favouring if that is needed.
 fn drop_programs(session: &mut Session) {
-    for p in 1..=32u8 {
+    for p in 1..=PROGRAMS as u8 {
         let from = image::PROGRAM * usize::from(p - 1);
         let whole = from..from + image::PROGRAM;
         if session.start[whole.clone()].iter().all(|&byte| byte == 0) {
@@ -82,10 +83,10 @@ fn drop_programs(session: &mut Session) {
                 changed.start[whole.clone()].fill(0);
                 changed.start[image::COUNTS + usize::from(p) - 1] = 0;
                 for line in [image::WAITING_LINE, image::ENTRY_LINE] {
-                    let names = &mut changed.start[line..line + 32];
+                    let names = &mut changed.start[line..line + PROGRAMS];
                     if let Some(at) = names.iter().position(|&name| name == p) {
                         names[at..].rotate_left(1);
-                        names[31] = 0;
+                        names[PROGRAMS - 1] = 0;
                     }
                 }
                 let number = &mut changed.start[image::NUMBER];
@@ -97,16 +98,16 @@ fn drop_programs(session: &mut Session) {
 
 /// Takes single files out of all sets of one program, or of all programs.
 fn drop_files(session: &mut Session) {
-    for f in 0..64 {
+    for f in 0..FILES {
         let clear = |start: &mut [u8], p: usize| {
             for set in [image::V, image::Q, image::W, image::R] {
                 start[image::PROGRAM * p + set + f / 8] &= !(1 << (f % 8));
             }
         };
         keep(session, |changed| {
-            (0..32).for_each(|p| clear(&mut changed.start, p))
+            (0..PROGRAMS).for_each(|p| clear(&mut changed.start, p))
         });
-        for p in 0..32 {
+        for p in 0..PROGRAMS {
             keep(session, |changed| clear(&mut changed.start, p));
         }
     }
@@ -114,7 +115,7 @@ fn drop_files(session: &mut Session) {
 
 /// Puts 0 into the image's bytes, whole programs first.
 fn clear_start(session: &mut Session) {
-    for run in [34, 8, 1] {
+    for run in [image::PROGRAM, image::SET, 1] {
         for from in (0..session.start.len()).step_by(run) {
             let to = session.start.len().min(from + run);
             if session.start[from..to].iter().any(|&byte| byte != 0) {

@@ -2,9 +2,12 @@
 //! with what was asked and what stands. The words come from docs/REFUSALS.md.
 
 use super::phrases::{self, files, open, programs, users, uses, Labels};
-use crate::model::board::{members, only, Board, Standing, FILES, PROGRAMS};
+use crate::model::board::{members, only, Board, Files, Standing, FILES, PROGRAMS};
 use crate::model::image::step;
 use crate::model::journal::{columns, Entry, Word};
+use crate::model::line::{claimed, enter_length, BEFORE_FILES, COUNT_R, COUNT_W};
+use crate::model::line::{FILE, LABEL, LONGEST, PROGRAM, VERB};
+use std::ops::Range;
 
 /// The rows of docs/REFUSALS.md, from refusal 1 on: the words, and what to do.
 pub struct Document(Vec<(String, String)>);
@@ -113,7 +116,7 @@ impl Session<'_> {
         let known = self.labels.get(&answer.program);
         let who = known.map_or(String::new(), |label| format!("{label} "));
         let f = answer.file;
-        match &line[..6] {
+        match &line[VERB] {
             b"ENTER " => match label(line) {
                 Some(label) => format!("asked to enter as {label}"),
                 None => "asked to enter".to_string(),
@@ -204,71 +207,78 @@ fn quoted(bytes: &[u8]) -> String {
 
 /// The label of an ENTER without the blanks after it, unless it is all blank.
 fn label(line: &[u8]) -> Option<String> {
-    let label = String::from_utf8_lossy(&line[9..17])
+    let label = String::from_utf8_lossy(&line[LABEL])
         .trim_end_matches(' ')
         .to_string();
     (!label.is_empty()).then_some(label)
 }
 
+/// Columns are counted from 1.
+fn named(field: &Range<usize>) -> String {
+    format!("columns {}-{}", field.start + 1, field.end)
+}
+
 fn verb(line: &[u8]) -> String {
-    let what = match line.len() {
-        0 => return "the line is empty".to_string(),
-        1..=5 => format!("the line has only {}", quoted(line)),
-        _ => format!("columns 1-6 have {}", quoted(&line[..6])),
+    let what = match line.get(VERB) {
+        None if line.is_empty() => return "the line is empty".to_string(),
+        None => format!("the line has only {}", quoted(line)),
+        Some(verb) => format!("{} have {}", named(&VERB), quoted(verb)),
     };
-    what + ", not ENTER, OPEN, CLOSE, DROP, LEAVE or CANCEL, with blanks up to column 6"
+    let verbs = "not ENTER, OPEN, CLOSE, DROP, LEAVE or CANCEL";
+    format!("{what}, {verbs}, with blanks up to column {}", VERB.end)
 }
 
 fn length(line: &[u8]) -> String {
     let found = match line {
-        line if line.len() > 407 => "the line goes beyond column 407".to_string(),
+        line if line.len() > LONGEST => format!("the line goes beyond column {LONGEST}"),
         [.., 13] => format!(
             "the line ends with column {}, a carriage return",
             line.len()
         ),
         line => format!("the line ends with column {}", line.len()),
     };
-    let asked = match &line[..6] {
-        b"LEAVE " => "LEAVE ends with column 9".to_string(),
-        b"CANCEL" => "CANCEL ends with column 9".to_string(),
-        b"ENTER " if line.len() < 23 => "ENTER goes up to column 23 at least".to_string(),
-        b"ENTER " => {
-            let (w, r) = (count(line, 18), count(line, 21));
-            let end = 23 + 3 * (w + r);
+    let verb = String::from_utf8_lossy(&line[VERB]).trim_end().to_string();
+    let asked = match verb.as_str() {
+        "LEAVE" | "CANCEL" => format!("{verb} ends with column {}", PROGRAM.end),
+        "ENTER" if line.len() < BEFORE_FILES => {
+            format!("ENTER goes up to column {BEFORE_FILES} at least")
+        }
+        "ENTER" => {
+            let [w, r] = counts(line);
+            let end = enter_length(w + r);
             format!("ENTER with {w} files to write and {r} to read ends with column {end}")
         }
-        verb => {
-            let verb = String::from_utf8_lossy(verb).trim_end().to_string();
-            format!("{verb} ends with column 12")
-        }
+        _ => format!("{verb} ends with column {}", FILE.end),
     };
     format!("{found}; {asked}")
 }
 
-/// The number in form that begins at a column, counted from 1.
-fn in_form(line: &[u8], column: usize) -> Option<usize> {
-    let field = &line[column - 1..column + 2];
-    (0..1000).find(|&n| columns(n) == *field)
+/// The number in form in these columns.
+fn in_form(line: &[u8], field: &Range<usize>) -> Option<usize> {
+    let (text, width) = (&line[field.clone()], field.len());
+    (0..10usize.pow(width as u32)).find(|&n| columns(n, width) == text)
 }
 
-fn count(line: &[u8], column: usize) -> usize {
-    in_form(line, column).expect("counts were read before")
+/// w and r.
+fn counts(line: &[u8]) -> [usize; 2] {
+    [COUNT_W, COUNT_R].map(|count| in_form(line, &count).expect("counts were read before"))
 }
 
-/// The files of an ENTER with the columns they begin at, those of V and those of Q.
-fn claims(line: &[u8]) -> [Vec<(usize, usize)>; 2] {
+/// A file with the columns in which it stands.
+type Placed = (usize, Range<usize>);
+
+/// The files of an ENTER, those of V and those of Q.
+fn claims(line: &[u8]) -> [Vec<Placed>; 2] {
     let file = |n: usize| {
-        (
-            in_form(line, 24 + 3 * n).expect("files were read"),
-            24 + 3 * n,
-        )
+        let f = in_form(line, &claimed(n)).expect("files were read");
+        (f, claimed(n))
     };
-    let (w, r) = (count(line, 18), count(line, 21));
+    let [w, r] = counts(line);
     [(0..w).map(file).collect(), (w..w + r).map(file).collect()]
 }
 
-fn in_both(line: &[u8]) -> u64 {
-    let set = |files: &Vec<(usize, usize)>| files.iter().fold(0, |set, file| set | only(file.0));
+fn in_both(line: &[u8]) -> Files {
+    let set = |files: &Vec<Placed>| files.iter().fold(0, |set, file| set | only(file.0));
     let both = claims(line)
         .iter()
         .map(set)
@@ -279,25 +289,27 @@ fn in_both(line: &[u8]) -> u64 {
 
 /// The first number from the left that is not in form or range.
 fn number(line: &[u8]) -> String {
-    let mut fields = vec![(7, "program", 1, PROGRAMS)];
+    let mut fields = vec![(PROGRAM, "program", 1, PROGRAMS)];
     if line.starts_with(b"ENTER") {
-        fields.extend([(18, "count", 0, FILES), (21, "count", 0, FILES)]);
-        fields.extend((24..line.len()).step_by(3).map(|at| (at, "file", 1, FILES)));
-    } else if line.len() == 12 {
-        fields.push((10, "file", 1, FILES));
+        fields.extend([COUNT_W, COUNT_R].map(|count| (count, "count", 0, FILES)));
+        let files = (0..).map(claimed).take_while(|file| file.end <= line.len());
+        fields.extend(files.map(|file| (file, "file", 1, FILES)));
+    } else if line.len() == FILE.end {
+        fields.push((FILE, "file", 1, FILES));
     }
-    let bad = |&&(at, _, low, high): &&(usize, &str, usize, usize)| {
-        !in_form(line, at).is_some_and(|n| (low..=high).contains(&n))
+    let bad = |(field, _, low, high): &&(Range<usize>, &str, usize, usize)| {
+        !in_form(line, field).is_some_and(|n| (*low..=*high).contains(&n))
     };
-    let (at, what, low, high) = fields.iter().find(bad).expect("a number is bad");
-    let (end, found) = (at + 2, quoted(&line[at - 1..at + 2]));
-    format!("columns {at}-{end} have {found}, not a {what} from {low} to {high}, right-justified")
+    let (field, what, low, high) = fields.iter().find(bad).expect("a number is bad");
+    let (columns, found) = (named(field), quoted(&line[field.clone()]));
+    format!("{columns} have {found}, not a {what} from {low} to {high}, right-justified")
 }
 
 fn label_byte(line: &[u8]) -> String {
-    let bad = |column: &usize| !(32..=126).contains(&line[column - 1]);
-    let column = (10..=17).find(bad).expect("a byte of the label is bad");
-    format!("column {column} has byte {}", line[column - 1])
+    let bad = |at: &usize| !(32..=126).contains(&line[*at]);
+    let at = LABEL.into_iter().find(bad);
+    let at = at.expect("a byte of the label is bad");
+    format!("column {} has byte {}", at + 1, line[at])
 }
 
 /// The first file that is not above the one before it in its claim.
@@ -307,9 +319,6 @@ fn rising(line: &[u8]) -> String {
     let pair = pairs
         .find(|pair| pair[1].0 <= pair[0].0)
         .expect("files do not rise");
-    let ((before, _), (file, at)) = (pair[0], pair[1]);
-    format!(
-        "columns {at}-{} have file {file} after file {before}",
-        at + 2
-    )
+    let ((before, _), (file, at)) = (&pair[0], &pair[1]);
+    format!("{} have file {file} after file {before}", named(at))
 }

@@ -7,7 +7,7 @@
 use super::lines::text;
 use super::random::Random;
 use super::sessions::{Cast, PROFILES};
-use crate::model::board::{members, only, Board, Standing, MOST_PASSES, PROGRAMS};
+use crate::model::board::{members, only, Board, Standing, FILES, MOST_PASSES, PROGRAMS};
 use crate::model::image::{self, *};
 use crate::model::settle::{awaited, would_give};
 
@@ -85,11 +85,24 @@ fn set_byte(image: &mut Vec<u8>, _: &Board, random: &mut Random) {
 }
 
 fn wrong_length(image: &mut Vec<u8>, _: &Board, random: &mut Random) {
-    const LENGTHS: [usize; 12] = [0, 1, 33, 34, 1088, 1154, 1155, 1156, 1186, 1188, 1221, 2374];
+    const LENGTHS: [usize; 12] = [
+        0,
+        1,
+        PROGRAM - 1,
+        PROGRAM,
+        WAITING_LINE,
+        COUNTS - 1,
+        COUNTS,
+        COUNTS + 1,
+        LENGTH - 1,
+        LENGTH + 1,
+        LENGTH + PROGRAM,
+        2 * LENGTH,
+    ];
     let len = if random.per_mille(500) {
         LENGTHS[random.below(LENGTHS.len())]
     } else {
-        random.below(2400)
+        random.below(2 * LENGTH + 26)
     };
     image.resize(len, 0);
 }
@@ -113,7 +126,7 @@ fn some_program(board: &Board, standing: Standing, random: &mut Random) -> Optio
 }
 
 fn standing_byte(image: &mut Vec<u8>, _: &Board, random: &mut Random) {
-    image[at(random.within(1, 32), STANDING)] = byte(random, 4);
+    image[at(random.within(1, PROGRAMS), STANDING)] = byte(random, 4);
 }
 
 fn awaited_not_zero(image: &mut Vec<u8>, board: &Board, random: &mut Random) {
@@ -128,7 +141,7 @@ fn awaited_range(image: &mut Vec<u8>, board: &Board, random: &mut Random) {
         image[at(p, AWAITED)] = if random.per_mille(500) {
             0
         } else {
-            byte(random, 65)
+            byte(random, FILES + 1)
         };
     }
 }
@@ -144,19 +157,19 @@ fn some_line<'a>(board: &'a Board, random: &mut Random) -> (usize, &'a Vec<usize
 
 fn name_range(image: &mut Vec<u8>, board: &Board, random: &mut Random) {
     let (line, names) = some_line(board, random);
-    image[line + random.within(0, names.len().min(31))] = byte(random, 33);
+    image[line + random.within(0, names.len().min(PROGRAMS - 1))] = byte(random, PROGRAMS + 1);
 }
 
 fn favoured_range(image: &mut Vec<u8>, _: &Board, random: &mut Random) {
-    image[FAVOURED] = byte(random, 33);
+    image[FAVOURED] = byte(random, PROGRAMS + 1);
 }
 
 /// A 0 before a name.
 fn line_gap(image: &mut Vec<u8>, board: &Board, random: &mut Random) {
     let (line, names) = some_line(board, random);
-    if (1..32).contains(&names.len()) {
+    if (1..PROGRAMS).contains(&names.len()) {
         let gap = line + random.below(names.len());
-        image[gap..line + 32].rotate_right(1);
+        image[gap..line + PROGRAMS].rotate_right(1);
     }
 }
 
@@ -164,16 +177,16 @@ fn name_missing(image: &mut Vec<u8>, board: &Board, random: &mut Random) {
     let (line, names) = some_line(board, random);
     if !names.is_empty() {
         let out = line + random.below(names.len());
-        image[out..line + 32].rotate_left(1);
-        image[line + 31] = 0;
+        image[out..line + PROGRAMS].rotate_left(1);
+        image[line + PROGRAMS - 1] = 0;
     }
 }
 
 fn name_twice(image: &mut Vec<u8>, board: &Board, random: &mut Random) {
     let (line, names) = some_line(board, random);
-    if let (Some(p), true) = (random.pick(names), names.len() < 32) {
+    if let (Some(p), true) = (random.pick(names), names.len() < PROGRAMS) {
         let before = line + random.within(0, names.len());
-        image[before..line + 32].rotate_right(1);
+        image[before..line + PROGRAMS].rotate_right(1);
         image[before] = p as u8;
     }
 }
@@ -181,8 +194,8 @@ fn name_twice(image: &mut Vec<u8>, board: &Board, random: &mut Random) {
 /// A name that does not belong in the line.
 fn stranger(image: &mut Vec<u8>, board: &Board, random: &mut Random) {
     let (line, names) = some_line(board, random);
-    let p = random.within(1, 32);
-    if names.len() < 32 && !names.contains(&p) {
+    let p = random.within(1, PROGRAMS);
+    if names.len() < PROGRAMS && !names.contains(&p) {
         image[line + names.len()] = p as u8;
     }
 }
@@ -191,7 +204,7 @@ fn stranger(image: &mut Vec<u8>, board: &Board, random: &mut Random) {
 fn outside_claim(image: &mut Vec<u8>, board: &Board, random: &mut Random) {
     let set = if random.per_mille(500) { W } else { R };
     if let Some(p) = random.pick(&board.admitted()) {
-        add(image, p, set, random.within(1, 64));
+        add(image, p, set, random.within(1, FILES));
     }
 }
 
@@ -206,7 +219,7 @@ fn claims_meet(image: &mut Vec<u8>, board: &Board, random: &mut Random) {
 
 fn absent_with_sets(image: &mut Vec<u8>, board: &Board, random: &mut Random) {
     if let Some(p) = some_program(board, Standing::Absent, random) {
-        let f = random.within(1, 64);
+        let f = random.within(1, FILES);
         let (claim, open) = if random.per_mille(500) {
             (V, W)
         } else {
@@ -278,7 +291,7 @@ fn can_be_given(image: &mut Vec<u8>, board: &Board, random: &mut Random) {
 
 /// Another favoured program, which may be sound.
 fn other_favoured(image: &mut Vec<u8>, board: &Board, random: &mut Random) {
-    image[FAVOURED] = random.within(1, 32) as u8;
+    image[FAVOURED] = random.within(1, PROGRAMS) as u8;
     if board.favoured == 0 {
         image[NUMBER] = board.admitted().len() as u8;
     }
@@ -298,7 +311,11 @@ fn leaves(image: &mut Vec<u8>, _: &Board, random: &mut Random) {
 
 /// Both numbers up by as much: sound while the number is at most 32.
 fn number_and_leaves(image: &mut Vec<u8>, board: &Board, random: &mut Random) {
-    let highest = if random.per_mille(700) { 33 } else { 255 };
+    let highest = if random.per_mille(700) {
+        PROGRAMS + 1
+    } else {
+        255
+    };
     let more = random.below(highest + 1 - board.number.min(highest)) as u8;
     image[NUMBER] = image[NUMBER].wrapping_add(more);
     image[LEAVES] = image[LEAVES].wrapping_add(more);

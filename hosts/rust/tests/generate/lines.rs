@@ -2,16 +2,21 @@
 
 use super::random::Random;
 use crate::compare::call::Call;
+use crate::model::board::FILES;
 use crate::model::events::Request;
-use crate::model::line;
+use crate::model::journal::{file_columns, HIGHEST_PLACE, ROOM};
+use crate::model::line::{self, claimed, BEFORE_FILES, COUNT_R, COUNT_W, FILE, PROGRAM, VERB};
+use std::ops::Range;
 
 /// Bytes at the edges of what fields and labels admit.
 pub const EDGES: [u8; 20] = [
     0, 9, 10, 13, 31, 32, 33, 43, 45, 47, 48, 49, 57, 58, 64, 126, 127, 128, 160, 255,
 ];
 
+const LABEL: usize = line::LABEL.end - line::LABEL.start;
+
 /// A label; now and then of edge bytes.
-pub fn label(random: &mut Random) -> [u8; 8] {
+pub fn label(random: &mut Random) -> [u8; LABEL] {
     let mut label = *b"JOB     ";
     if random.per_mille(300) {
         for byte in &mut label {
@@ -19,7 +24,7 @@ pub fn label(random: &mut Random) -> [u8; 8] {
         }
     }
     if random.per_mille(20) {
-        label[random.below(8)] = EDGES[random.below(EDGES.len())];
+        label[random.below(LABEL)] = EDGES[random.below(EDGES.len())];
     }
     label
 }
@@ -68,14 +73,23 @@ fn lengthen(line: &mut Vec<u8>, random: &mut Random) {
     }
 }
 
-/// Where a three-column field may begin.
-fn field(line: &[u8], random: &mut Random) -> Option<usize> {
-    let starts: Vec<usize> = [6, 9, 17, 20]
-        .into_iter()
-        .chain((23..line.len()).step_by(3))
-        .collect();
-    let at = random.pick(&starts)?;
-    (at + 3 <= line.len()).then_some(at)
+/// Where the number fields may begin, and how many columns they have.
+fn field(line: &[u8], random: &mut Random) -> Option<Range<usize>> {
+    let mut all = vec![PROGRAM, FILE, COUNT_W, COUNT_R];
+    all.extend(
+        (0..)
+            .map(claimed)
+            .take_while(|file| file.start < line.len()),
+    );
+    let field = all.swap_remove(random.below(all.len()));
+    (field.end <= line.len()).then_some(field)
+}
+
+/// Two fields of one width, as far as that of the narrower one goes.
+fn two_fields(line: &[u8], random: &mut Random) -> Option<[Range<usize>; 2]> {
+    let (a, b) = (field(line, random)?, field(line, random)?);
+    let width = a.len().min(b.len());
+    Some([a, b].map(|field| field.end - width..field.end))
 }
 
 /// Numbers out of range and numbers out of form.
@@ -85,32 +99,32 @@ fn change_field(line: &mut [u8], random: &mut Random) {
         b" 64", b" 65", b" 99", b"100", b"128", b"256", b"999", b" -1", b" +1", b"  1", b" 10",
         b"  9", b"\t 1",
     ];
-    if let Some(at) = field(line, random) {
-        line[at..at + 3].copy_from_slice(TEXTS[random.below(TEXTS.len())]);
+    if let Some(field) = field(line, random) {
+        let text = TEXTS[random.below(TEXTS.len())];
+        line[field.clone()].fill(b' ');
+        line[field.end - text.len()..field.end].copy_from_slice(text);
     }
 }
 
 fn swap_fields(line: &mut [u8], random: &mut Random) {
-    if let (Some(a), Some(b)) = (field(line, random), field(line, random)) {
-        for k in 0..3 {
-            line.swap(a + k, b + k);
-        }
+    if let Some([a, b]) = two_fields(line, random) {
+        a.zip(b).for_each(|(a, b)| line.swap(a, b));
     }
 }
 
 fn repeat_field(line: &mut [u8], random: &mut Random) {
-    if let (Some(a), Some(b)) = (field(line, random), field(line, random)) {
-        line.copy_within(a..a + 3, b);
+    if let Some([a, b]) = two_fields(line, random) {
+        line.copy_within(a, b.start);
     }
 }
 
 /// One more or one less in a count of ENTER, with or without its file.
 fn change_count(line: &mut Vec<u8>, random: &mut Random) {
-    let at = 19 + 3 * random.below(2);
-    if line.len() >= 23 {
+    let at = [COUNT_W, COUNT_R][random.below(2)].end - 1;
+    if line.len() >= BEFORE_FILES {
         line[at] = line[at].wrapping_add(if random.per_mille(500) { 1 } else { 255 });
         if random.per_mille(300) {
-            line.extend(b" 64");
+            line.extend(file_columns(FILES));
         }
     }
 }
@@ -136,8 +150,8 @@ fn change_verb(line: &mut [u8], random: &mut Random) {
         b"cancel",
         b"Cancel",
     ];
-    if line.len() >= 6 {
-        line[..6].copy_from_slice(VERBS[random.below(VERBS.len())]);
+    if line.len() >= VERB.end {
+        line[VERB].copy_from_slice(VERBS[random.below(VERBS.len())]);
     }
 }
 
@@ -147,10 +161,10 @@ pub fn call(line: Vec<u8>, random: &mut Random) -> Call {
     let places = if random.per_mille(30) { 3000 } else { 200 };
     let place = random.below(places) as u64;
     let room = match random.below(200) {
-        0 => random.below(512),
-        1 => 511,
-        2..=100 => 512,
-        _ => 512 + random.below(64),
+        0 => random.below(ROOM),
+        1 => ROOM - 1,
+        2..=100 => ROOM,
+        _ => ROOM + random.below(64),
     };
     let mut call = Call {
         line,
@@ -170,11 +184,11 @@ pub fn call(line: Vec<u8>, random: &mut Random) -> Call {
 /// Places around the highest one and up to the largest number.
 pub fn far_place(random: &mut Random) -> u64 {
     let base = [
-        1_000_000_000,
+        HIGHEST_PLACE,
         1 << 31,
         1 << 32,
         1 << 63,
-        u64::MAX - 512,
+        u64::MAX - ROOM as u64,
         u64::MAX,
     ];
     let base = base[random.below(base.len())];

@@ -2,7 +2,7 @@
 //! and waiters that many pass. Programs, files and sizes are random.
 
 use super::random::Random;
-use crate::model::board::{only, Files};
+use crate::model::board::{only, Files, FILES, PROGRAMS};
 use crate::model::events::Request;
 
 pub type Script = fn(&mut Random) -> Vec<Request>;
@@ -20,9 +20,9 @@ pub const SCRIPTS: [Script; 7] = [
 /// How many programs take part; in many cases all.
 fn up_to_all(random: &mut Random) -> usize {
     if random.per_mille(300) {
-        32
+        PROGRAMS
     } else {
-        random.within(4, 32)
+        random.within(4, PROGRAMS)
     }
 }
 
@@ -50,7 +50,7 @@ fn cancel_some(programs: &[usize], random: &mut Random) -> Vec<Request> {
 
 /// Readers wait behind a writer, whose close or leave gives them all.
 fn readers_behind_writer(random: &mut Random) -> Vec<Request> {
-    let (programs, f) = (random.shuffled(32), random.within(1, 64));
+    let (programs, f) = (random.shuffled(PROGRAMS), random.within(1, FILES));
     let (p, readers) = (programs[0], &programs[1..up_to_all(random)]);
     let mut requests = vec![writer(p, only(f)), Request::Open { p, f }];
     requests.extend(open_all(readers, f));
@@ -66,7 +66,7 @@ fn readers_behind_writer(random: &mut Random) -> Vec<Request> {
 /// Readers wait behind a writer that waits for another file. Some of them are
 /// cancelled; the cancel of the writer gives the rest.
 fn readers_behind_waiter(random: &mut Random) -> Vec<Request> {
-    let (programs, files) = (random.shuffled(32), random.shuffled(64));
+    let (programs, files) = (random.shuffled(PROGRAMS), random.shuffled(FILES));
     let (p, user, readers) = (programs[0], programs[1], &programs[2..up_to_all(random)]);
     let (f, other) = (files[0], files[1]);
     let mut requests = vec![
@@ -117,7 +117,7 @@ fn held(programs: &[usize], files: &[usize], random: &mut Random) -> Held {
 /// The leave of the one that writes gives the favoured one its file, and the
 /// held are admitted together.
 fn held_behind_favoured(random: &mut Random) -> Vec<Request> {
-    let mut script = held(&random.shuffled(32), &random.shuffled(64), random);
+    let mut script = held(&random.shuffled(PROGRAMS), &random.shuffled(FILES), random);
     script.requests.push(Request::Leave { p: script.user });
     script.requests.extend(leave_all(&script.held));
     script.requests
@@ -126,7 +126,7 @@ fn held_behind_favoured(random: &mut Random) -> Vec<Request> {
 /// Some of the held are cancelled; the cancel of the favoured one admits the
 /// rest together.
 fn held_behind_cancelled(random: &mut Random) -> Vec<Request> {
-    let mut script = held(&random.shuffled(32), &random.shuffled(64), random);
+    let mut script = held(&random.shuffled(PROGRAMS), &random.shuffled(FILES), random);
     let cancelled = cancel_some(&script.held, random);
     script.requests.extend(cancelled);
     let p = script.favoured;
@@ -138,7 +138,7 @@ fn held_behind_cancelled(random: &mut Random) -> Vec<Request> {
 /// Writers wait while overlapping readers come and go, until the oldest writer
 /// is favoured in place of the next reader; then all leave.
 fn writers_behind_a_stream(random: &mut Random) -> Vec<Request> {
-    let (programs, f) = (random.shuffled(32), random.within(1, 64));
+    let (programs, f) = (random.shuffled(PROGRAMS), random.within(1, FILES));
     let several = random.below(2) * random.within(1, 3);
     let (writers, readers) = programs.split_at(1 + several);
     let mut requests = open_all(&readers[..1], f);
@@ -157,8 +157,8 @@ fn writers_behind_a_stream(random: &mut Random) -> Vec<Request> {
 /// The held ones are admitted until they have passed another waiter, which waits
 /// for a file that is read; with its reader's leave the rest are admitted.
 fn held_beside_a_waiter(random: &mut Random) -> Vec<Request> {
-    let (programs, files) = (random.shuffled(32), random.shuffled(64));
-    let (reader, p, f) = (programs[0], programs[1], files[63]);
+    let (programs, files) = (random.shuffled(PROGRAMS), random.shuffled(FILES));
+    let (reader, p, f) = (programs[0], programs[1], files[FILES - 1]);
     let mut requests = open_all(&[reader], f);
     requests.extend([writer(p, only(f)), Request::Open { p, f }]);
     let script = held(&programs[2..], &files, random);
@@ -173,7 +173,7 @@ fn held_beside_a_waiter(random: &mut Random) -> Vec<Request> {
 /// favoured in place of the next one. With the leave of the other program that
 /// claims its file it gets that file.
 fn many_beside_a_waiter(random: &mut Random) -> Vec<Request> {
-    let (programs, files) = (random.shuffled(32), random.shuffled(64));
+    let (programs, files) = (random.shuffled(PROGRAMS), random.shuffled(FILES));
     let (user, p, others) = (programs[0], programs[1], &programs[2..up_to_all(random)]);
     let (a, b) = (files[0], files[1]);
     let mut requests = vec![

@@ -2,7 +2,7 @@
 //! deep states. Each profile stresses other parts of the board.
 
 use super::random::Random;
-use crate::model::board::{members, only, Board, Files, Program, Standing};
+use crate::model::board::{members, only, Board, Files, Program, Standing, FILES, PROGRAMS};
 use crate::model::events::Request;
 
 pub struct Profile {
@@ -103,9 +103,9 @@ pub struct Cast<'a> {
 
 impl<'a> Cast<'a> {
     pub fn new(profile: &'a Profile, random: &mut Random) -> Cast<'a> {
-        let mut programs = random.shuffled(32);
+        let mut programs = random.shuffled(PROGRAMS);
         programs.truncate(profile.programs);
-        let mut files = random.shuffled(64);
+        let mut files = random.shuffled(FILES);
         files.truncate(profile.files);
         Cast {
             profile,
@@ -215,7 +215,7 @@ impl<'a> Cast<'a> {
 
 /// A request in range that takes no look at the board. V and Q may meet.
 pub fn wild(random: &mut Random) -> Request {
-    let (p, f) = (random.within(1, 32), random.within(1, 64));
+    let (p, f) = (random.within(1, PROGRAMS), random.within(1, FILES));
     match random.below(7) {
         0 => Request::Enter {
             p,
@@ -225,7 +225,7 @@ pub fn wild(random: &mut Random) -> Request {
         1 => Request::Enter {
             p,
             v: only(f),
-            q: only(random.within(1, 64)),
+            q: only(random.within(1, FILES)),
         },
         2 => Request::Open { p, f },
         3 => Request::Close { p, f },

@@ -5,6 +5,7 @@ use super::lines;
 use super::numbers::astray;
 use super::random::Random;
 use crate::model::board::{only, Files, FILES, PROGRAMS};
+use crate::model::line::{BEFORE_FILES, LONGEST};
 use crate::model::writer::Writing;
 
 /// Verbs, numbers in range in most cases, claims and a label. What the verb
@@ -28,7 +29,7 @@ pub fn writing(random: &mut Random) -> Writing {
     }
 }
 
-/// Claims of any size; they meet in many cases, and are all 64 files in some.
+/// Claims of any size; they meet in many cases, and are all files in some.
 pub fn claims(random: &mut Random) -> (Files, Files) {
     let v = claim(random);
     let q = claim(random);
@@ -72,13 +73,15 @@ pub fn label(random: &mut Random) -> Vec<u8> {
 
 /// A buffer, in most cases about as long as the line, filled with any bytes.
 pub fn buffer(writing: &Writing, random: &mut Random) -> Vec<u8> {
-    let line = writing.line(usize::MAX).map_or(23, |line| line.len());
+    let line = writing
+        .line(usize::MAX)
+        .map_or(BEFORE_FILES, |line| line.len());
     let len = match random.below(8) {
         0 | 1 => line,
         2 => line - 1,
         3 => line + random.below(4),
         4 => random.below(line + 1),
-        5 => random.below(420),
+        5 => random.below(LONGEST + 13),
         6 => line + random.below(600),
         _ => line + 3,
     };

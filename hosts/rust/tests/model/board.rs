@@ -2,10 +2,7 @@
 //! back, and the board that keeps them with its two lines and the waiters'
 //! counts of document 02.
 
-pub const PROGRAMS: usize = 32;
-pub const FILES: usize = 64;
-/// "No waiter has been passed by more than 8 admissions."
-pub const MOST_PASSES: usize = 8;
+pub use super::layout::{FILES, MOST_PASSES, PROGRAMS};
 
 /// A set of files; file 1 is the lowest bit.
 pub type Files = u64;

@@ -4,8 +4,8 @@
 use super::board::{only, Board, Standing, FILES, PROGRAMS};
 use super::image::{REFUSED_1, REFUSED_17, REFUSED_8};
 
-/// The matrix as bytes: for each program a number of 32 bits.
-pub const REACH: usize = 128;
+/// The matrix as bytes: for each program a number with a bit for each.
+pub const REACH: usize = PROGRAMS * PROGRAMS / 8;
 /// The room for any loop.
 pub const LOOP: usize = PROGRAMS;
 

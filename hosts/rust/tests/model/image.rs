@@ -1,38 +1,19 @@
-//! "Image and hosts": the board as 1,187 bytes, and the C host's line call.
+//! "Image and hosts": the board as bytes, and the C host's line call.
 
-use super::board::{Board, Program, Standing, FILES, PROGRAMS};
+use super::board::{Board, Files, Program, Standing, FILES, PROGRAMS};
 use super::events;
 use super::journal::Entry;
 use super::line;
 use super::sound::{self, Fault};
 
-/// "The image gains 32 count bytes at its end, 1,187 in all".
-pub const LENGTH: usize = 1187;
-/// Bytes of one program, and where its fields begin in them.
-pub const PROGRAM: usize = 34;
-pub const V: usize = 0;
-pub const Q: usize = 8;
-pub const W: usize = 16;
-pub const R: usize = 24;
-pub const STANDING: usize = 32;
-pub const AWAITED: usize = 33;
-/// Where the rest of the image begins.
-pub const WAITING_LINE: usize = PROGRAM * PROGRAMS;
-pub const ENTRY_LINE: usize = WAITING_LINE + 32;
-pub const FAVOURED: usize = ENTRY_LINE + 32;
-pub const NUMBER: usize = FAVOURED + 1;
-pub const LEAVES: usize = NUMBER + 1;
-pub const COUNTS: usize = LEAVES + 1;
+pub use super::layout::image::*;
+pub use super::layout::journal::{HIGHEST_PLACE, ROOM};
 
 /// Answers for refusals: 2^64 less the number.
 pub const REFUSED_1: u64 = u64::MAX;
 pub const REFUSED_2: u64 = u64::MAX - 1;
 pub const REFUSED_8: u64 = u64::MAX - 7;
 pub const REFUSED_17: u64 = u64::MAX - 16;
-
-/// The highest place, and the room that a call must find from the place on.
-pub const HIGHEST_PLACE: u64 = 1_000_000_000;
-pub const ROOM: u64 = 512;
 
 pub fn write(board: &Board) -> Vec<u8> {
     let mut image = Vec::with_capacity(LENGTH);
@@ -50,7 +31,7 @@ pub fn write(board: &Board) -> Vec<u8> {
         image.extend([standing, awaited]);
     }
     for line in [&board.waiting, &board.entry] {
-        let end = image.len() + 32;
+        let end = image.len() + PROGRAMS;
         image.extend(line.iter().map(|&p| p as u8));
         image.resize(end, 0);
     }
@@ -115,7 +96,7 @@ pub fn parts(image: &[u8]) -> (Board, Vec<Fault>, Vec<Fault>) {
 }
 
 fn program(bytes: &[u8], broken: &mut Vec<Fault>) -> Program {
-    let set = |at: usize| u64::from_le_bytes(bytes[at..at + 8].try_into().unwrap());
+    let set = |at: usize| Files::from_le_bytes(bytes[at..at + SET].try_into().unwrap());
     let awaited = usize::from(bytes[AWAITED]);
     let standing = match bytes[STANDING] {
         0 => Standing::Absent,
@@ -162,7 +143,7 @@ pub fn line_call(image: &mut [u8], request: &[u8], journal: &mut [u8], place: u6
     let Ok(board) = read(image) else {
         return REFUSED_1;
     };
-    if place > HIGHEST_PLACE || place + ROOM > journal.len() as u64 {
+    if place > HIGHEST_PLACE || place + ROOM as u64 > journal.len() as u64 {
         return REFUSED_2;
     }
     let (after, lines) = step(&board, request);

@@ -1,7 +1,7 @@
 //! "Journal": its words and lines.
 
-/// The bytes of one line.
-pub const LINE: usize = 16;
+pub use super::layout::journal::*;
+use super::layout::{FILE_COLUMNS, PROGRAM_COLUMNS, REFUSAL_COLUMNS};
 
 #[derive(Clone, Copy, PartialEq, Eq, PartialOrd, Ord, Debug)]
 pub enum Word {
@@ -68,20 +68,31 @@ impl Entry {
         }
     }
 
-    /// 15 columns and byte 10.
+    /// The columns and byte 10.
     pub fn bytes(&self) -> Vec<u8> {
         let mut line = self.word.text().to_vec();
-        line.extend(columns(self.program));
-        line.extend(columns(self.file));
-        line.extend(columns(self.refusal));
+        line.extend(program_columns(self.program));
+        line.extend(file_columns(self.file));
+        line.extend(columns(self.refusal, REFUSAL_COLUMNS));
         line.push(10);
+        assert_eq!(line.len(), LINE);
         line
     }
 }
 
-/// A number under 1,000 right-justified in three columns, blanks before.
-pub fn columns(n: usize) -> [u8; 3] {
-    let digit = |unit: usize| b'0' + (n / unit % 10) as u8;
-    let blank = |unit: usize| if n < unit { b' ' } else { digit(unit) };
-    [blank(100), blank(10), digit(1)]
+/// A number right-justified in its columns, blanks before.
+pub fn columns(n: usize, width: usize) -> Vec<u8> {
+    let text = format!("{n:>width$}").into_bytes();
+    assert_eq!(text.len(), width, "{n} is too long");
+    text
+}
+
+/// A program in its columns.
+pub fn program_columns(p: usize) -> Vec<u8> {
+    columns(p, PROGRAM_COLUMNS)
+}
+
+/// A file, or a count of files, in its columns.
+pub fn file_columns(f: usize) -> Vec<u8> {
+    columns(f, FILE_COLUMNS)
 }

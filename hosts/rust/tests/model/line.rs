@@ -3,13 +3,15 @@
 
 use super::board::{members, only, Files, FILES, PROGRAMS};
 use super::events::Request;
-use super::journal::columns;
+use super::journal::{columns, file_columns, program_columns};
+pub use super::layout::line::*;
+use super::layout::FILE_COLUMNS;
 
-/// A number right-justified in three columns, within a range.
+/// A number right-justified in its columns, within a range.
 fn number(field: &[u8], low: usize, high: usize) -> Result<usize, usize> {
     let digits = |text: &str| text.trim_start_matches(' ').parse::<usize>().ok();
     match std::str::from_utf8(field).ok().and_then(digits) {
-        Some(n) if (low..=high).contains(&n) && columns(n) == *field => Ok(n),
+        Some(n) if (low..=high).contains(&n) && columns(n, field.len()) == field => Ok(n),
         _ => Err(5),
     }
 }
@@ -17,7 +19,7 @@ fn number(field: &[u8], low: usize, high: usize) -> Result<usize, usize> {
 /// The request of a line, or its refusal. Document 02: "CANCEL is a sixth verb,
 /// with a 9-byte line."
 pub fn read(line: &[u8]) -> Result<Request, usize> {
-    match line.get(..6).ok_or(3usize)? {
+    match line.get(VERB).ok_or(3usize)? {
         b"ENTER " => enter(line),
         b"OPEN  " => program_and_file(line).map(|(p, f)| Request::Open { p, f }),
         b"CLOSE " => program_and_file(line).map(|(p, f)| Request::Close { p, f }),
@@ -28,39 +30,39 @@ pub fn read(line: &[u8]) -> Result<Request, usize> {
     }
 }
 
-/// The program of a line of 9 bytes.
+/// The program of a line that ends with it.
 fn program(line: &[u8]) -> Result<usize, usize> {
-    if line.len() != 9 {
+    if line.len() != PROGRAM.end {
         return Err(4);
     }
-    number(&line[6..9], 1, PROGRAMS)
+    number(&line[PROGRAM], 1, PROGRAMS)
 }
 
-/// The program and the file of a line of 12 bytes.
+/// The program and the file of a line that ends with this.
 fn program_and_file(line: &[u8]) -> Result<(usize, usize), usize> {
-    if line.len() != 12 {
+    if line.len() != FILE.end {
         return Err(4);
     }
-    let p = number(&line[6..9], 1, PROGRAMS)?;
-    Ok((p, number(&line[9..12], 1, FILES)?))
+    let p = number(&line[PROGRAM], 1, PROGRAMS)?;
+    Ok((p, number(&line[FILE], 1, FILES)?))
 }
 
 /// ENTER, left to right: program, label, w, r, then the length, then the files.
 fn enter(line: &[u8]) -> Result<Request, usize> {
-    if line.len() < 23 {
+    if line.len() < BEFORE_FILES {
         return Err(4);
     }
-    let p = number(&line[6..9], 1, PROGRAMS)?;
-    if !is_label(&line[9..17]) {
+    let p = number(&line[PROGRAM], 1, PROGRAMS)?;
+    if !is_label(&line[LABEL]) {
         return Err(6);
     }
-    let w = number(&line[17..20], 0, FILES)?;
-    let r = number(&line[20..23], 0, FILES)?;
-    if line.len() != 23 + 3 * (w + r) {
+    let w = number(&line[COUNT_W], 0, FILES)?;
+    let r = number(&line[COUNT_R], 0, FILES)?;
+    if line.len() != enter_length(w + r) {
         return Err(4);
     }
     let mut files = Vec::new();
-    for field in line[23..].chunks(3) {
+    for field in line[BEFORE_FILES..].chunks(FILE_COLUMNS) {
         files.push(number(field, 1, FILES)?);
     }
     let (v, q) = files.split_at(w);
@@ -71,9 +73,9 @@ fn enter(line: &[u8]) -> Result<Request, usize> {
     })
 }
 
-/// Eight bytes, none outside 32 to 126.
+/// Of the label's length, and no byte outside 32 to 126.
 pub fn is_label(bytes: &[u8]) -> bool {
-    bytes.len() == 8 && bytes.iter().all(|byte| (32..=126).contains(byte))
+    bytes.len() == LABEL.len() && bytes.iter().all(|byte| (32..=126).contains(byte))
 }
 
 /// The set of one group, whose files must rise strictly.
@@ -88,7 +90,7 @@ fn group(files: &[usize]) -> Result<Files, usize> {
 /// another verb or a refused line that part is empty."
 pub fn label(line: &[u8]) -> &[u8] {
     match read(line) {
-        Ok(Request::Enter { .. }) => &line[9..17],
+        Ok(Request::Enter { .. }) => &line[LABEL],
         _ => &[],
     }
 }
@@ -105,15 +107,15 @@ pub fn write(request: &Request, label: &[u8]) -> Vec<u8> {
     };
     let (p, f) = request.numbers();
     let mut line = verb.to_vec();
-    line.extend(columns(p));
+    line.extend(program_columns(p));
     if let Request::Enter { v, q, .. } = *request {
         line.extend(label);
         let (v, q) = (members(v), members(q));
-        line.extend(columns(v.len()));
-        line.extend(columns(q.len()));
-        line.extend(v.into_iter().chain(q).flat_map(columns));
+        line.extend(file_columns(v.len()));
+        line.extend(file_columns(q.len()));
+        line.extend(v.into_iter().chain(q).flat_map(file_columns));
     } else if f != 0 {
-        line.extend(columns(f));
+        line.extend(file_columns(f));
     }
     line
 }

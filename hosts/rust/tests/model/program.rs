@@ -2,10 +2,11 @@
 
 use super::board::Board;
 use super::image::step;
-use super::journal::{columns, Entry};
+use super::journal::{program_columns, Entry};
+use super::line::{CUT, LONGEST};
 use super::order;
 
-/// The request lines of an input, a long one cut to its first 408 bytes.
+/// The request lines of an input, a long one cut.
 pub fn requests(input: &[u8]) -> Vec<&[u8]> {
     let mut lines: Vec<&[u8]> = input.split(|&byte| byte == 10).collect();
     if lines.last().is_some_and(|last| last.is_empty()) {
@@ -13,7 +14,10 @@ pub fn requests(input: &[u8]) -> Vec<&[u8]> {
     }
     lines
         .into_iter()
-        .map(|line| if line.len() > 407 { &line[..408] } else { line })
+        .map(|line| match line.len() > LONGEST {
+            true => &line[..CUT],
+            false => line,
+        })
         .collect()
 }
 
@@ -26,7 +30,7 @@ pub fn output(input: &[u8]) -> Vec<u8> {
     }
     let order = order::carried(&board).expect("a board after calls has an order");
     out.extend(b"ORDER ");
-    out.extend(order.into_iter().flat_map(columns));
+    out.extend(order.into_iter().flat_map(program_columns));
     out.push(10);
     out
 }

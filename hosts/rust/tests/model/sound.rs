@@ -1,7 +1,7 @@
 //! "A sound board": every clause that a board breaks, each under its own name.
 //! The layout's faults stand in the same list, and those of 02's counts.
 
-use super::board::{only, Board, Program, Standing, MOST_PASSES};
+use super::board::{only, Board, Program, Standing, MOST_PASSES, PROGRAMS};
 use super::order;
 use super::settle::would_give;
 
@@ -158,7 +158,7 @@ fn favouring(board: &Board, found: &mut Vec<Fault>) {
     );
     let sum = board.leaves + board.admitted().len();
     check(sum == board.number, Fault::SumWrong);
-    check(board.number <= 32, Fault::NumberAbove32);
+    check(board.number <= PROGRAMS, Fault::NumberAbove32);
 }
 
 /// "A sound board has no count above 8, and 0 for all who aren't waiting."
