@@ -96,7 +96,7 @@ verb-found v l e = first-same (λ u. same (take wordWidth l) (verbColumns u)) (�
 -- ---- fields
 
 pub program-columns : (p : ℕ) → 1 ≤ p → p ≤ 32 → programIn (columnsOf programWidth p) ≡ Field.Number p
-program-columns p h k = let m : p < 1000 = omega arith in number-columns programWidth 1 32 p (omega arith) m h k
+program-columns p h k = let m : 32 < 10 ^ programWidth = omega arith in number-columns programWidth 1 32 p (omega arith) (omega arith) h k
 
 -- files, and counts of files, have room in their columns
 file-fits : (f : ℕ) → f ≤ 64 → f < 10 ^ fileWidth

@@ -55,7 +55,7 @@ open-place Read i h = omega arith
 
 -- the four sets of one program are written
 abbrev pub putSets : List ℕ → ℕ → Program → List ℕ
-putSets l i q = set (set (set (set l i (q .writable .bits)) (32 + i) (q .readable .bits)) (64 + i) (q .writing .bits)) (96 + i)
+putSets l i q = set (set (set (set l i (q .writable .bits)) (claimPlace Read i) (q .readable .bits)) (openPlace Write i) (q .writing .bits)) (openPlace Read i)
     (q .reading .bits)
 
 module _ (b : Board) (i : ℕ) (l : List ℕ) (q : Program) (h : i < 32) (n : length l ≡ 128) (e : q ≡ inPlace b i) where
@@ -63,33 +63,33 @@ module _ (b : Board) (i : ℕ) (l : List ℕ) (q : Program) (h : i < 32) (n : le
   l₁ = set l i (q .writable .bits)
 
   abbrev l₂ : List ℕ
-  l₂ = set l₁ (32 + i) (q .readable .bits)
+  l₂ = set l₁ (claimPlace Read i) (q .readable .bits)
 
   abbrev l₃ : List ℕ
-  l₃ = set l₂ (64 + i) (q .writing .bits)
+  l₃ = set l₂ (openPlace Write i) (q .writing .bits)
 
   n₁ : length l₁ ≡ 128
   n₁ = length-set l i (q .writable .bits) ∙ n
 
   n₂ : length l₂ ≡ 128
-  n₂ = length-set l₁ (32 + i) (q .readable .bits) ∙ n₁
+  n₂ = length-set l₁ (claimPlace Read i) (q .readable .bits) ∙ n₁
 
   n₃ : length l₃ ≡ 128
-  n₃ = length-set l₂ (64 + i) (q .writing .bits) ∙ n₂
+  n₃ = length-set l₂ (openPlace Write i) (q .writing .bits) ∙ n₂
 
-  last : (k : ℕ) → k ≢ 96 + i → getD (putSets l i q) k 0 ≡ getD l₃ k 0
-  last k d = getD-set-other l₃ (96 + i) k (q .reading .bits) 0 d
+  last : (k : ℕ) → k ≢ openPlace Read i → getD (putSets l i q) k 0 ≡ getD l₃ k 0
+  last k d = getD-set-other l₃ (openPlace Read i) k (q .reading .bits) 0 d
 
-  third : (k : ℕ) → k ≢ 64 + i → getD l₃ k 0 ≡ getD l₂ k 0
-  third k d = getD-set-other l₂ (64 + i) k (q .writing .bits) 0 d
+  third : (k : ℕ) → k ≢ openPlace Write i → getD l₃ k 0 ≡ getD l₂ k 0
+  third k d = getD-set-other l₂ (openPlace Write i) k (q .writing .bits) 0 d
 
-  second : (k : ℕ) → k ≢ 32 + i → getD l₂ k 0 ≡ getD l₁ k 0
-  second k d = getD-set-other l₁ (32 + i) k (q .readable .bits) 0 d
+  second : (k : ℕ) → k ≢ claimPlace Read i → getD l₂ k 0 ≡ getD l₁ k 0
+  second k d = getD-set-other l₁ (claimPlace Read i) k (q .readable .bits) 0 d
 
   one : (k : ℕ) → k ≢ i → getD l₁ k 0 ≡ getD l k 0
   one k d = getD-set-other l i k (q .writable .bits) 0 d
 
-  elsewhere : (k : ℕ) → k ≢ 96 + i → k ≢ 64 + i → k ≢ 32 + i → k ≢ i → getD (putSets l i q) k 0 ≡ getD l k 0
+  elsewhere : (k : ℕ) → k ≢ openPlace Read i → k ≢ openPlace Write i → k ≢ claimPlace Read i → k ≢ i → getD (putSets l i q) k 0 ≡ getD l k 0
   elsewhere k x y z u = last k x ∙ third k y ∙ second k z ∙ one k u
 
   -- at its own places
@@ -98,13 +98,13 @@ module _ (b : Board) (i : ℕ) (l : List ℕ) (q : Program) (h : i < 32) (n : le
   mine Write = (
     last i (omega arith) ∙ third i (omega arith) ∙ second i (omega arith) ∙ getD-set-same l i (q .writable .bits) 0 (omega arith)
         ∙ ap (λ (x : Program). x .writable .bits) e,
-    last (64 + i) (omega arith) ∙ getD-set-same l₂ (64 + i) (q .writing .bits) 0 (omega (arith, n₂))
+    last (openPlace Write i) (omega arith) ∙ getD-set-same l₂ (openPlace Write i) (q .writing .bits) 0 (omega (arith, n₂))
         ∙ ap (λ (x : Program). x .writing .bits) e,
   )
   mine Read = (
-    last (32 + i) (omega arith) ∙ third (32 + i) (omega arith) ∙ getD-set-same l₁ (32 + i) (q .readable .bits) 0 (omega (arith, n₁))
+    last (claimPlace Read i) (omega arith) ∙ third (claimPlace Read i) (omega arith) ∙ getD-set-same l₁ (claimPlace Read i) (q .readable .bits) 0 (omega (arith, n₁))
         ∙ ap (λ (x : Program). x .readable .bits) e,
-    getD-set-same l₃ (96 + i) (q .reading .bits) 0 (omega (arith, n₃)) ∙ ap (λ (x : Program). x .reading .bits) e,
+    getD-set-same l₃ (openPlace Read i) (q .reading .bits) 0 (omega (arith, n₃)) ∙ ap (λ (x : Program). x .reading .bits) e,
   )
 
   -- and at those of a program before it
@@ -112,11 +112,11 @@ module _ (b : Board) (i : ℕ) (l : List ℕ) (q : Program) (h : i < 32) (n : le
       × (getD (putSets l i q) (openPlace m k) 0 ≡ getD l (openPlace m k) 0)
   before k z Write = (
     elsewhere k (omega arith) (omega arith) (omega arith) (omega arith),
-    elsewhere (64 + k) (omega arith) (omega arith) (omega arith) (omega arith),
+    elsewhere (openPlace Write k) (omega arith) (omega arith) (omega arith) (omega arith),
   )
   before k z Read = (
-    elsewhere (32 + k) (omega arith) (omega arith) (omega arith) (omega arith),
-    elsewhere (96 + k) (omega arith) (omega arith) (omega arith) (omega arith),
+    elsewhere (claimPlace Read k) (omega arith) (omega arith) (omega arith) (omega arith),
+    elsewhere (openPlace Read k) (omega arith) (omega arith) (omega arith) (omega arith),
   )
 
   pub sets-more : SetsTo b i l → SetsTo b (i + 1) (putSets l i q)
@@ -125,7 +125,7 @@ module _ (b : Board) (i : ℕ) (l : List ℕ) (q : Program) (h : i < 32) (n : le
       (λ t. let z : k ≢ i = eqb-false k i t in let r = f k (omega arith) d in let w = before k (omega arith) d in (w .0 ∙ r .0, w .1 ∙ r .1))
 
   pub put-length : length (putSets l i q) ≡ 128
-  put-length = length-set l₃ (96 + i) (q .reading .bits) ∙ n₃
+  put-length = length-set l₃ (openPlace Read i) (q .reading .bits) ∙ n₃
 
 -- ---- the sets of a board
 
@@ -154,14 +154,14 @@ module _ (b : Board) where
   unfolding setsOf
   in-sets i h Write = (
     in-first (claimOf Write) _ i h,
-    after-first (claimOf Write) _ (64 + i) (32 + i) (omega arith) ∙ after-first (claimOf Read) _ (32 + i) i refl
+    after-first (claimOf Write) _ (openPlace Write i) (claimPlace Read i) (omega arith) ∙ after-first (claimOf Read) _ (claimPlace Read i) i refl
         ∙ in-first (openOf Write) _ i h,
   )
   in-sets i h Read = (
-    after-first (claimOf Write) _ (32 + i) i refl ∙ in-first (claimOf Read) _ i h,
-    after-first (claimOf Write) _ (96 + i) (64 + i) (omega arith)
-        ∙ after-first (claimOf Read) _ (64 + i) (32 + i) (omega arith)
-        ∙ after-first (openOf Write) _ (32 + i) i refl ∙ in-column (openOf Read) i h,
+    after-first (claimOf Write) _ (claimPlace Read i) i refl ∙ in-first (claimOf Read) _ i h,
+    after-first (claimOf Write) _ (openPlace Read i) (openPlace Write i) (omega arith)
+        ∙ after-first (claimOf Read) _ (openPlace Write i) (claimPlace Read i) (omega arith)
+        ∙ after-first (openOf Write) _ (claimPlace Read i) i refl ∙ in-column (openOf Read) i h,
   )
 
   pub sets-of : SetsOf b (setsOf b)
