@@ -133,7 +133,8 @@ fed-line b line j (x ∷ l) n h e k =
     rw (z, t, append-nil line, take-all cutLine line h))
     (λ t.
     let z : n ≡ suc (length (firstLine l)) = rw t at e in
-    rw (z, t) (fed-line b (take cutLine (line ++ (x ∷ []))) j l (length (firstLine l)) (omega (arith, length-take cutLine (line ++ (x ∷ [])))) refl (omega arith)
+    rw (z, t) (fed-line b (take cutLine (line ++ (x ∷ []))) j l (length (firstLine l))
+    (omega (arith, length-take cutLine (line ++ (x ∷ [])))) refl (omega arith)
     ∙ rw (cut-twice cutLine (line ++ (x ∷ [])) (take (length (firstLine l)) l), append-assoc line (x ∷ []) (take (length (firstLine l)) l))))
 
 -- the same in a part of the input, where the line begins at one place and ends at another
@@ -212,16 +213,19 @@ module _ (ps : List ℕ) (i : ℕ) where
       e ∙ rw (names-on ps i h ne, add-one i, take-suc ps i 0 h) (sym (append-assoc (take i ps) (getD ps i 0 ∷ []) (names (drop (suc i) ps))))
 
   -- no name is left
-  pub names-done : (out₀ out : List ℕ) → i ≤ length ps → wordWidth + programWidth * i ≤ length out₀ → names (drop i ps) ≡ [] → names ps ≡ take i ps ++ names (drop i ps)
+  pub names-done : (out₀ out : List ℕ) → i ≤ length ps → wordWidth + programWidth * i ≤ length out₀
+      → names (drop i ps) ≡ [] → names ps ≡ take i ps ++ names (drop i ps)
       → out ≡ take wordWidth out₀ ++ flat (columnsOf programWidth) (take i ps) ++ drop (wordWidth + programWidth * i) out₀
       → take (wordWidth + programWidth * i) out ≡ take wordWidth out₀ ++ flat (columnsOf programWidth) (names ps)
   names-done out₀ out h room e k eo =
       let l : length (take i ps) ≡ i = omega (arith, length-take i ps) in
-      let f : length (flat (columnsOf programWidth) (take i ps)) ≡ programWidth * i = flat-length (columnsOf programWidth) programWidth (columns-length programWidth) (take i ps) ∙ ap (λ (n : ℕ). programWidth * n) l in
+      let f : length (flat (columnsOf programWidth) (take i ps)) ≡ programWidth * i =
+      flat-length (columnsOf programWidth) programWidth (columns-length programWidth) (take i ps) ∙ ap (λ (n : ℕ). programWidth * n) l in
       let p : length (take wordWidth out₀ ++ flat (columnsOf programWidth) (take i ps)) ≡ wordWidth + programWidth * i =
       omega (arith, length-append (take wordWidth out₀) (flat (columnsOf programWidth) (take i ps)), length-take wordWidth out₀, f) in
       let n : names ps ≡ take i ps = k ∙ rw e (append-nil (take i ps)) in
-      rw (eo, n) (take-at (take wordWidth out₀ ++ flat (columnsOf programWidth) (take i ps)) (drop (wordWidth + programWidth * i) out₀) (wordWidth + programWidth * i) p)
+      rw (eo, n) (take-at (take wordWidth out₀ ++ flat (columnsOf programWidth) (take i ps)) (drop (wordWidth + programWidth * i) out₀)
+      (wordWidth + programWidth * i) p)
 
 -- the word, the programs and byte 10
 pub order-is : (ps out₀ with-word out : List ℕ) (n : ℕ) → with-word ≡ take wordWidth orderWord ++ drop wordWidth out₀

@@ -30,7 +30,8 @@ use Rattle.request.specs.Requests.{asking, taken, requestCall, begins, p
 use Rattle.request.specs.Requests.{labelByte, labelPart, filesIn, rises, setOf, entryFiles, entryCounts, entryLine, fileLine, aloneLine}
 use Rattle.request.specs.Requests.{readAs, verbOf, requestOf, hasLabel, isEntry, labelOf, filesOf, filesColumns, askedBy, lineAs, lineFor, lineOf}
 use Rattle.request.specs.Law.{IsLabel, RangeAs, InRange, saying, TakenWith, AsksFor, LineLaw, SayingLaw, LabelLaw}
-use Rattle.request.proofs.Verbs.{AskedBack, verb-good, verb-length, ProperAs, call-good, line-begins, verb-found, program-columns, file-columns, count-columns}
+use Rattle.request.proofs.Verbs.{AskedBack, verb-good, verb-length, ProperAs, call-good, line-begins, verb-found}
+use Rattle.request.proofs.Verbs.{program-columns, file-columns, count-columns}
 use Rattle.request.proofs.Laws.{entry-good, counts-good, file-good, alone-good}
 use Rattle.request.proofs.Groups.{set-bits, files-files, files-rise, files-length, set-back, list-back, columns-back, files-read}
 

@@ -102,7 +102,8 @@ module _ (b : Board) (i : ℕ) (l : List ℕ) (q : Program) (h : i < 32) (n : le
         ∙ ap (λ (x : Program). x .writing .bits) e,
   )
   mine Read = (
-    last (claimPlace Read i) (omega arith) ∙ third (claimPlace Read i) (omega arith) ∙ getD-set-same l₁ (claimPlace Read i) (q .readable .bits) 0 (omega (arith, n₁))
+    last (claimPlace Read i) (omega arith) ∙ third (claimPlace Read i) (omega arith)
+        ∙ getD-set-same l₁ (claimPlace Read i) (q .readable .bits) 0 (omega (arith, n₁))
         ∙ ap (λ (x : Program). x .readable .bits) e,
     getD-set-same l₃ (openPlace Read i) (q .reading .bits) 0 (omega (arith, n₃)) ∙ ap (λ (x : Program). x .reading .bits) e,
   )

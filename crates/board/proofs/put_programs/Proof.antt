@@ -45,8 +45,8 @@ loop-again c =
       omega arith,
       omega arith,
       same-len-mid (l .at) (length (l .out) - l .at) (l .out) (k .last .0) (k .kept .0) ∙ l .inv .2,
-      step (columnsOf programWidth) programWidth (columns-length programWidth) (s .args .out .now) (l .out) (k .last .0) (s .args .t2) 0 wordWidth (l .i) (l .at)
-          (omega arith) (omega arith) (l .inv .1) (l .inv .3) (k .ensures),
+      step (columnsOf programWidth) programWidth (columns-length programWidth) (s .args .out .now) (l .out) (k .last .0) (s .args .t2)
+          0 wordWidth (l .i) (l .at) (omega arith) (omega arith) (l .inv .1) (l .inv .3) (k .ensures),
       names-more (s .args .t2) (l .i) (omega arith) (c .before .before .before .before .if1 .left) (l .inv .4),
     )
 

@@ -40,7 +40,8 @@ returns c =
 
 returns-2 : tie.Need-returns-2
 returns-2 c = let n = c .before .before .before in
-    c .refusing2 .ensures ∙ sym (Laws.entry-program (verb (long n)) (line (long n)) (long n .if1 .left) (sym (n .read-program .ensures) ∙ c .before .enum-told .given .1))
+    c .refusing2 .ensures ∙ sym (Laws.entry-program (verb (long n)) (line (long n)) (long n .if1 .left)
+    (sym (n .read-program .ensures) ∙ c .before .enum-told .given .1))
 
 returns-3 : tie.Need-returns-3
 unfolding labelPart

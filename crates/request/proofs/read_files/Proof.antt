@@ -82,7 +82,8 @@ returns-4 c = let s = c .before .before .before in let e = both-files s in let n
 
 returns-5 : tie.Need-returns-5
 returns-5 c = let f = c .before .before .before in let s = f .before .before in let e = both-files s in let n = read-q e in
-    c .taking .ensures ∙ sym (by-groups n ∙ Laws.both-good (verb n) (v-of n) (q n) (program n) (v-good n) (q-good e) (v-rises s) (not-false (q n .rising) (f .if4 .left)))
+    c .taking .ensures ∙ sym (by-groups n ∙ Laws.both-good (verb n) (v-of n) (q n) (program n) (v-good n) (q-good e) (v-rises s)
+    (not-false (q n .rising) (f .if4 .left)))
 
 pub read-files-spec : {M : Type 1} → statement M
 read-files-spec =
