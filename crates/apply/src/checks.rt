@@ -1,5 +1,6 @@
 // Checks 8 to 16 and 18 of a direct call.
 use files::FileSet;
+use parts::programs;
 use rules::Check;
 use rules::Program;
 use rules::Refusal;
@@ -65,10 +66,10 @@ fn running_check(s: Standing, next: Check) -> Check
 fn claim_check(q: Program, f: u8) -> Check
     ensures { λ r. ⌜ r ≡ claimCheck q f ⌝ }
 {
-    if !q.claims(f) {
+    if !programs::claims(q, f) {
         return Check::Failed(Refusal::NotClaimed);
     }
-    if q.has_open(f) {
+    if programs::has_open(q, f) {
         return Check::Failed(Refusal::IsOpen);
     }
     Check::Passed
@@ -78,7 +79,7 @@ fn claim_check(q: Program, f: u8) -> Check
 fn use_check(q: Program, f: u8) -> Check
     ensures { λ r. ⌜ r ≡ useCheck q f ⌝ }
 {
-    if !q.has_open(f) {
+    if !programs::has_open(q, f) {
         return Check::Failed(Refusal::NotOpen);
     }
     Check::Passed
@@ -89,7 +90,7 @@ fn check_enter(q: Program, writable: FileSet, readable: FileSet) -> Check
     ensures { λ r. ⌜ r ≡ entryCheck q writable readable ⌝ }
 {
     let s = q.standing;
-    if !s.is_absent() {
+    if !parts::standings::is_absent(s) {
         return Check::Failed(Refusal::NotAbsent);
     }
     if writable.meets(readable) {

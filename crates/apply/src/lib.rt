@@ -1,5 +1,6 @@
 // The rules applied to a sound board: each of the six calls, with checks 8 to 16 and 18.
 use files::FileSet;
+use parts::programs;
 use rules::Answer;
 use rules::Asked;
 use rules::Board;
@@ -46,7 +47,7 @@ fn new_program(writable: FileSet, readable: FileSet, s: Standing) -> Program
     let mut q = Program::ABSENT;
     q.writable = writable;
     q.readable = readable;
-    q.at_standing(s)
+    programs::at_standing(q, s)
 }
 
 // p runs, and the count of each waiting program goes up.
@@ -116,7 +117,7 @@ fn put_waiting(b: Board, p: u8, f: u8) -> Board
 {
     let i = (p - 1) as usize;
     let q = b.programs[i];
-    let waits = q.at_standing(Standing::Waiting(f));
+    let waits = programs::at_standing(q, Standing::Waiting(f));
     let line = b.waiting;
     let longer = lines::append(line, p);
     let mut c = tables::boards::put(b, p, waits);
@@ -149,7 +150,7 @@ fn do_open(b: Board, q: Program, p: u8, f: u8) -> Changed
         kind: Search::Found(n),
         at: at,
     };
-    let given = tables::boards::put(b, p, q.opening(f));
+    let given = tables::boards::put(b, p, programs::opening(q, f));
     replies::answered(given, Word::Given, p, f, Answer::Given, found)
 }
 
@@ -160,7 +161,7 @@ fn do_close(b: Board, q: Program, p: u8, f: u8) -> Changed
     requires { ⌜ ((1 ≤ p) × (p ≤ 32)) × Good b × (closeCheck b p f ≡ Check.Passed) × (q ≡ at b p) ⌝ }
     ensures { λ r. ⌜ ComesTo r (closeFile b p f) ⌝ }
 {
-    let c = tables::boards::put(b, p, q.closing(f));
+    let c = tables::boards::put(b, p, programs::closing(q, f));
     replies::done(c, p, f)
 }
 
@@ -171,7 +172,7 @@ fn do_drop(b: Board, q: Program, p: u8, f: u8) -> Changed
     requires { ⌜ ((1 ≤ p) × (p ≤ 32)) × Good b × (openCheck b p f ≡ Check.Passed) × (q ≡ at b p) ⌝ }
     ensures { λ r. ⌜ ComesTo r (dropFile b p f) ⌝ }
 {
-    let c = tables::boards::put(b, p, q.dropping(f));
+    let c = tables::boards::put(b, p, programs::dropping(q, f));
     replies::done(c, p, f)
 }
 

@@ -107,7 +107,7 @@ pub fn complete(c: Changed, before: Order) -> Reply
     ensures { λ r. ⌜ r ≡ replyOf c ⌝ }
 {
     let answer = c.answer;
-    if answer.refusal() != 0 {
+    if parts::refusals::of_answer(answer) != 0 {
         return with_order(c, before);
     }
     let found = c.found;

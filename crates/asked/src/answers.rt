@@ -105,7 +105,12 @@ fn places(l: Loop) -> [u8; 32] {
 // The answer to a direct call, with the loop that it carries.
 pub fn call(r: Reply, l: Loop) {
     let answer = r.answer;
-    let head = [answer.refusal(), answer_letter(answer), r.count, r.placed];
+    let head = [
+        parts::refusals::of_answer(answer),
+        answer_letter(answer),
+        r.count,
+        r.placed,
+    ];
     let lines = r.lines;
     let bytes = lines_bytes(lines);
     let order = r.order;

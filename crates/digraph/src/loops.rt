@@ -1,5 +1,7 @@
 // Loops of programs, each holding back the next and the last the first: the test of them, and the search for one.
 use crate::Loop;
+use parts::programs;
+use parts::standings;
 use rules::Board;
 use tables::ProgramSet;
 ghost use mathlib.Core.Path.{_≡_};
@@ -183,7 +185,7 @@ pub fn give(b: Board, p: u8, f: u8) -> Board
 {
     let i = (p - 1) as usize;
     let q = b.programs[i];
-    tables::boards::put(b, p, q.opening(f))
+    tables::boards::put(b, p, programs::opening(q, f))
 }
 
 // Whether p is admitted and claims f, and the list is a loop with f given to it.
@@ -194,10 +196,10 @@ fn is_loop_by(b: Board, p: u8, f: u8, l: &[u8]) -> bool
     let i = (p - 1) as usize;
     let q = b.programs[i];
     let s = q.standing;
-    if !s.is_admitted() {
+    if !standings::is_admitted(s) {
         return false;
     }
-    if !q.claims(f) {
+    if !programs::claims(q, f) {
         return false;
     }
     let given = give(b, p, f);
@@ -228,8 +230,8 @@ pub fn find_for(b: Board, p: u8) -> Loop
     let i = (p - 1) as usize;
     let q = b.programs[i];
     let s = q.standing;
-    if !s.is_waiting() {
+    if !standings::is_waiting(s) {
         return Loop::NONE;
     }
-    find(give(b, p, s.awaited()))
+    find(give(b, p, standings::awaited(s)))
 }

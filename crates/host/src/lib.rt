@@ -76,7 +76,7 @@ pub extern "C" fn lock_board_line(
     let served = linecall::known::line(b, line, journal, place);
     let changed = served.changed;
     let answer = changed.answer;
-    let n = answer.refusal();
+    let n = parts::refusals::of_answer(answer);
     if n == 0 {
         let written = changed.written;
         let after = written.board;

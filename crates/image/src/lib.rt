@@ -104,7 +104,7 @@ fn put_row(out: &mut [u8], p: Program)
     ensures { λ r. ⌜ now (out .exit) ≡ programSection .write p ++ drop (programSection .size) (now (out .entry)) ⌝ }
 {
     let s = p.standing;
-    let standing = [kind(s), s.awaited()];
+    let standing = [kind(s), parts::standings::awaited(s)];
     put_set(out, 0, p.writable);
     put_set(out, READABLE_AT, p.readable);
     put_set(out, WRITING_AT, p.writing);

@@ -57,7 +57,7 @@ fn write_lines(journal: &mut [u8], place: usize, q: Request, c: Changed) -> usiz
     ensures { λ p. ⌜ now (journal .exit) ≡ written (now (journal .entry)) place (linesFor q (replyOf c)) ⌝ }
 {
     let answer = c.answer;
-    let n = answer.refusal();
+    let n = parts::refusals::of_answer(answer);
     if n == 0 {
         let w = c.written;
         let lines = w.lines;

@@ -1,6 +1,19 @@
-// The empty board.
+// An absent program, and the empty board.
 use crate::Board;
 use crate::Program;
+use crate::Standing;
+use files::FileSet;
+
+impl Program {
+    // An absent program, with empty sets.
+    pub const ABSENT: Program = Program {
+        writable: FileSet { bits: 0 },
+        readable: FileSet { bits: 0 },
+        writing: FileSet { bits: 0 },
+        reading: FileSet { bits: 0 },
+        standing: Standing::Absent,
+    };
+}
 
 impl Board {
     // The empty board.

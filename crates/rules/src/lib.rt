@@ -1,11 +1,7 @@
-// The types of the lock board. The rules themselves stand in specs/.
+// The types of the lock board. The rules themselves stand in specs/; there is no function here.
 use files::FileSet;
 
 mod boards;
-pub mod modes;
-mod programs;
-mod refusals;
-mod standings;
 
 // A program's standing: absent, held at entry, running or waiting; waiting carries its file.
 pub enum Standing {

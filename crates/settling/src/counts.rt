@@ -15,7 +15,7 @@ fn one_more(s: Standing, n: u8) -> u8
     requires { ⌜ n < 255 ⌝ }
     ensures { λ r. ⌜ r ≡ cond (isWaiting s) (n + 1) 0 ⌝ }
 {
-    if s.is_waiting() {
+    if parts::standings::is_waiting(s) {
         return n + 1;
     }
     0

@@ -1,4 +1,5 @@
 // Settling.
+use parts::programs;
 use rules::Board;
 use rules::Line;
 use rules::Program;
@@ -41,8 +42,8 @@ fn add_line(lines: [Line; 32], count: u8, l: Line) -> [Line; 32]
 fn served(q: Program, f: u8) -> Program
     ensures { λ r. ⌜ r ≡ serve q f ⌝ }
 {
-    let given = q.opening(f);
-    given.at_standing(Standing::Running)
+    let given = programs::opening(q, f);
+    programs::at_standing(given, Standing::Running)
 }
 
 // A favoured program that is given its file is favoured no longer: the number, or 0 if p was favoured.
@@ -64,7 +65,7 @@ fn fill_asked(b: Board, asked: &mut [u8; 32])
     while i < 32 {
         let q = b.programs[i];
         let s = q.standing;
-        asked[i] = s.awaited();
+        asked[i] = parts::standings::awaited(s);
         i += 1;
     }
 }
@@ -159,7 +160,7 @@ fn oldest_unused(b: Board) -> u8
         let i = tables::boards::place_of(p);
         let q = b.programs[i];
         let s = q.standing;
-        let f = s.awaited();
+        let f = parts::standings::awaited(s);
         if !search::gives::in_use(&sets, uses, p, f) {
             return p;
         }
@@ -207,7 +208,7 @@ fn admit_one(w: Written, p: u8) -> Written
     let b = w.board;
     let i = (p - 1) as usize;
     let q = b.programs[i];
-    let runs = q.at_standing(Standing::Running);
+    let runs = programs::at_standing(q, Standing::Running);
     let line = b.entry;
     let rest = lines::remove(line, p);
     let mut c = tables::boards::put(b, p, runs);

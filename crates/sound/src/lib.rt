@@ -1,9 +1,11 @@
 // The test of a sound board.
 use files::FileSet;
+use parts::modes;
+use parts::programs;
+use parts::standings;
 use rules::Board;
 use rules::Program;
 use rules::Standing;
-use rules::modes;
 use search::Order;
 use search::Uses;
 use tables::ProgramSet;
@@ -144,9 +146,9 @@ fn does_stand(held: bool, s: Standing) -> bool
     ensures { λ r. ⌜ r ≡ stands held s ⌝ }
 {
     if held {
-        return s.is_held();
+        return standings::is_held(s);
     }
-    s.is_waiting()
+    standings::is_waiting(s)
 }
 
 // The programs that are held, or else waiting.
@@ -242,10 +244,10 @@ fn waiter_sound(q: Program, sets: &[u64; 128], uses: Uses, p: u8, f: u8) -> bool
     requires { ⌜ (1 ≤ p) × (p ≤ 32) ⌝ }
     ensures { λ r. ⌜ WaiterFor q (now (sets .entry)) uses p f r ⌝ }
 {
-    if !q.claims(f) {
+    if !programs::claims(q, f) {
         return false;
     }
-    if q.has_open(f) {
+    if programs::has_open(q, f) {
         return false;
     }
     !search::gives::can_give(sets, uses, p, f)
@@ -265,7 +267,7 @@ fn waiters_sound(b: Board, sets: &[u64; 128], uses: Uses, line: [u8; 32]) -> boo
         let i = tables::boards::place_of(p);
         let q = b.programs[i];
         let s = q.standing;
-        let f = s.awaited();
+        let f = standings::awaited(s);
         if !waiter_sound(q, sets, uses, p, f) {
             return false;
         }
@@ -328,7 +330,7 @@ fn count_sound(s: Standing, n: u8) -> bool
     if n > 8 {
         return false;
     }
-    s.is_waiting()
+    standings::is_waiting(s)
 }
 
 // All counts.

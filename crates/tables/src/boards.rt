@@ -24,7 +24,7 @@ pub fn awaited(b: Board, p: u8) -> u8
     let i = (p - 1) as usize;
     let q = b.programs[i];
     let s = q.standing;
-    s.awaited()
+    parts::standings::awaited(s)
 }
 
 // The board with q as program p.
@@ -48,7 +48,7 @@ pub fn admitted_set(b: Board) -> ProgramSet
         let i = (p - 1) as usize;
         let q = b.programs[i];
         let s = q.standing;
-        let yes = s.is_admitted();
+        let yes = parts::standings::is_admitted(s);
         set = crate::join(set, p, yes);
         p += 1;
     }

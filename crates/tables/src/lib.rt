@@ -1,8 +1,8 @@
 // The sets of a board's programs and which admitted program holds back which, in plain arrays that are lent and not copied.
 // In `sets` stand the sets of all programs, as `sets` says; in `rows` the set of the admitted programs that the admitted
 // program p holds back stands in place p - 1.
+use parts::modes;
 use rules::Board;
-use rules::modes;
 ghost use mathlib.Core.Path.{_≡_};
 ghost use Prim.Native.Nat.{_≤_};
 ghost use lib.ListN.{length, replicate};

@@ -27,7 +27,8 @@ use Rattle.theory.specs.Loose.{waitsIn, OnLine, countIn, Counted, Counts
 -- ── Counts that stay ──
 
 -- Every waiter still waits.
-pub counted-keep : (C : List ℕ) (P P′ : Progs) → ((i : ℕ) → Is i → waitsIn P i ≡ true → waitsIn P′ i ≡ true) → Counted C P → Counted C P′
+pub counted-keep : (C : List ℕ) (P P′ : Progs) → ((i : ℕ) → Is i → waitsIn P i ≡ true → waitsIn P′ i ≡ true)
+    → Counted C P → Counted C P′
 counted-keep C P P′ f k = record { most = k .most; rest = λ p i e. k .rest p i (no-true _ (λ t. never (f p i t) e)) }
 
 -- ── A wait is over ──

@@ -57,7 +57,8 @@ unfolding LeadsTo
 leads-within g l f z x [] c a m = by-mem m (λ d. Memᴰ·cast d (f x z c)) (λ k. absurd (List·Memᴰ·not-nil k))
 leads-within g l f z x (y ∷ L) c a m = by-mem m (λ d. Memᴰ·cast d (f x y (c .0))) (leads-within g l f z y L (c .1) a)
 
-closes-within : (g : ℕ → ℕ → Bool) (l L : List ℕ) → ((a b : ℕ) → g a b ≡ true → a ∈ l) → Closes g L → (a : ℕ) → a ∈ L → a ∈ l
+closes-within : (g : ℕ → ℕ → Bool) (l L : List ℕ) → ((a b : ℕ) → g a b ≡ true → a ∈ l) → Closes g L
+    → (a : ℕ) → a ∈ L → a ∈ l
 unfolding Closes
 closes-within g l [] f c = absurd c
 closes-within g l (x ∷ L) f c = leads-within g l f x x L c
@@ -97,8 +98,9 @@ isLoop-same g g′ (x ∷ L) f = ap (λ t. leb 2 (length (x ∷ L)) && distinct 
 
 -- ── Only what different members of l hold back counts ──
 
-leads-on : (h g : ℕ → ℕ → Bool) (l : List ℕ) → ((a b : ℕ) → a ∈ l → b ∈ l → a ≢ b → h a b ≡ true → g a b ≡ true) → (z x : ℕ) (L : List ℕ)
-    → z ∈ l → ((a : ℕ) → a ∈ x ∷ L → a ∈ l) → ((a : ℕ) → a ∈ x ∷ L → a ≢ z) → NoRepeat (x ∷ L) → LeadsTo h z x L → LeadsTo g z x L
+leads-on : (h g : ℕ → ℕ → Bool) (l : List ℕ) → ((a b : ℕ) → a ∈ l → b ∈ l → a ≢ b → h a b ≡ true → g a b ≡ true)
+    → (z x : ℕ) (L : List ℕ) → z ∈ l → ((a : ℕ) → a ∈ x ∷ L → a ∈ l) → ((a : ℕ) → a ∈ x ∷ L → a ≢ z)
+    → NoRepeat (x ∷ L) → LeadsTo h z x L → LeadsTo g z x L
 unfolding LeadsTo Pairs
 leads-on h g l f z x [] k m n d c = f x z (m x here) k (n x here) c
 leads-on h g l f z x (y ∷ L) k m n d c = (

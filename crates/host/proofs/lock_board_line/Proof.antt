@@ -30,7 +30,7 @@ line-requires : tie.Need-line-requires
 line-requires c κs = read (c .before .before) .1
 
 -- where the line is served, and the image is read before it
-abbrev served : tie.After-refusal → tie.After-line
+abbrev served : tie.After-of-answer → tie.After-line
 served n = n .before .before .before .before
 
 abbrev read-for : tie.After-line → tie.Else1
@@ -40,13 +40,13 @@ ok : (i : tie.Else1) → i .before .read-image .result .ok ≡ true
 ok i = not-false (i .before .read-image .result .ok) (i .if1 .left)
 
 -- the host's call, from what serving the line gave
-hosts : (n : tie.After-refusal) → let l = served n .line in let a = start (read-for (served n)) .args in
-    Laws.Hosts (a .image .now) (a .line .now) (a .journal .now) (a .place) (n .refusal .result) (l .result .place)
+hosts : (n : tie.After-of-answer) → let l = served n .line in let a = start (read-for (served n)) .args in
+    Laws.Hosts (a .image .now) (a .line .now) (a .journal .now) (a .place) (n .of-answer .result) (l .result .place)
     (replyOf (l .result .changed)) (l .last .1 .1 .0)
 hosts n = let l = served n .line in let i = read-for (served n) in let a = start i .args in
-    Laws.host-by (a .image .now) (a .line .now) (a .journal .now) (a .place) (n .refusal .result) (l .result .place)
+    Laws.host-by (a .image .now) (a .line .now) (a .journal .now) (a .place) (n .of-answer .result) (l .result .place)
     (replyOf (l .result .changed)) (l .last .1 .1 .0) (i .before .read-image .result) (read i .0) (ok i)
-    (l .ensures .0 .0) (l .ensures .1 .0) (l .ensures .1 .1) (n .refusal .ensures)
+    (l .ensures .0 .0) (l .ensures .1 .0) (l .ensures .1 .1) (n .of-answer .ensures)
 
 returns-2 : tie.Need-returns-2
 returns-2 c =

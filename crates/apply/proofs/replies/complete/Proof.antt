@@ -7,7 +7,7 @@ use Rattle.apply.proofs.replies.complete.Tie as tie
 
 with-order-requires : tie.Need-with-order-requires
 with-order-requires c κs = let r = c .before in let a = r .before .args in
-    r .before .pre .0 (refused-by (a .c .answer) (λ e. c .if1 .taken (r .refusal .ensures ∙ e)))
+    r .before .pre .0 (refused-by (a .c .answer) (λ e. c .if1 .taken (r .of-answer .ensures ∙ e)))
 
 with-order-requires-2 : tie.Need-with-order-requires-2
 with-order-requires-2 c κs = let s = c .before .before .before .before .before in let a = s .args in

@@ -14,7 +14,7 @@ places : (s : tie.Start) → length (s .args .c .written .lines) ≡ 32
 places s = sym (length-map (s .args .c .written .lines) _) ∙ s .good .1 .1 .1 .0 .1 .1 .0 .1 .1 .1 .0 .1 .0 .1
 
 -- where the answer's number is known
-abbrev start : tie.After-refusal → tie.Start
+abbrev start : tie.After-of-answer → tie.Start
 start r = r .before .before
 
 -- where it is 0
@@ -26,7 +26,7 @@ returns c =
     let p = c .before .before in
     let t = accepted p in
     let s = start (t .before) in
-    let e = sym (t .before .refusal .ensures) ∙ t .if1 .taken in
+    let e = sym (t .before .of-answer .ensures) ∙ t .if1 .taken in
     let n = own-count (s .args .q) (replyOf (s .args .c)) e (omega (arith, places s, s .pre .1)) in
     (rw n (p .put-lines .ensures .0), rw (own-lines (s .args .q) (replyOf (s .args .c)) e) (p .put-lines .ensures .1))
 
@@ -40,7 +40,7 @@ returns-2 c =
     let l = refused p in
     let i = l .before in
     let s = start (i .before) in
-    let m = i .before .refusal .ensures in
+    let m = i .before .of-answer .ensures in
     let e = refused-lines (s .args .q) (replyOf (s .args .c)) (λ z. i .if1 .left (m ∙ z)) in
     let k = l .refuse-line .ensures ∙ ap (refuseLine (s .args .q)) m in
     (rw e, rw (e, ← k) (put-one (s .args .journal .now) (p .put-line .last .0) _ (s .args .place) (p .put-line .ensures)))

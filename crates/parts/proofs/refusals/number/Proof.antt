@@ -1,7 +1,7 @@
 -- `number` meets its contract. Assumes nothing.
 use borrow.Author.Needs.{needs}
-use Rattle.rules.proofs.Refusal.number.Statement.{statement}
-use Rattle.rules.proofs.Refusal.number.Tie as tie
+use Rattle.parts.proofs.refusals.number.Statement.{statement}
+use Rattle.parts.proofs.refusals.number.Tie as tie
 
 pub number-spec : {M : Type 1} → statement M
 number-spec =

@@ -1,8 +1,8 @@
 -- `dropping` meets its contract. Assumes nothing.
 use Rattle.rules.specs.Boards.{dropping}
 use borrow.Author.Needs.{needs}
-use Rattle.rules.proofs.Program.dropping.Statement.{statement}
-use Rattle.rules.proofs.Program.dropping.Tie as tie
+use Rattle.parts.proofs.programs.dropping.Statement.{statement}
+use Rattle.parts.proofs.programs.dropping.Tie as tie
 
 returns : tie.Need-returns
 unfolding dropping

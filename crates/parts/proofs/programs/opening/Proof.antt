@@ -1,9 +1,9 @@
 -- `opening` meets its contract. Assumes nothing.
 use mathlib.Core.Path.{sym, _∙_}
 use Rattle.rules.specs.Boards.{opening}
 use borrow.Author.Needs.{needs}
-use Rattle.rules.proofs.Program.opening.Statement.{statement}
-use Rattle.rules.proofs.Program.opening.Tie as tie
+use Rattle.parts.proofs.programs.opening.Statement.{statement}
+use Rattle.parts.proofs.programs.opening.Tie as tie
 
 returns : tie.Need-returns
 unfolding opening

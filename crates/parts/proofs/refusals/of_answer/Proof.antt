@@ -1,13 +1,13 @@
--- `refusal` meets its contract. Assumes nothing.
+-- `of_answer` meets its contract. Assumes nothing.
 use borrow.Author.Needs.{needs}
-use Rattle.rules.proofs.Answer.refusal.Statement.{statement}
-use Rattle.rules.proofs.Answer.refusal.Tie as tie
+use Rattle.parts.proofs.refusals.of_answer.Statement.{statement}
+use Rattle.parts.proofs.refusals.of_answer.Tie as tie
 
 returns : tie.Need-returns-7
-returns c = rw (c .before .before .self .given .1, c .number .ensures)
+returns c = rw (c .before .before .a .given .1, c .number .ensures)
 
-pub refusal-spec : {M : Type 1} → statement M
-refusal-spec =
+pub of-answer-spec : {M : Type 1} → statement M
+of-answer-spec =
     tie.close
     (tie.spec
     (λ c. search needs)

@@ -1,8 +1,8 @@
 -- `in_either` meets its contract. Assumes nothing.
 use mathlib.Core.Path.{sym, _∙_}
 use borrow.Author.Needs.{needs}
-use Rattle.rules.proofs.programs.in_either.Statement.{statement}
-use Rattle.rules.proofs.programs.in_either.Tie as tie
+use Rattle.parts.proofs.programs.in_either.Statement.{statement}
+use Rattle.parts.proofs.programs.in_either.Tie as tie
 
 returns : tie.Need-returns
 returns c = rw (sym (c .before .has .ensures) ∙ c .if1 .taken)

@@ -4,9 +4,9 @@ use mathlib.Core.Bool.{Bool, _||_}
 use lib.Bits.{bitAnd, bitOr}
 use Rattle.files.specs.Sets.{meets}
 use Rattle.files.proofs.Bits.{or-none}
 use Rattle.rules.specs.Modes.{byMode, touching-is}
-use Rattle.rules.proofs.modes.touches.Statement.{statement}
-use Rattle.rules.proofs.modes.touches.Tie as tie
+use Rattle.parts.proofs.modes.touches.Statement.{statement}
+use Rattle.parts.proofs.modes.touches.Tie as tie
 
 returns : tie.Need-returns
 returns c = let a = c .before .before .before .before .before .before .args in let w = a .w in let r = a .r in let v = a .v in let q = a .q in

@@ -1,8 +1,8 @@
 -- `closing` meets its contract. Assumes nothing.
 use Rattle.rules.specs.Boards.{closing}
 use borrow.Author.Needs.{needs}
-use Rattle.rules.proofs.Program.closing.Statement.{statement}
-use Rattle.rules.proofs.Program.closing.Tie as tie
+use Rattle.parts.proofs.programs.closing.Statement.{statement}
+use Rattle.parts.proofs.programs.closing.Tie as tie
 
 returns : tie.Need-returns
 unfolding closing
