@@ -1,5 +1,6 @@
 // The rules applied to a sound board: each of the six calls, with checks 8 to 16 and 18.
 use files::FileSet;
+use files::WORDS;
 use parts::programs;
 use rules::Answer;
 use rules::Asked;
@@ -131,8 +132,8 @@ fn do_open(b: Board, q: Program, p: u8, f: u8) -> Changed
     requires { ⌜ ((1 ≤ p) × (p ≤ 32)) × Good b × (openCheck b p f ≡ Check.Passed) × (q ≡ at b p) ⌝ }
     ensures { λ r. ⌜ ComesTo r (openFile b p f) ⌝ }
 {
-    let mut sets = [0u64; 128];
-    tables::sets::take_sets(b, &mut sets);
+    let mut sets = [[0u64; WORDS]; 128];
+    store::sets::take_sets(b, &mut sets);
     let admitted = tables::boards::admitted_set(b);
     let uses = search::gives::uses_in(admitted, &sets);
     if search::gives::in_use(&sets, uses, p, f) {

@@ -3,6 +3,7 @@ use super::orders;
 use super::orders::Admitted;
 use super::orders::Tried;
 use super::paths;
+use files::WORDS;
 use rules::Board;
 use search::Search;
 
@@ -68,7 +69,9 @@ fn all_agree(b: Board, a: Admitted, kind: Search, t: Tried, at: [u8; 32]) -> boo
 // Both searches on one board; the board's own order is the one that the test of a sound board gives back.
 pub fn compared(b: Board) -> Outcome {
     let a = orders::admitted_programs(b);
-    let j = sound::judge(b);
+    let mut sets = [[0u64; WORDS]; 128];
+    let rest = store::take(b, &mut sets);
+    let j = sound::judge(&sets, rest);
     let o = j.order;
     let at = o.at;
     let kind = o.kind;

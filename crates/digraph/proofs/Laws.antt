@@ -23,12 +23,12 @@ use Rattle.theory.specs.Programs.{Is, is-of, of-is}
 use Rattle.theory.specs.Matrix.{step-iff, reaches-all, mem-in}
 use Rattle.tables.specs.declared.ProgramSet.{ProgramSet}
 use Rattle.tables.specs.ProgramSets.{hasProgram, withoutProgram, unionOf}
-use Rattle.tables.specs.Sets.{setsOf, holdsOne}
+use Rattle.store.specs.Sets.{Sets, SetsOf, holdsOne}
 use Rattle.tables.specs.Tables.{packed, rowOf, holdersOf}
 use Rattle.tables.proofs.Laws.{places-length, places-at, places-same, packed-has, packed-none, packed-lt, set-same, union-has, set-is}
 use Rattle.tables.proofs.Given.{packed-same}
 use Rattle.tables.proofs.Walk.{none-left}
-use Rattle.tables.proofs.Whole.{sets-of, holds-is}
+use Rattle.store.proofs.Laws.{holds-is}
 use Rattle.tables.specs.Boards.{admits, admittedSet}
 use Rattle.digraph.specs.Rows.{rowsSaying, matrixOf, cell, holderRows, byRow, byWay}
 
@@ -79,9 +79,9 @@ among-is b x = by-test (isNumber 32 x)
     (λ z. rw z)
 
 -- the rows by the sets of a board are its steps
-pub steps-are : (b : Board) → holderRows (setsOf b) (admittedSet b) ≡ rowsSaying (step b)
+pub steps-are : (b : Board) (sets : Sets) → SetsOf b sets → holderRows sets (admittedSet b) ≡ rowsSaying (step b)
 unfolding holderRows step
-steps-are b = places-same _ _ 32 0 (λ i h k. by-test (hasProgram a (suc i))
+steps-are b sets s = places-same _ _ 32 0 (λ i h k. by-test (hasProgram a (suc i))
     (λ t. ap (λ (u : Bool). cond u (packed (holdersOf sets (suc i) (withoutProgram a (suc i))) 32 .bits) 0) t
     ∙ ap (λ (s : ProgramSet). s .bits) (packed-same _ _ 32 (λ x l m. one x (suc i) l m (omega arith) (omega arith) (sym (among-is b (suc i)) ∙ t))))
     (λ t. ap (λ (u : Bool). cond u (packed (holdersOf sets (suc i) (withoutProgram a (suc i))) 32 .bits) 0) t
@@ -89,9 +89,6 @@ steps-are b = places-same _ _ 32 0 (λ i h k. by-test (hasProgram a (suc i))
   where
     a : ProgramSet
     a = admittedSet b
-
-    sets : List ℕ
-    sets = setsOf b
 
     right : (u v : Bool) → (u && true) && v ≡ u && v
     right true v = refl
@@ -104,7 +101,7 @@ steps-are b = places-same _ _ 32 0 (λ i h k. by-test (hasProgram a (suc i))
     one x p l m h k e = by-test (eqb x p)
         (λ t. ap (λ (u : Bool). u && holdsOne sets p x) (ap (hasProgram (withoutProgram a p)) (eqb-true x p t) ∙ without-number-same 32 (a .bits) p)
         ∙ sym (ap (λ (u : Bool). not u && ((isIn b x && isIn b p) && holdsBack (at b x) (at b p))) t))
-        (λ t. ap₂ _&&_ (without-number-other 32 (a .bits) p x (eqb-false x p t) ∙ among-is b x) (holds-is b sets (sets-of b) x p l m h k)
+        (λ t. ap₂ _&&_ (without-number-other 32 (a .bits) p x (eqb-false x p t) ∙ among-is b x) (holds-is b sets s x p l m h k)
         ∙ sym (ap (λ (u : Bool). not u && ((isIn b x && isIn b p) && holdsBack (at b x) (at b p))) t
         ∙ ap (λ (u : Bool). (isIn b x && u) && holdsBack (at b x) (at b p)) e ∙ right (isIn b x) (holdsBack (at b x) (at b p))))
 

@@ -8,10 +8,10 @@ use lib.ListN.{length}
 use Rattle.rules.specs.declared.Board.{Board}
 use Rattle.rules.specs.Boards.{isProgram, everyone}
 use Rattle.rules.specs.Digraph.{paths, reaches}
+use Rattle.store.specs.Sets.{Sets}
 use Rattle.tables.specs.declared.ProgramSet.{ProgramSet}
 use Rattle.tables.specs.ProgramSets.{hasProgram, withoutProgram, unionOf}
-use Rattle.tables.specs.Sets.{places}
-use Rattle.tables.specs.Tables.{packed, rowOf, holdersOf}
+use Rattle.tables.specs.Tables.{places, packed, rowOf, holdersOf}
 
 -- the rows that say g: in the row of each program p stand those x for which g x p says so
 abbrev pub rowsSaying : (ℕ → ℕ → Bool) → List ℕ
@@ -26,7 +26,7 @@ abbrev pub cell : List ℕ → ℕ → ℕ → Bool
 cell rows x p = isProgram p && hasProgram (rowOf rows p) x
 
 -- by the sets: for each program of the set a the others of a that hold it back
-unfoldable pub holderRows : List ℕ → ProgramSet → List ℕ
+unfoldable pub holderRows : Sets → ProgramSet → List ℕ
 holderRows sets a = places (λ i. cond (hasProgram a (suc i)) (packed (holdersOf sets (suc i) (withoutProgram a (suc i))) 32 .bits) 0) 32 0
 
 -- ---- by way of one more

@@ -1,13 +1,14 @@
 // Which admitted program holds back which, closed over paths, of any board, and loops of programs that hold back each other.
 // In place p - 1 of the rows stands the set of the admitted programs that hold p back; closed, of those that reach p.
+use files::WORDS;
 use rules::Board;
 use tables::ProgramSet;
 ghost use mathlib.Core.Path.{_≡_};
 ghost use Prim.Native.Nat.{_≤_};
 ghost use lib.ListN.{length, replicate};
-ghost use Rattle.tables.specs.Sets.{setsOf};
-ghost use Rattle.tables.specs.Boards.{admittedSet};
-ghost use Rattle.digraph.specs.Rows.{byRow, holderRows, PassedBy, ClosedOver, matrixOf};
+ghost use Rattle.rules.specs.Digraph.{step};
+ghost use Rattle.store.specs.Sets.{IsStore};
+ghost use Rattle.digraph.specs.Rows.{byRow, rowsSaying, holderRows, PassedBy, ClosedOver, matrixOf};
 
 pub mod answers;
 pub mod loops;
@@ -29,8 +30,8 @@ impl Loop {
 // ---- who holds back whom
 
 // For each program of the set the others of it that hold it back.
-fn fill_holders(sets: &[u64; 128], admitted: ProgramSet, rows: &mut [u32; 32])
-    requires { ⌜ now rows ≡ replicate 32 0 ⌝ }
+fn fill_holders(sets: &[[u64; WORDS]; 128], admitted: ProgramSet, rows: &mut [u32; 32])
+    requires { ⌜ (now rows ≡ replicate 32 0) × IsStore (now sets) ⌝ }
     ensures { λ _. ⌜ now (rows .exit) ≡ holderRows (now (sets .entry)) admitted ⌝ }
 {
     let mut rest = admitted;
@@ -46,10 +47,10 @@ fn fill_holders(sets: &[u64; 128], admitted: ProgramSet, rows: &mut [u32; 32])
 // For each admitted program the others of them that hold it back.
 fn fill_steps(b: Board, rows: &mut [u32; 32])
     requires { ⌜ now rows ≡ replicate 32 0 ⌝ }
-    ensures { λ _. ⌜ now (rows .exit) ≡ holderRows (setsOf b) (admittedSet b) ⌝ }
+    ensures { λ _. ⌜ now (rows .exit) ≡ rowsSaying (step b) ⌝ }
 {
-    let mut sets = [0u64; 128];
-    tables::sets::take_sets(b, &mut sets);
+    let mut sets = [[0u64; WORDS]; 128];
+    store::sets::take_sets(b, &mut sets);
     let admitted = tables::boards::admitted_set(b);
     fill_holders(&sets, admitted, rows);
 }

@@ -1,6 +1,7 @@
 // The six direct calls, each with the board by value: check 1, then the rules; an UNSAFE answer carries a loop.
 use digraph::Loop;
 use files::FileSet;
+use files::WORDS;
 use rules::Asked;
 use rules::Board;
 use rules::Reply;
@@ -22,7 +23,9 @@ pub struct Answered {
 fn reply_to(b: Board, a: Asked) -> Reply
     ensures { λ r. ⌜ r ≡ direct b (callOf a) ⌝ }
 {
-    let j = sound::judge(b);
+    let mut sets = [[0u64; WORDS]; 128];
+    let rest = store::take(b, &mut sets);
+    let j = sound::judge(&sets, rest);
     if !j.sound {
         return apply::replies::refused_unsound(b);
     }

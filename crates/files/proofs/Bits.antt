@@ -1,14 +1,15 @@
 -- The laws of bits, at any width: what setting, clearing, sharing and covering mean bit by bit, and the masks that the code makes.
 -- Assumes nothing.
 use Prim.Native.Nat.{ℕ, zero, suc, _+_, _-_, _*_, _/_, _%_, _^_, _≤_, _<_, min, max}
-use native.Mathlib.Nat.{div-div-eq-div-mul, mul-comm, pow-suc, div-one, one-mul, mod-eq-of-lt}
+use native.Mathlib.Nat.{div-div-eq-div-mul, mul-comm, mul-assoc, pow-suc, pow-succ', div-one, one-mul, zero-add, mod-eq-of-lt, div-eq-of-lt}
+use native.Mathlib.Nat.{add-mul-div-left, add-mul-mod-self-left, mod-add-div}
 use native.Mathlib.Omega.{arith}
-use mathlib.Core.Path.{_≡_, refl, sym, ap, ap₂, _∙_}
+use mathlib.Core.Path.{_≡_, refl, sym, ap, ap₂, _∙_, subst}
 use mathlib.Core.Logic.{_≢_, _↔_}
-use mathlib.Core.Bool.{true, false, not, _&&_, _||_}
+use mathlib.Core.Bool.{Bool, true, false, not, _&&_, _||_}
 use lib.Dec.{eqb, leb, ltb}
-use lib.Pow.{pow-lt, pow-add}
-use lib.Bits.{bitAnd, bitOr, bitXor, differ, and-step, or-step, xor-step, and-high, or-add-and, xor-add-and, and-le-l, and-comm}
+use lib.Pow.{pow-lt, pow-add, pow-pos, shr-shr}
+use lib.Bits.{bitAnd, bitOr, bitXor, differ, and-step, or-step, xor-step, and-high, or-add-and, xor-add-and, and-le-l, and-comm, xor-self}
 use borrow.Author.Tests.{eq-eqb, ne-eqb, eqb-true, eqb-false, leb-true, le-leb, ltb-true, ltb-false}
 use Rattle.files.specs.Bits.{hasBit, withBit, withoutBit, share, covers, isNumber, hasNumber, withNumber, withoutNumber}
 use Rattle.laws.specs.Tests.{by-test, never, or-cases, and-left, and-right, and-both, no-true, same-test}
@@ -105,6 +106,9 @@ pub high-has : (w m i : ℕ) → m < 2 ^ w → hasBit m i ≡ true → i < w
 high-has w m i h e = by-test (ltb i w) (λ t. ltb-true i w t)
     (λ t. let k = ltb-false i w t in let a = one-of m i e in let b = bit-high w m i h (omega arith) in absurd (omega arith))
 
+pub some-has : (m : ℕ) → m ≢ 0 → (i : ℕ) × (hasBit m i ≡ true)
+some-has m n = let (i, e) = some-bit m m (omega arith) n in (i, of-one m i e)
+
 pub with-more : (m i j : ℕ) → hasBit m j ≡ true → hasBit (withBit m i) j ≡ true
 with-more m i j e =
     let a = one-of m j e in let b = bit-or m (2 ^ i) j in let c = bit-lt (2 ^ i) j in
@@ -117,6 +121,12 @@ with-only m i j e n =
 
 pub with-same : (m i : ℕ) → hasBit (withBit m i) i ≡ true
 with-same m i = let b = bit-or m (2 ^ i) i in let c = bit-pow-same i in let d = bit-lt m i in of-one (withBit m i) i (omega arith)
+
+pub with-has : (m i j : ℕ) → hasBit (withBit m i) j ≡ (eqb j i || hasBit m j)
+with-has m i j =
+    by-test (eqb j i)
+    (λ e. rw e (ap (hasBit (withBit m i)) (eqb-true j i e) ∙ with-same m i))
+    (λ e. rw e (same-test (hasBit (withBit m i) j) (hasBit m j) (λ u. with-only m i j u (eqb-false j i e)) (with-more m i j)))
 
 -- ---- one less
 
@@ -186,6 +196,42 @@ without-less m i j e =
     (λ t. by-test (eqb j i) (λ u. ap (hasBit m) (eqb-true j i u) ∙ t)
     (λ u. of-one m j (sym (less-other m i j t (eqb-false j i u)) ∙ one-of (m - 2 ^ i) j (rw t at e))))
     (λ t. rw t at e)
+
+pub without-has : (m i j : ℕ) → hasBit (withoutBit m i) j ≡ (not (eqb j i) && hasBit m j)
+without-has m i j =
+    by-test (eqb j i)
+    (λ e. rw e (ap (hasBit (withoutBit m i)) (eqb-true j i e) ∙ without-same m i))
+    (λ e. rw e (same-test (hasBit (withoutBit m i) j) (hasBit m j) (without-less m i j) (λ u. without-other m i j u (eqb-false j i e))))
+
+-- ---- a number of two parts: m, and n from bit k on
+
+low-step : (i d m n : ℕ) → (m + 2 ^ (i + suc d) * n) / 2 ^ i % 2 ≡ m / 2 ^ i % 2
+low-step i d m n =
+    ap (λ (x : ℕ). x % 2) (ap (λ (x : ℕ). (m + x) / 2 ^ i) even ∙ add-mul-div-left m (2 * (2 ^ d * n)) (pow-pos i))
+    ∙ add-mul-mod-self-left (m / 2 ^ i) 2 (2 ^ d * n)
+  where
+    even : 2 ^ (i + suc d) * n ≡ 2 ^ i * (2 * (2 ^ d * n))
+    even =
+        ap (λ (x : ℕ). x * n) (pow-add 2 i (suc d) ∙ ap (λ (x : ℕ). 2 ^ i * x) (pow-succ' 2 d))
+        ∙ mul-assoc (2 ^ i) (2 * 2 ^ d) n ∙ ap (λ (x : ℕ). 2 ^ i * x) (mul-assoc 2 (2 ^ d) n)
+
+-- below k the bits are those of m
+pub low-has : (k m n i : ℕ) → i < k → hasBit (m + 2 ^ k * n) i ≡ hasBit m i
+low-has k m n i h =
+    let e : i + suc (k - suc i) ≡ k = omega arith in
+    ap (λ (x : ℕ). eqb x 1) (subst (λ (x : ℕ). (m + 2 ^ x * n) / 2 ^ i % 2 ≡ m / 2 ^ i % 2) e (low-step i (k - suc i) m n))
+
+-- from k on they are those of n
+pub above-has : (k m n j : ℕ) → m < 2 ^ k → hasBit (m + 2 ^ k * n) (k + j) ≡ hasBit n j
+above-has k m n j h =
+    ap (λ (x : ℕ). eqb (x % 2) 1) (sym (shr-shr (m + 2 ^ k * n) k j) ∙ ap (λ (x : ℕ). x / 2 ^ j) rest)
+  where
+    rest : (m + 2 ^ k * n) / 2 ^ k ≡ n
+    rest = add-mul-div-left m n (pow-pos k) ∙ ap (λ (x : ℕ). x + n) (div-eq-of-lt h) ∙ zero-add n
+
+-- the lowest k bits of a number
+pub mod-has : (k m i : ℕ) → i < k → hasBit (m % 2 ^ k) i ≡ hasBit m i
+mod-has k m i h = sym (low-has k (m % 2 ^ k) (m / 2 ^ k) i h) ∙ ap (λ (x : ℕ). hasBit x i) (mod-add-div m (2 ^ k))
 
 -- ---- two numbers
 
@@ -268,6 +314,15 @@ covers-of a b f = eq-eqb _ a (bits-same (bitAnd a b + a) (bitAnd a b) a (omega a
         let c = bit-and a b i in let l = bit-lt a i in
         by-test (hasBit a i) (λ e. let x = one-of a i e in let y = one-of b i (f i e) in omega arith)
         (λ e. let n : bit a i ≢ 1 = (λ z. never (of-one a i z) e) in omega arith)
+
+-- nothing is left of a but the bits of b exactly if b covers a
+pub less-none : (a b : ℕ) → eqb (bitXor a (bitAnd a b)) 0 ≡ covers a b
+less-none a b =
+    same-test (eqb (bitXor a (bitAnd a b)) 0) (covers a b)
+    (λ e. covers-of a b (λ i u. by-test (hasBit b i) (λ v. v)
+    (λ v. never (less-has a b i ∙ ap₂ (λ (p q : Bool). p && not q) u v)
+    (ap (λ (m : ℕ). hasBit m i) (eqb-true (bitXor a (bitAnd a b)) 0 e) ∙ zero-has i))))
+    (λ e. eq-eqb (bitXor a (bitAnd a b)) 0 (ap (bitXor a) (eqb-true (bitAnd a b) a e) ∙ xor-self a))
 
 -- ---- sets of the numbers 1 to w
 
@@ -361,13 +416,19 @@ mask-le w m k h = rw (mask-is w k h) (omega (arith, or-pow m k, one-bit))
     one-bit : (m / 2 ^ k % 2) * 2 ^ k ≤ m
     one-bit = rw (and-pow m k) at (and-le-l m (2 ^ k))
 
--- m or the mask of k
-pub mask-with : (w m k : ℕ) → 1 ≤ k → k ≤ w → bitOr m (1 * 2 ^ (k - 1) % 2 ^ w) ≡ withNumber w m k
-mask-with w m k h j = rw (is-number w k h j) (ap (bitOr m) (mask-is w (k - 1) (omega arith)))
+-- m or the mask of bit k, and that less the mask
+pub mask-bit : (w m k : ℕ) → k < w → bitOr m (1 * 2 ^ k % 2 ^ w) ≡ withBit m k
+mask-bit w m k h = ap (bitOr m) (mask-is w k h)
 
--- m or the mask of k, less that mask
+pub mask-less : (w m k : ℕ) → k < w → bitOr m (1 * 2 ^ k % 2 ^ w) - 1 * 2 ^ k % 2 ^ w ≡ withoutBit m k
+mask-less w m k h =
+    rw (mask-is w k h)
+    (by-test (hasBit m k) (λ e. rw e (ap (λ (x : ℕ). x - 2 ^ k) (or-in m k (eqb-true _ _ e))))
+    (λ e. rw e (omega (arith, or-out m k (eqb-false _ _ e)))))
+
+-- the same of the number k
+pub mask-with : (w m k : ℕ) → 1 ≤ k → k ≤ w → bitOr m (1 * 2 ^ (k - 1) % 2 ^ w) ≡ withNumber w m k
+mask-with w m k h j = rw (is-number w k h j) (mask-bit w m (k - 1) (omega arith))
+
 pub mask-without : (w m k : ℕ) → 1 ≤ k → k ≤ w → bitOr m (1 * 2 ^ (k - 1) % 2 ^ w) - 1 * 2 ^ (k - 1) % 2 ^ w ≡ withoutNumber w m k
-mask-without w m k h j =
-    rw (is-number w k h j, mask-is w (k - 1) (omega arith))
-    (by-test (hasBit m (k - 1)) (λ e. rw e (ap (λ (x : ℕ). x - 2 ^ (k - 1)) (or-in m (k - 1) (eqb-true _ _ e))))
-    (λ e. rw e (omega (arith, or-out m (k - 1) (eqb-false _ _ e)))))
+mask-without w m k h j = rw (is-number w k h j) (mask-less w m (k - 1) (omega arith))

@@ -3,7 +3,7 @@
 use Prim.Native.Nat.{ℕ, _-_, _/_, _%_, _^_}
 use mathlib.Core.Bool.{Bool, not, cond, _&&_}
 use lib.Dec.{eqb, leb}
-use lib.Bits.{bitAnd, bitOr}
+use lib.Bits.{bitAnd, bitOr, bitXor}
 
 -- bit i of m is 1
 abbrev pub hasBit : ℕ → ℕ → Bool
@@ -20,6 +20,10 @@ withoutBit m i = cond (hasBit m i) (m - 2 ^ i) m
 -- some bit is 1 in both
 abbrev pub share : ℕ → ℕ → Bool
 share a b = not (eqb (bitAnd a b) 0)
+
+-- the bits of a that are not in b
+abbrev pub lessBits : ℕ → ℕ → ℕ
+lessBits a b = bitXor a (bitAnd a b)
 
 -- every bit of a is in b
 abbrev pub covers : ℕ → ℕ → Bool

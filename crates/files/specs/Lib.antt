@@ -1,3 +1,4 @@
 -- The definitions that the contracts of files cite.
 pub mod Bits
 pub mod Sets
+pub mod Words

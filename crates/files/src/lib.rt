@@ -1,6 +1,11 @@
-// Sets of files, by value.
+// Sets of files: by value here, as rows of words in `words`.
 ghost use mathlib.Core.Path.{_≡_};
 ghost use Rattle.files.specs.Sets.{member, adding, removing, meets, within, isEmpty};
+
+pub mod words;
+
+// How many words a set of files has where it is lent.
+pub const WORDS: usize = 1;
 
 // A set of the files 1 to 64: bit f - 1 says whether file f is in it. No other number is a file.
 pub struct FileSet {

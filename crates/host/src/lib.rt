@@ -1,4 +1,5 @@
 // The calls of a C host.
+use files::WORDS;
 use image::Loaded;
 use rules::Board;
 use search::Search;
@@ -25,7 +26,9 @@ pub fn read_image(image: &[u8]) -> Loaded
         };
     }
     let b = loaded.board;
-    if !sound::is_sound(b) {
+    let mut sets = [[0u64; WORDS]; 128];
+    let rest = store::take(b, &mut sets);
+    if !sound::is_sound(&sets, rest) {
         return Loaded {
             ok: false,
             board: empty,
@@ -126,7 +129,9 @@ pub extern "C" fn lock_board_order(image: &[u8], order: &mut [u8]) -> u64
         return refusal_answer(1);
     }
     let b = loaded.board;
-    let j = sound::judge(b);
+    let mut sets = [[0u64; WORDS]; 128];
+    let rest = store::take(b, &mut sets);
+    let j = sound::judge(&sets, rest);
     if !j.sound {
         return refusal_answer(1);
     }

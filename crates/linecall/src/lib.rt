@@ -1,5 +1,6 @@
 // The line call, tested: check 1, then the line on the board, which is then known to be sound (`known`).
 use digraph::Loop;
+use files::WORDS;
 use rules::Board;
 use rules::Reply;
 ghost use mathlib.Core.Path.{_≡_};
@@ -26,7 +27,9 @@ pub fn line_call(b: Board, line: &[u8], journal: &mut [u8], place: u64) -> Poste
     ensures { λ r. ⌜ now (journal .exit) ≡ lineCall b (now (line .entry)) (now (journal .entry)) place .journal ⌝ }
     ensures { λ r. ⌜ mayCarry b (requestCall (requestOf (now (line .entry)))) (r .reply .answer) (named (r .carries)) ≡ true ⌝ }
 {
-    let j = sound::judge(b);
+    let mut sets = [[0u64; WORDS]; 128];
+    let rest = store::take(b, &mut sets);
+    let j = sound::judge(&sets, rest);
     if !j.sound {
         let reply = apply::replies::refused_unsound(b);
         return Posted {

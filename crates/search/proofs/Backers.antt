@@ -10,14 +10,14 @@ use lib.Dec.{ltb}
 use lib.ListN.{length}
 use borrow.Author.Tests.{ltb-true, ltb-false}
 use Rattle.laws.specs.Tests.{by-test, never, and-left, and-right, and-both, or-cases, or-left, or-right, no-true}
-use Rattle.laws.specs.Lists.{any, keep, rising, found}
+use Rattle.laws.specs.Lists.{any, keep, rising}
 use Rattle.rules.specs.Modes.{Mode}
 use Rattle.rules.specs.Boards.{everyone}
 use mathlib.Core.List.{List·Memᴰ·tail}
 use Rattle.laws.specs.Laws.{_∈_, by-mem, here, any-some, some-any, mem-rising, length-keep, length-rising}
 use Rattle.tables.specs.declared.ProgramSet.{ProgramSet}
 use Rattle.tables.specs.ProgramSets.{hasProgram, withoutProgram}
-use Rattle.tables.specs.Sets.{modeAt, holdsOne, claimsAt}
+use Rattle.store.specs.Sets.{Sets, modeAt, holdsOne, claimsAt}
 use Rattle.tables.proofs.Laws.{packed-has, none-has}
 use Rattle.tables.specs.Boards.{admittedSet}
 use Rattle.search.specs.Gives.{joins, backers, safeIn, SafeFor}
@@ -50,7 +50,7 @@ module _ (s t : ℕ → Bool) where
       (λ u. let k : length (keep t l) ≤ length (keep s l) = rw (d, u) at h in
       by-mem m (λ z. never e (ap t z ∙ u)) (λ i. keep-covers l (λ c j. f c (List·Memᴰ·tail j)) k a i e)))
 
-module _ (sets : List ℕ) (others : ProgramSet) (p : ℕ) where
+module _ (sets : Sets) (others : ProgramSet) (p : ℕ) where
   abbrev S : ℕ → ProgramSet
   S n = backers sets others p n
 
@@ -150,7 +150,7 @@ module _ (sets : List ℕ) (others : ProgramSet) (p : ℕ) where
 
 -- ---- a file given
 
-module _ (sets : List ℕ) (a : ProgramSet) (p f : ℕ) where
+module _ (sets : Sets) (a : ProgramSet) (p f : ℕ) where
   abbrev among : ProgramSet
   among = withoutProgram a p
 

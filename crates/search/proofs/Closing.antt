@@ -2,7 +2,6 @@
 use mathlib.Core.Path.{_≡_, sym, ap, ap₂, subst, _∙_}
 use mathlib.Core.Logic.{_≢_}
 use mathlib.Core.Bool.{Bool, true, false, not, _&&_, _||_}
-use mathlib.Core.List.{List}
 use Prim.Native.Nat.{ℕ, _≤_}
 use native.Mathlib.Omega.{arith}
 use lib.Dec.{eqb}
@@ -18,22 +17,22 @@ use Rattle.rules.specs.Orders.{holdsBack, carried, safe}
 use Rattle.theory.specs.Reach.{isOther, ReachesOn, no-back, reaches-direct, reaches-through, given-holds, safe-by-closed, unsafe-by-reach}
 use Rattle.tables.specs.declared.ProgramSet.{ProgramSet}
 use Rattle.tables.specs.ProgramSets.{hasProgram, withoutProgram, unionOf, lessOf}
-use Rattle.tables.specs.Sets.{SetsOf, modeAt, holdsOne, claimsAt}
+use Rattle.store.specs.Sets.{Sets, SetsOf, modeAt, holdsOne, claimsAt}
 use Rattle.tables.specs.Tables.{packed, holdersOf}
 use Rattle.tables.proofs.Laws.{packed-has, union-has, less-has}
 use Rattle.tables.proofs.Walk.{rest-more}
-use Rattle.tables.proofs.Whole.{holds-is, claims-is, mode-at}
+use Rattle.store.proofs.Laws.{holds-is, claims-is, mode-at}
 use Rattle.tables.specs.Boards.{admits, admittedSet}
 use Rattle.search.proofs.Laws.{low, high}
 
 -- x, among the others, holds p back, or one that does so in turn
-pub data Back (sets : List ℕ) (among : ProgramSet) (p : ℕ) : ℕ → Type 0 where
+pub data Back (sets : Sets) (among : ProgramSet) (p : ℕ) : ℕ → Type 0 where
   nearest : {x : ℕ} → hasProgram among x ≡ true → holdsOne sets p x ≡ true → Back sets among p x
   further : {x y : ℕ} → hasProgram among x ≡ true → holdsOne sets y x ≡ true → Back sets among p y → Back sets among p x
 
 -- Those not in the rest are found. Who holds back p, or one of them that is no longer in `found`, is found too; those no longer in `found`
 -- do not claim f.
-pub record Closing (sets : List ℕ) (among : ProgramSet) (p f : ℕ) (mode : Mode) (found rest : ProgramSet) : Type 0 where
+pub record Closing (sets : Sets) (among : ProgramSet) (p f : ℕ) (mode : Mode) (found rest : ProgramSet) : Type 0 where
   pub backs : (x : ℕ) → hasProgram among x ≡ true → hasProgram rest x ≡ false → Back sets among p x
   pub base : (x : ℕ) → hasProgram among x ≡ true → holdsOne sets p x ≡ true → hasProgram rest x ≡ false
   pub step : (x y : ℕ) → hasProgram among x ≡ true → hasProgram among y ≡ true → hasProgram rest y ≡ false → hasProgram found y ≡ false
@@ -42,7 +41,7 @@ pub record Closing (sets : List ℕ) (among : ProgramSet) (p f : ℕ) (mode : Mo
   pub inside : (x : ℕ) → hasProgram found x ≡ true → (hasProgram among x ≡ true) × (hasProgram rest x ≡ false)
   pub within : (x : ℕ) → hasProgram rest x ≡ true → hasProgram among x ≡ true
 
-module _ (sets : List ℕ) (p : ℕ) (s : ProgramSet) where
+module _ (sets : Sets) (p : ℕ) (s : ProgramSet) where
   -- those of s that hold p back
   abbrev pub more : ProgramSet
   more = packed (holdersOf sets p s) 32
@@ -71,7 +70,7 @@ module _ (sets : List ℕ) (p : ℕ) (s : ProgramSet) where
   pub of-less : (x : ℕ) → hasProgram (lessOf s more) x ≡ true → hasProgram s x ≡ true
   of-less x e = and-left (hasProgram s x) (not (hasProgram more x)) (sym (less-has s more x) ∙ e)
 
-module _ (sets : List ℕ) (among : ProgramSet) (p f : ℕ) (mode : Mode) where
+module _ (sets : Sets) (among : ProgramSet) (p f : ℕ) (mode : Mode) where
   pub closing-start : Closing sets among p f mode (more sets p among) (lessOf among (more sets p among))
   closing-start = record {
     backs = λ x m n. let (_, e) = of-more sets p among x (was-more sets p among x m n) in Back.nearest m e;
@@ -134,7 +133,7 @@ module _ (sets : List ℕ) (among : ProgramSet) (p f : ℕ) (mode : Mode) where
       pub closing-next : (l r : ProgramSet) → l ≡ next → r ≡ lessOf rest (more sets q rest) → Closing sets among p f mode l r
       closing-next l r i j = rw (i, j) closing-more
 
-module _ (b : Board) (sets : List ℕ) (p f : ℕ) (s : SetsOf b sets) (h : 1 ≤ p) (k : p ≤ 32) (a : admits b p ≡ true) (o : found (carried b) ≡ true) where
+module _ (b : Board) (sets : Sets) (p f : ℕ) (s : SetsOf b sets) (h : 1 ≤ p) (k : p ≤ 32) (a : admits b p ≡ true) (o : found (carried b) ≡ true) where
   abbrev among : ProgramSet
   among = withoutProgram (admittedSet b) p
 

@@ -1,13 +1,13 @@
 -- A decision tests each ordered pair at most once. Assumes nothing.
 use mathlib.Core.Path.{_≡_, refl, sym, ap, _∙_}
-use mathlib.Core.Bool.{Bool, true, false, not, _&&_, _||_}
-use mathlib.Core.List.{List}
+use mathlib.Core.Bool.{Bool, true, false, _&&_, _||_}
 use mathlib.Core.Option.{Option, Option·getD}
 use Prim.Native.Nat.{ℕ, zero, suc, _+_, _-_, _^_, _≤_, _<_}
 use native.Mathlib.Omega.{arith}
 use lib.Dec.{eqb, ltb}
 use lib.ListN.{length}
 use borrow.Author.Tests.{eqb-true, eqb-false, ltb-true, ltb-false}
+use Rattle.store.specs.Sets.{Sets}
 use Rattle.laws.specs.Tests.{by-test, never, no-true, and-left, and-right, or-cases, or-left, or-right}
 use lib.Bits.{or-zero-l}
 use Rattle.files.specs.Bits.{isNumber}
@@ -19,7 +19,7 @@ use Rattle.tables.specs.declared.ProgramSet.{ProgramSet}
 use Rattle.tables.specs.ProgramSets.{noPrograms, hasProgram, withProgram, withoutProgram, unionOf, lessOf, lowestOf}
 use Rattle.tables.proofs.Laws.{first-at, union-has, none-has}
 use Rattle.tables.proofs.Walk.{rest-more}
-use Rattle.search.specs.Stages.{Stage, asked, stage, tests, TestedOnce}
+use Rattle.search.specs.Stages.{Stage, asked, stage, TestedOnce}
 use Rattle.search.proofs.Laws.{low, high}
 use Rattle.search.proofs.Backers.{keep-covers}
 use Rattle.search.proofs.Closing.{more, of-more, of-less, more-gone, still-gone}
@@ -32,7 +32,7 @@ Apart s = (x : ℕ) → hasProgram (s .found) x ≡ true → hasProgram (s .rest
 abbrev pub toAsk : Stage → ℕ → Bool
 toAsk s x = hasProgram (s .found) x || hasProgram (s .rest) x
 
-module _ (sets : List ℕ) (q : ℕ) (s : Stage) (a : Apart s) where
+module _ (sets : Sets) (q : ℕ) (s : Stage) (a : Apart s) where
   abbrev m : ProgramSet
   m = more sets q (s .rest)
 
@@ -70,7 +70,7 @@ module _ (sets : List ℕ) (q : ℕ) (s : Stage) (a : Apart s) where
       → length (keep (toAsk (record { found = l; rest = r })) everyone) < length (keep (toAsk s) everyone)
   fewer-to-ask e l r i j = rw (i, j) (fewer e)
 
-module _ (sets : List ℕ) (a : ProgramSet) (p : ℕ) where
+module _ (sets : Sets) (a : ProgramSet) (p : ℕ) where
   abbrev at : ℕ → Stage
   at k = stage sets a p k
 

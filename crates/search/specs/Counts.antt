@@ -13,8 +13,7 @@ use Rattle.rules.specs.Boards.{everyone, at}
 use Rattle.rules.specs.Orders.{holdsBack}
 use Rattle.tables.specs.declared.ProgramSet.{ProgramSet}
 use Rattle.tables.specs.ProgramSets.{hasProgram}
-use Rattle.tables.specs.Sets.{places}
-use Rattle.tables.specs.Tables.{rowOf, RowsOf}
+use Rattle.tables.specs.Tables.{places, rowOf, RowsOf}
 
 -- the programs left
 abbrev pub those : ProgramSet → List ℕ

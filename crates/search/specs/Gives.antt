@@ -4,9 +4,9 @@
 use Prim.Native.Nat.{ℕ, zero, suc}
 use mathlib.Core.Path.{_≡_}
 use mathlib.Core.Bool.{Bool, true, not, _&&_, _||_}
-use mathlib.Core.List.{List}
 use lib.ListN.{length}
 use Rattle.files.specs.Sets.{member}
+use Rattle.files.specs.Words.{setOf}
 use Rattle.rules.specs.declared.Board.{Board}
 use Rattle.laws.specs.Lists.{any, found}
 use Rattle.rules.specs.Modes.{clashing, someMode}
@@ -15,8 +15,8 @@ use Rattle.rules.specs.Orders.{carried, withGiven, inUse, safe, canGive}
 use Rattle.rules.specs.Soundness.{noConflict}
 use Rattle.tables.specs.declared.ProgramSet.{ProgramSet}
 use Rattle.tables.specs.ProgramSets.{noPrograms, hasProgram, withoutProgram}
-use Rattle.tables.specs.Sets.{SetsOf, openAt, modeAt, holdsOne, claimsAt, givenAt}
-use Rattle.tables.specs.Shared.{sharedIn, openedIn, othersOf}
+use Rattle.store.specs.Sets.{Sets, SetsOf, modeAt, holdsOne, claimsAt, givenAt}
+use Rattle.tables.specs.Shared.{sharedIn, openRow, openedIn, othersOf}
 use Rattle.tables.specs.Tables.{packed, rowsOf}
 use Rattle.search.specs.declared.Order.{Order}
 use Rattle.search.specs.declared.Uses.{Uses}
@@ -26,59 +26,59 @@ use Rattle.search.specs.Rows.{asOrder, orderIn}
 -- ---- by the arrays
 
 -- what is open, with these admitted
-abbrev pub usesIn : ProgramSet → List ℕ → Uses
+abbrev pub usesIn : ProgramSet → Sets → Uses
 usesIn a sets = record { admitted = a; files = openedIn sets }
 
 -- another than p has f open, in a mode that clashes with the one in which p would open it
-abbrev pub usedIn : List ℕ → Uses → ℕ → ℕ → Bool
-usedIn sets u p f = someMode (λ m. clashing (modeAt sets p f) m && member (othersOf (sharedIn m (u .files)) (openAt sets p m)) f)
+abbrev pub usedIn : Sets → Uses → ℕ → ℕ → Bool
+usedIn sets u p f = someMode (λ m. clashing (modeAt sets p f) m && member (setOf (othersOf (sharedIn m (u .files)) (openRow sets m p))) f)
 
 -- x was found before, or is among the others and holds back p or one that was found
-abbrev pub joins : List ℕ → ProgramSet → ℕ → ProgramSet → ℕ → Bool
+abbrev pub joins : Sets → ProgramSet → ℕ → ProgramSet → ℕ → Bool
 joins sets others p seen x = hasProgram seen x
     || (hasProgram others x && (holdsOne sets p x || any (λ y. hasProgram seen y && holdsOne sets y x) everyone))
 
 -- those of the others that hold back p, directly or through others, found in n rounds
-unfoldable pub backers : List ℕ → ProgramSet → ℕ → ℕ → ProgramSet
+unfoldable pub backers : Sets → ProgramSet → ℕ → ℕ → ProgramSet
 backers sets others p zero = noPrograms
 backers sets others p (suc n) = packed (joins sets others p (backers sets others p n)) 32
 
 -- with f given to p, p would hold back none that holds it back: none of them claims f in a mode that clashes with p's;
 -- after 32 rounds all of them are found
-unfoldable pub safeIn : List ℕ → ProgramSet → ℕ → ℕ → Bool
+unfoldable pub safeIn : Sets → ProgramSet → ℕ → ℕ → Bool
 safeIn sets a p f =
     not (any (λ x. hasProgram (backers sets (withoutProgram a p) p 32) x && claimsAt sets f (modeAt sets p f) x) everyone)
 
 -- f is in no conflicting use, and giving it to p is safe
-abbrev pub giveIn : List ℕ → Uses → ℕ → ℕ → Bool
+abbrev pub giveIn : Sets → Uses → ℕ → ℕ → Bool
 giveIn sets u p f = not (usedIn sets u p f) && safeIn sets (u .admitted) p f
 
 -- the order of those admitted, with f given to p
-abbrev pub orderGiven : List ℕ → ProgramSet → ℕ → ℕ → Order
+abbrev pub orderGiven : Sets → ProgramSet → ℕ → ℕ → Order
 orderGiven sets a p f = orderIn (rowsOf (givenAt sets p f) a) a
 
 -- ---- from the arrays to boards
 
 -- who is admitted, and what is open
-abbrev pub usesOf : Board → List ℕ → Uses
+abbrev pub usesOf : Board → Sets → Uses
 usesOf b sets = usesIn (admittedSet b) sets
 
 -- on every board without conflict that has these sets: the test says whether f is in conflicting use
-abbrev pub UsedFor : List ℕ → Uses → ℕ → ℕ → Bool → Type 0
+abbrev pub UsedFor : Sets → Uses → ℕ → ℕ → Bool → Type 0
 UsedFor sets u p f r = (b : Board) → SetsOf b sets → u ≡ usesOf b sets → noConflict b ≡ true → r ≡ inUse b p f
 
 -- on every board with these sets and admitted programs that has an order: the test says whether an order comes back with f given to p
-abbrev pub SafeFor : List ℕ → ProgramSet → ℕ → ℕ → Bool → Type 0
+abbrev pub SafeFor : Sets → ProgramSet → ℕ → ℕ → Bool → Type 0
 SafeFor sets a p f r = (b : Board) → SetsOf b sets → a ≡ admittedSet b → admits b p ≡ true → found (carried b) ≡ true
     → r ≡ safe b p f
 
 -- on every board with an order and without conflict that has these sets: the test says whether an open would give f
 -- to the admitted program p
-abbrev pub GivenFor : List ℕ → Uses → ℕ → ℕ → Bool → Type 0
+abbrev pub GivenFor : Sets → Uses → ℕ → ℕ → Bool → Type 0
 GivenFor sets u p f r = (b : Board) → SetsOf b sets → u ≡ usesOf b sets → noConflict b ≡ true → found (carried b) ≡ true
     → admits b p ≡ true → r ≡ canGive b p f
 
 -- of every board of 32 programs with these sets and admitted programs: the carried order with f given to p
-abbrev pub OrderGiven : List ℕ → ProgramSet → ℕ → ℕ → Order → Type 0
+abbrev pub OrderGiven : Sets → ProgramSet → ℕ → ℕ → Order → Type 0
 OrderGiven sets a p f r = (b : Board) → length (b .programs) ≡ 32 → SetsOf b sets → a ≡ admittedSet b
     → r ≡ asOrder (carried (withGiven b p f))

@@ -1,4 +1,5 @@
 // The carried order of a board.
+use files::WORDS;
 use rules::Board;
 use tables::ProgramSet;
 use tables::shared::OpenFiles;
@@ -147,7 +148,7 @@ pub fn order_in(rows: &[u32; 32], left: ProgramSet) -> Order
 pub fn carried_order(b: Board) -> Order
     ensures { λ r. ⌜ r ≡ asOrder (carried b) ⌝ }
 {
-    let mut sets = [0u64; 128];
+    let mut sets = [[0u64; WORDS]; 128];
     let mut rows = [0u32; 32];
     let left = tables::boards::admitted_set(b);
     tables::fill(b, left, &mut sets, &mut rows);

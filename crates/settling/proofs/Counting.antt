@@ -14,7 +14,7 @@ use Rattle.rules.specs.declared.Board.{Board}
 use Rattle.rules.specs.Boards.{at, isWaiting, passedBy, tallied}
 use Rattle.theory.specs.Counts.{tallied-at}
 use Rattle.theory.specs.Sizes.{tallied-32}
-use Rattle.tables.specs.Sets.{inPlace}
+use Rattle.store.specs.Sets.{inPlace}
 use Rattle.settling.specs.Writing.{CountsFew}
 
 -- the count of p is 8

@@ -24,8 +24,9 @@ use Rattle.laws.specs.Laws.{_∈_, Pairs, here, each-all}
 use Rattle.theory.specs.Programs.{Is, of-is, Sized, standing-same}
 use Rattle.theory.specs.Loose.{Loose, waiting-in}
 use Rattle.tables.specs.declared.ProgramSet.{ProgramSet}
-use Rattle.tables.specs.Sets.{SetsOf, givenAt}
-use Rattle.tables.proofs.Given.{packed-same, sets-given}
+use Rattle.store.specs.Sets.{Sets, SetsOf, givenAt}
+use Rattle.store.proofs.Given.{sets-given}
+use Rattle.tables.proofs.Given.{packed-same}
 use Rattle.search.specs.declared.Uses.{Uses}
 use Rattle.tables.specs.Boards.{admits, admittedSet}
 use Rattle.search.specs.Gives.{usesOf, usesIn}
@@ -85,13 +86,13 @@ module _ (c : Board) (p f : ℕ) (z : Sized (c .programs)) (i : Is p) where
 
 -- ---- the sets, with a file given
 
-sets-served : (c : Board) (p f : ℕ) (sets : List ℕ) → Sized (c .programs) → Is p → SetsOf c sets → SetsOf (givenTo c p f) (givenAt sets p f)
+sets-served : (c : Board) (p f : ℕ) (sets : Sets) → Sized (c .programs) → Is p → SetsOf c sets → SetsOf (givenTo c p f) (givenAt sets p f)
 sets-served c p f sets z i s = sets-given c (givenTo c p f) (serve (at c p) f) p f sets z i refl (standing-same (opening (at c p) f) Standing.Running) s
 
 -- ---- the pass, with the arrays
 
 -- the waiters from place k on are still to be asked, s is what was written before that, and the arrays are those of its board
-pub record At (w : Written) (l asked : List ℕ) (k : ℕ) (s : Written) (sets : List ℕ) (u : Uses) : Type 0 where
+pub record At (w : Written) (l asked : List ℕ) (k : ℕ) (s : Written) (sets : Sets) (u : Uses) : Type 0 where
   pub passed : PassAt w l k s
   pub sets-are : SetsOf (s .board) sets
   pub uses-are : u ≡ usesOf (s .board) sets
@@ -108,12 +109,12 @@ pub ready-programs : (b : Board) (ps : List ℕ) → Ready b ps → all isProgra
 ready-programs b ps r = each-all isProgram ps (λ p m. of-is p (r .2 p m .0))
 
 -- and an open would give the waiter at place k its file, or the line is at its end
-pub record Found (w : Written) (l asked : List ℕ) (k : ℕ) (s : Written) (sets : List ℕ) (u : Uses) : Type 0 where
+pub record Found (w : Written) (l asked : List ℕ) (k : ℕ) (s : Written) (sets : Sets) (u : Uses) : Type 0 where
   pub here : At w l asked k s sets u
   pub within : k ≤ 32
   pub gives : k < 32 → (getD l k 0 ≢ 0) × (canGive (s .board) (getD l k 0) (awaited (s .board) (getD l k 0)) ≡ true)
 
-module _ (w s : Written) (l asked sets : List ℕ) (u : Uses) (k j : ℕ) (a : At w l asked k s sets u) (x : NextFor sets asked u l k j) where
+module _ (w s : Written) (l asked : List ℕ) (sets : Sets) (u : Uses) (k j : ℕ) (a : At w l asked k s sets u) (x : NextFor sets asked u l k j) where
   next-at : NextGiven (s .board) l k j × Asks (s .board) (names (drop j l)) asked
   next-at = x (s .board) (a .sets-are) (a .uses-are) (a .passed .0) (a .asks)
 
@@ -124,7 +125,7 @@ module _ (w s : Written) (l asked sets : List ℕ) (u : Uses) (k j : ℕ) (a : A
     gives = next-at .0 .gives;
   }
 
-module _ (w s : Written) (l asked sets : List ℕ) (u : Uses) (j : ℕ) (a : Found w l asked j s sets u) (m : length l ≡ 32) (h : j < 32) where
+module _ (w s : Written) (l asked : List ℕ) (sets : Sets) (u : Uses) (j : ℕ) (a : Found w l asked j s sets u) (m : length l ≡ 32) (h : j < 32) where
   pass-at : PassAt w l j s
   pass-at = a .here .passed
 

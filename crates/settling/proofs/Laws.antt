@@ -25,7 +25,7 @@ use Rattle.theory.specs.Programs.{Is, of-is}
 use Rattle.theory.specs.Loose.{waitsIn, Loose, Counts}
 use Rattle.theory.specs.Settling.{pass-passed}
 use Rattle.theory.specs.Sound.{loose-apart, loose-order, loose-waiter}
-use Rattle.tables.specs.Sets.{inPlace, SetsOf}
+use Rattle.store.specs.Sets.{Sets, inPlace, SetsOf}
 use Rattle.search.specs.declared.Uses.{Uses}
 use Rattle.search.specs.Gives.{usesOf, usedIn, giveIn}
 use Rattle.search.proofs.Used.{used-by, give-by}
@@ -153,7 +153,7 @@ asked-more b i asked f h n a e j m = by-test (eqb j i)
     (λ t. let z : j ≢ i = eqb-false j i t in getD-set-other asked i j f 0 z ∙ a j (omega arith))
 
 -- from one place to the other nobody is given a file
-abbrev pub Over : List ℕ → List ℕ → Uses → List ℕ → ℕ → ℕ → Type 0
+abbrev pub Over : Sets → List ℕ → Uses → List ℕ → ℕ → ℕ → Type 0
 Over sets asked u l from k = (b : Board) → SetsOf b sets → u ≡ usesOf b sets → Ready b (names (drop from l))
     → Asks b (names (drop from l)) asked
     → Ready b (names (drop k l)) × Asks b (names (drop k l)) asked × (pass (names (drop from l)) b ≡ pass (names (drop k l)) b)
@@ -172,7 +172,7 @@ module _ (b : Board) (l : List ℕ) (k : ℕ) (h : k < length l) (ne : getD l k 
   waiter-in = subst (λ (ps : List ℕ). getD l k 0 ∈ ps) (sym (names-on l k h ne)) here
 
   -- what the arrays say of the waiter is what the rules say
-  pub waiter-can : (sets asked : List ℕ) (u : Uses) (t : Bool) → SetsOf b sets → u ≡ usesOf b sets → Asks b (names (drop k l)) asked
+  pub waiter-can : (sets : Sets) (asked : List ℕ) (u : Uses) (t : Bool) → SetsOf b sets → u ≡ usesOf b sets → Asks b (names (drop k l)) asked
       → t ≡ giveIn sets u (getD l k 0) (getD asked (getD l k 0 - 1) 0) → t ≡ canGive b (getD l k 0) (awaited b (getD l k 0))
   waiter-can sets asked u t x z a g =
       let m = loose-waiter b (getD l k 0) (ready-at .0) (waiter-at .0) (waiter-at .1) in let e = a (getD l k 0) waiter-in in
@@ -182,7 +182,7 @@ module _ (b : Board) (l : List ℕ) (k : ℕ) (h : k < length l) (ne : getD l k 
   pub asks-left : (asked : List ℕ) → Asks b (names (drop k l)) asked → Asks b (names (drop (k + 1) l)) asked
   asks-left asked a = rw (add-one k) (λ p m. a p (subst (λ (ps : List ℕ). p ∈ ps) (sym (names-on l k h ne)) (List·Memᴰ·tail m)))
 
-  pub waiter-used : (sets : List ℕ) (u : Uses) (f : ℕ) (t : Bool) → SetsOf b sets → u ≡ usesOf b sets
+  pub waiter-used : (sets : Sets) (u : Uses) (f : ℕ) (t : Bool) → SetsOf b sets → u ≡ usesOf b sets
       → f ≡ awaited b (getD l k 0) → t ≡ usedIn sets u (getD l k 0) f → t ≡ inUse b (getD l k 0) (awaited b (getD l k 0))
   waiter-used sets u f t x z e g =
       used-by sets u (getD l k 0) f t (waiter-range .0) (waiter-range .1) g b x z (loose-apart b (ready-at .0)) ∙ ap (inUse b (getD l k 0)) e

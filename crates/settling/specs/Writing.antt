@@ -18,7 +18,7 @@ use Rattle.rules.specs.Settling.{Step, line, pass, admitHeld}
 use Rattle.laws.specs.Laws.{_∈_, NoRepeat}
 use Rattle.theory.specs.Programs.{Is}
 use Rattle.theory.specs.Loose.{Loose, waitsIn, countIn}
-use Rattle.tables.specs.Sets.{inPlace, SetsOf}
+use Rattle.store.specs.Sets.{Sets, inPlace, SetsOf}
 use Rattle.search.specs.declared.Uses.{Uses}
 use Rattle.search.specs.Gives.{usesOf}
 use Rattle.settling.specs.declared.Written.{Written}
@@ -68,7 +68,7 @@ abbrev pub Asks : Board → List ℕ → List ℕ → Type 0
 Asks b ps asked = (p : ℕ) → p ∈ ps → getD asked (p - 1) 0 ≡ awaited b p
 
 -- on every board with these sets, on which these wait for these files: the next place of the line
-abbrev pub NextFor : List ℕ → List ℕ → Uses → List ℕ → ℕ → ℕ → Type 0
+abbrev pub NextFor : Sets → List ℕ → Uses → List ℕ → ℕ → ℕ → Type 0
 NextFor sets asked u l from to = (b : Board) → SetsOf b sets → u ≡ usesOf b sets → Ready b (names (drop from l))
     → Asks b (names (drop from l)) asked → NextGiven b l from to × Asks b (names (drop to l)) asked
 

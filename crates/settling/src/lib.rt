@@ -1,4 +1,5 @@
 // Settling.
+use files::WORDS;
 use parts::programs;
 use rules::Board;
 use rules::Line;
@@ -16,6 +17,7 @@ ghost use Rattle.laws.specs.Lists.{all, names};
 ghost use Rattle.rules.specs.Boards.{isProgram};
 ghost use Rattle.rules.specs.Settling.{pass, candidate, favour, runHeld, choose, settle};
 ghost use Rattle.theory.specs.Loose.{Loose, Counts};
+ghost use Rattle.store.specs.Sets.{IsStore};
 ghost use Rattle.settling.specs.Writing.{after, Fits, admitOne, CountsFew, serve, AskedOf, NextFor};
 
 pub mod counts;
@@ -71,8 +73,14 @@ fn fill_asked(b: Board, asked: &mut [u8; 32])
 }
 
 // The place of the next waiter, from a place of the line on, to which an open would now give its file; 32 if there is none.
-fn next_given(sets: &[u64; 128], asked: &[u8; 32], uses: Uses, line: [u8; 32], from: usize) -> usize
-    requires { ⌜ (from ≤ 32) × (all isProgram (names (drop from line)) ≡ true) ⌝ }
+fn next_given(
+    sets: &[[u64; WORDS]; 128],
+    asked: &[u8; 32],
+    uses: Uses,
+    line: [u8; 32],
+    from: usize,
+) -> usize
+    requires { ⌜ (from ≤ 32) × (all isProgram (names (drop from line)) ≡ true) × IsStore (now sets) ⌝ }
     ensures { λ r. ⌜ (from ≤ r) × (r ≤ 32) × NextFor (now (sets .entry)) (now (asked .entry)) uses line from r ⌝ }
 {
     let mut k = from;
@@ -97,9 +105,9 @@ fn pass_line(w: Written) -> Written
 {
     let mut c = w.board;
     let line = c.waiting;
-    let mut sets = [0u64; 128];
+    let mut sets = [[0u64; WORDS]; 128];
     let mut asked = [0u8; 32];
-    tables::sets::take_sets(c, &mut sets);
+    store::sets::take_sets(c, &mut sets);
     fill_asked(c, &mut asked);
     let mut uses = search::gives::uses_of(c, &sets);
     let mut lines = w.lines;
@@ -127,7 +135,7 @@ fn pass_line(w: Written) -> Written
             refusal: 0,
         };
         n += 1;
-        tables::sets::give(&mut sets, p, f);
+        store::sets::give(&mut sets, p, f);
         let admitted = uses.admitted;
         uses = search::gives::uses_in(admitted, &sets);
         j = next_given(&sets, &asked, uses, line, j + 1);
@@ -148,8 +156,8 @@ fn oldest_unused(b: Board) -> u8
     if line[0] == 0 {
         return 0;
     }
-    let mut sets = [0u64; 128];
-    tables::sets::take_sets(b, &mut sets);
+    let mut sets = [[0u64; WORDS]; 128];
+    store::sets::take_sets(b, &mut sets);
     let uses = search::gives::uses_of(b, &sets);
     let mut k: usize = 0;
     while k < 32 {

@@ -1,30 +1,32 @@
-// The test of a sound board.
-use files::FileSet;
+// The test of a sound board: by the sets of its programs, which are lent, and the rest.
+use files::WORDS;
+use files::words;
 use parts::modes;
-use parts::programs;
 use parts::standings;
-use rules::Board;
-use rules::Program;
 use rules::Standing;
 use search::Order;
 use search::Uses;
+use store::Rest;
+use store::sets;
 use tables::ProgramSet;
 ghost use mathlib.Core.Path.{_≡_};
-ghost use mathlib.Core.Bool.{true, false, cond, _&&_};
+ghost use mathlib.Core.Bool.{true, false, cond};
 ghost use Prim.Native.Nat.{_≤_};
 ghost use lib.Dec.{eqb};
 ghost use lib.ListN.{length};
 ghost use Rattle.files.specs.Sets.{isEmpty};
-ghost use Rattle.laws.specs.Lists.{all, found, keep, names};
+ghost use Rattle.laws.specs.Lists.{all, keep, names};
 ghost use Rattle.rules.specs.Boards.{everyone};
+ghost use Rattle.rules.specs.Modes.{eachMode};
 ghost use Rattle.rules.specs.Orders.{carried};
-ghost use Rattle.rules.specs.Soundness.{setsSound, standingSound, programSound, lineSound, noneFavoured, someFavoured, countSound, sound};
+ghost use Rattle.rules.specs.Soundness.{setsSound, lineSound, sound};
+ghost use Rattle.store.specs.Sets.{IsStore, claimAt, openAt};
+ghost use Rattle.store.specs.Store.{boardOf};
 ghost use Rattle.tables.specs.ProgramSets.{hasProgram};
-ghost use Rattle.tables.specs.Sets.{SetsOf};
-ghost use Rattle.tables.specs.Boards.{admittedSet};
 ghost use Rattle.search.specs.Rows.{asOrder};
 ghost use Rattle.search.specs.Gives.{usesIn};
-ghost use Rattle.sound.specs.Parts.{isName, stands, rightName, standSet, takes, isSoundAt, noConflictIn, waiterAt, Known, WaiterFor, countFits};
+ghost use Rattle.sound.specs.Parts.{isName, stands, takes, bareAt, isSoundWith, isSoundAt, noConflictIn, seatSet};
+ghost use Rattle.sound.specs.Parts.{waiterAt, KnownLine, WaiterFor, NoneFavoured, SomeFavoured, FavourSound, countFits, countAt, Packed};
 
 // Whether a board is sound, and its carried order.
 pub struct Judged {
@@ -33,85 +35,83 @@ pub struct Judged {
 }
 
 // W is within V, R within Q, V and Q share nothing.
-fn sets_sound(q: Program) -> bool
-    ensures { λ r. ⌜ r ≡ setsSound q ⌝ }
+fn sets_sound(sets: &[[u64; WORDS]; 128], p: u8) -> bool
+    requires { ⌜ ((1 ≤ p) × (p ≤ 32)) × IsStore (now sets) ⌝ }
+    ensures { λ r. ⌜ r ≡ setsSound (bareAt (now (sets .entry)) p) ⌝ }
 {
-    let v = q.writable;
-    let c = q.readable;
-    let w = q.writing;
-    let r = q.reading;
-    if !w.within(v) {
+    let v = sets::writable_at(p);
+    let c = sets::readable_at(p);
+    let w = sets::writing_at(p);
+    let r = sets::reading_at(p);
+    if !words::within(&sets[w], &sets[v]) {
         return false;
     }
-    if !r.within(c) {
+    if !words::within(&sets[r], &sets[c]) {
         return false;
     }
-    !v.meets(c)
+    !words::meets(&sets[v], &sets[c])
 }
 
 // Nothing is claimed.
-fn claims_nothing(q: Program) -> bool
-    ensures { λ r. ⌜ r ≡ isEmpty (q .writable) && isEmpty (q .readable) ⌝ }
+fn claims_nothing(sets: &[[u64; WORDS]; 128], p: u8) -> bool
+    requires { ⌜ ((1 ≤ p) × (p ≤ 32)) × IsStore (now sets) ⌝ }
+    ensures { λ r. ⌜ r ≡ eachMode (λ m. isEmpty (claimAt (now (sets .entry)) p m)) ⌝ }
 {
-    let v = q.writable;
-    let c = q.readable;
-    if !v.is_empty() {
+    let v = sets::writable_at(p);
+    if !words::is_empty(&sets[v]) {
         return false;
     }
-    c.is_empty()
+    let c = sets::readable_at(p);
+    words::is_empty(&sets[c])
 }
 
 // Nothing is open.
-fn opens_nothing(q: Program) -> bool
-    ensures { λ r. ⌜ r ≡ isEmpty (q .writing) && isEmpty (q .reading) ⌝ }
+fn opens_nothing(sets: &[[u64; WORDS]; 128], p: u8) -> bool
+    requires { ⌜ ((1 ≤ p) × (p ≤ 32)) × IsStore (now sets) ⌝ }
+    ensures { λ r. ⌜ r ≡ eachMode (λ m. isEmpty (openAt (now (sets .entry)) p m)) ⌝ }
 {
-    let w = q.writing;
-    let r = q.reading;
-    if !w.is_empty() {
+    let w = sets::writing_at(p);
+    if !words::is_empty(&sets[w]) {
         return false;
     }
-    r.is_empty()
+    let r = sets::reading_at(p);
+    words::is_empty(&sets[r])
 }
 
-// What is said of a program with this standing: absent ones have empty sets, held ones nothing open.
-fn standing_sound(s: Standing, q: Program) -> bool
-    ensures { λ r. ⌜ r ≡ setsSound q && standingSound s q ⌝ }
+// What is said of a program with this standing by itself: absent ones have empty sets, held ones nothing open.
+fn program_sound(sets: &[[u64; WORDS]; 128], p: u8, s: Standing) -> bool
+    requires { ⌜ ((1 ≤ p) × (p ≤ 32)) × IsStore (now sets) ⌝ }
+    ensures { λ r. ⌜ r ≡ isSoundWith (now (sets .entry)) p s ⌝ }
 {
     match s {
         Standing::Absent => {
-            if !claims_nothing(q) {
+            if !claims_nothing(sets, p) {
                 return false;
             }
-            opens_nothing(q)
+            opens_nothing(sets, p)
         }
-        Standing::Running => sets_sound(q),
-        Standing::Waiting(_) => sets_sound(q),
+        Standing::Running => sets_sound(sets, p),
+        Standing::Waiting(_) => sets_sound(sets, p),
         Standing::Held => {
-            if !opens_nothing(q) {
+            if !opens_nothing(sets, p) {
                 return false;
             }
-            sets_sound(q)
+            sets_sound(sets, p)
         }
     }
 }
 
-// What is said of a program by itself.
-fn program_sound(q: Program) -> bool
-    ensures { λ r. ⌜ r ≡ programSound q ⌝ }
-{
-    let s = q.standing;
-    standing_sound(s, q)
-}
-
 // Each program by itself.
-fn programs_sound(b: Board) -> bool
-    ensures { λ r. ⌜ r ≡ all (isSoundAt b) everyone ⌝ }
+fn programs_sound(sets: &[[u64; WORDS]; 128], rest: Rest) -> bool
+    requires { ⌜ IsStore (now sets) ⌝ }
+    ensures { λ r. ⌜ r ≡ all (isSoundAt (boardOf (now (sets .entry)) rest)) everyone ⌝ }
 {
     let mut p: u8 = 1;
     while p <= 32 {
         let i = (p - 1) as usize;
-        let q = b.programs[i];
-        if !program_sound(q) {
+        let seat = rest.seats[i];
+        let s = seat.standing;
+        if !program_sound(sets, p, s) {
             return false;
         }
         p += 1;
@@ -120,22 +120,21 @@ fn programs_sound(b: Board) -> bool
 }
 
 // No two different programs conflict: what each has open does not clash with what those before it have.
-fn no_conflict(sets: &[u64; 128]) -> bool
+fn no_conflict(sets: &[[u64; WORDS]; 128]) -> bool
+    requires { ⌜ IsStore (now sets) ⌝ }
     ensures { λ r. ⌜ r ≡ noConflictIn (now (sets .entry)) ⌝ }
 {
-    let mut written: u64 = 0;
-    let mut read: u64 = 0;
+    let mut written = [0u64; WORDS];
+    let mut read = [0u64; WORDS];
     let mut p: u8 = 1;
     while p <= 32 {
-        let w = tables::sets::writing(sets, p);
-        let r = tables::sets::reading(sets, p);
-        let v = FileSet { bits: written };
-        let q = FileSet { bits: read };
-        if modes::touches(w, r, v, q) {
+        let w = sets::writing_at(p);
+        let r = sets::reading_at(p);
+        if modes::touches(&sets[w], &sets[r], &written, &read) {
             return false;
         }
-        written = written | w.bits;
-        read = read | r.bits;
+        words::join(&mut written, &sets[w]);
+        words::join(&mut read, &sets[r]);
         p += 1;
     }
     true
@@ -152,15 +151,15 @@ fn does_stand(held: bool, s: Standing) -> bool
 }
 
 // The programs that are held, or else waiting.
-fn standing_set(b: Board, held: bool) -> ProgramSet
-    ensures { λ r. ⌜ r ≡ standSet b held ⌝ }
+fn standing_set(rest: Rest, held: bool) -> ProgramSet
+    ensures { λ r. ⌜ r ≡ seatSet rest held ⌝ }
 {
     let mut set = ProgramSet::EMPTY;
     let mut p: u8 = 1;
     while p <= 32 {
         let i = (p - 1) as usize;
-        let q = b.programs[i];
-        let s = q.standing;
+        let seat = rest.seats[i];
+        let s = seat.standing;
         let yes = does_stand(held, s);
         set = tables::join(set, p, yes);
         p += 1;
@@ -240,23 +239,23 @@ fn line_sound(line: [u8; 32], set: ProgramSet) -> bool
 }
 
 // The waiter's file is claimed, not open by it, and can't be given now.
-fn waiter_sound(q: Program, sets: &[u64; 128], uses: Uses, p: u8, f: u8) -> bool
-    requires { ⌜ (1 ≤ p) × (p ≤ 32) ⌝ }
-    ensures { λ r. ⌜ WaiterFor q (now (sets .entry)) uses p f r ⌝ }
+fn waiter_sound(sets: &[[u64; WORDS]; 128], uses: Uses, p: u8, f: u8) -> bool
+    requires { ⌜ ((1 ≤ p) × (p ≤ 32)) × IsStore (now sets) ⌝ }
+    ensures { λ r. ⌜ WaiterFor (now (sets .entry)) uses p f r ⌝ }
 {
-    if !programs::claims(q, f) {
+    if !sets::has_claim(sets, p, f, true) {
         return false;
     }
-    if programs::has_open(q, f) {
+    if sets::has_open(sets, p, f) {
         return false;
     }
     !search::gives::can_give(sets, uses, p, f)
 }
 
 // All waiters of a line that names waiting programs.
-fn waiters_sound(b: Board, sets: &[u64; 128], uses: Uses, line: [u8; 32]) -> bool
-    requires { ⌜ Known b (now sets) uses × (all (rightName b false) (names line) ≡ true) ⌝ }
-    ensures { λ r. ⌜ r ≡ all (waiterAt b) (names line) ⌝ }
+fn waiters_sound(sets: &[[u64; WORDS]; 128], rest: Rest, uses: Uses, line: [u8; 32]) -> bool
+    requires { ⌜ KnownLine (now sets) rest uses line ⌝ }
+    ensures { λ r. ⌜ r ≡ all (waiterAt (boardOf (now (sets .entry)) rest)) (names line) ⌝ }
 {
     let mut k: usize = 0;
     while k < 32 {
@@ -265,10 +264,10 @@ fn waiters_sound(b: Board, sets: &[u64; 128], uses: Uses, line: [u8; 32]) -> boo
             return true;
         }
         let i = tables::boards::place_of(p);
-        let q = b.programs[i];
-        let s = q.standing;
+        let seat = rest.seats[i];
+        let s = seat.standing;
         let f = standings::awaited(s);
-        if !waiter_sound(q, sets, uses, p, f) {
+        if !waiter_sound(sets, uses, p, f) {
             return false;
         }
         k += 1;
@@ -277,47 +276,60 @@ fn waiters_sound(b: Board, sets: &[u64; 128], uses: Uses, line: [u8; 32]) -> boo
 }
 
 // The same by who is admitted; what is open is asked only where somebody waits.
-fn line_waiters(b: Board, sets: &[u64; 128], admitted: ProgramSet, line: [u8; 32]) -> bool
-    requires { ⌜ Known b (now sets) (usesIn admitted (now sets)) × (all (rightName b false) (names line) ≡ true) ⌝ }
-    ensures { λ r. ⌜ r ≡ all (waiterAt b) (names line) ⌝ }
+fn line_waiters(
+    sets: &[[u64; WORDS]; 128],
+    rest: Rest,
+    admitted: ProgramSet,
+    line: [u8; 32],
+) -> bool
+    requires { ⌜ KnownLine (now sets) rest (usesIn admitted (now sets)) line ⌝ }
+    ensures { λ r. ⌜ r ≡ all (waiterAt (boardOf (now (sets .entry)) rest)) (names line) ⌝ }
 {
     if line[0] == 0 {
         return true;
     }
     let uses = search::gives::uses_in(admitted, sets);
-    waiters_sound(b, sets, uses, line)
+    waiters_sound(sets, rest, uses, line)
 }
 
 // Nobody favoured: nobody held, and both numbers 0.
-fn none_favoured(b: Board, held: ProgramSet) -> bool
-    requires { ⌜ held ≡ standSet b true ⌝ }
-    ensures { λ r. ⌜ r ≡ noneFavoured b ⌝ }
+fn none_favoured(rest: Rest, held: ProgramSet) -> bool
+    ensures { λ r. ⌜ NoneFavoured rest held r ⌝ }
 {
     if held.bits != 0 {
         return false;
     }
-    let n = b.initial;
+    let n = rest.initial;
     if n != 0 {
         return false;
     }
-    b.leaves == 0
+    rest.leaves == 0
 }
 
 // The favoured program is waiting; leaves plus admitted equal the number at favouring, which is at most 32.
-fn some_favoured(b: Board, waiters: ProgramSet, admitted: ProgramSet) -> bool
-    requires { ⌜ (waiters ≡ standSet b false) × (admitted ≡ admittedSet b) ⌝ }
-    ensures { λ r. ⌜ r ≡ someFavoured b ⌝ }
+fn some_favoured(rest: Rest, waiters: ProgramSet, admitted: ProgramSet) -> bool
+    ensures { λ r. ⌜ SomeFavoured rest waiters admitted r ⌝ }
 {
-    if !waiters.has(b.favoured) {
+    if !waiters.has(rest.favoured) {
         return false;
     }
     let n = admitted.count() as u16;
-    let left = b.leaves as u16;
-    let initial = b.initial;
+    let left = rest.leaves as u16;
+    let initial = rest.initial;
     if left + n != initial as u16 {
         return false;
     }
     initial <= 32
+}
+
+// Whether what is said of the favoured program, or of there being none, holds.
+fn favour_sound(rest: Rest, waiters: ProgramSet, held: ProgramSet, admitted: ProgramSet) -> bool
+    ensures { λ r. ⌜ FavourSound rest waiters held admitted r ⌝ }
+{
+    if rest.favoured == 0 {
+        return none_favoured(rest, held);
+    }
+    some_favoured(rest, waiters, admitted)
 }
 
 // The count of a program with this standing: not above 8, and 0 unless it waits.
@@ -334,15 +346,15 @@ fn count_sound(s: Standing, n: u8) -> bool
 }
 
 // All counts.
-fn counts_sound(b: Board) -> bool
-    ensures { λ r. ⌜ r ≡ all (countSound b) everyone ⌝ }
+fn counts_sound(rest: Rest) -> bool
+    ensures { λ r. ⌜ r ≡ all (countAt rest) everyone ⌝ }
 {
     let mut p: u8 = 1;
     while p <= 32 {
         let i = (p - 1) as usize;
-        let q = b.programs[i];
-        let s = q.standing;
-        if !count_sound(s, b.passed[i]) {
+        let seat = rest.seats[i];
+        let s = seat.standing;
+        if !count_sound(s, rest.passed[i]) {
             return false;
         }
         p += 1;
@@ -350,30 +362,19 @@ fn counts_sound(b: Board) -> bool
     true
 }
 
-// Whether what is said of the favoured program, or of there being none, holds.
-fn favour_sound(b: Board, waiters: ProgramSet, held: ProgramSet, admitted: ProgramSet) -> bool
-    requires { ⌜ (waiters ≡ standSet b false) × (held ≡ standSet b true) × (admitted ≡ admittedSet b) ⌝ }
-    ensures { λ r. ⌜ r ≡ cond (eqb (b .favoured) 0) (noneFavoured b) (someFavoured b) ⌝ }
-{
-    if b.favoured == 0 {
-        return none_favoured(b, held);
-    }
-    some_favoured(b, waiters, admitted)
-}
-
 // Sets; no conflict; a completion order exists; the two lines; the waiters; the favoured program; the counts.
 fn is_sound_by(
-    b: Board,
-    sets: &[u64; 128],
+    sets: &[[u64; WORDS]; 128],
+    rest: Rest,
     admitted: ProgramSet,
     ordered: bool,
     waiters: ProgramSet,
     held: ProgramSet,
 ) -> bool
-    requires { ⌜ SetsOf b (now sets) × (admitted ≡ admittedSet b) × (ordered ≡ found (carried b)) × (waiters ≡ standSet b false) × (held ≡ standSet b true) ⌝ }
-    ensures { λ r. ⌜ r ≡ sound b ⌝ }
+    requires { ⌜ IsStore (now sets) × Packed (boardOf (now sets) rest) admitted ordered waiters held ⌝ }
+    ensures { λ r. ⌜ r ≡ sound (boardOf (now (sets .entry)) rest) ⌝ }
 {
-    if !programs_sound(b) {
+    if !programs_sound(sets, rest) {
         return false;
     }
     if !no_conflict(sets) {
@@ -382,43 +383,44 @@ fn is_sound_by(
     if !ordered {
         return false;
     }
-    let waiting = b.waiting;
+    let waiting = rest.waiting;
     if !line_sound(waiting, waiters) {
         return false;
     }
-    let entry = b.entry;
+    let entry = rest.entry;
     if !line_sound(entry, held) {
         return false;
     }
-    if !line_waiters(b, sets, admitted, waiting) {
+    if !line_waiters(sets, rest, admitted, waiting) {
         return false;
     }
-    if !favour_sound(b, waiters, held, admitted) {
+    if !favour_sound(rest, waiters, held, admitted) {
         return false;
     }
-    counts_sound(b)
+    counts_sound(rest)
 }
 
 // Whether the board is sound, and its carried order.
-pub fn judge(b: Board) -> Judged
-    ensures { λ r. ⌜ (r .sound ≡ sound b) × (r .order ≡ asOrder (carried b)) ⌝ }
+pub fn judge(sets: &[[u64; WORDS]; 128], rest: Rest) -> Judged
+    requires { ⌜ IsStore (now sets) ⌝ }
+    ensures { λ r. ⌜ (r .sound ≡ sound (boardOf (now (sets .entry)) rest)) × (r .order ≡ asOrder (carried (boardOf (now (sets .entry)) rest))) ⌝ }
 {
-    let mut sets = [0u64; 128];
     let mut rows = [0u32; 32];
-    let admitted = tables::boards::admitted_set(b);
-    tables::fill(b, admitted, &mut sets, &mut rows);
+    let admitted = tables::boards::admitted_seats(rest);
+    tables::rows::fill_rows(sets, admitted, &mut rows);
     let order = search::order_in(&rows, admitted);
     let ordered = search::is_found(order);
-    let waiters = standing_set(b, false);
-    let held = standing_set(b, true);
-    let sound = is_sound_by(b, &sets, admitted, ordered, waiters, held);
+    let waiters = standing_set(rest, false);
+    let held = standing_set(rest, true);
+    let sound = is_sound_by(sets, rest, admitted, ordered, waiters, held);
     Judged { sound, order }
 }
 
 // Whether the board is sound.
-pub fn is_sound(b: Board) -> bool
-    ensures { λ r. ⌜ r ≡ sound b ⌝ }
+pub fn is_sound(sets: &[[u64; WORDS]; 128], rest: Rest) -> bool
+    requires { ⌜ IsStore (now sets) ⌝ }
+    ensures { λ r. ⌜ r ≡ sound (boardOf (now (sets .entry)) rest) ⌝ }
 {
-    let j = judge(b);
+    let j = judge(sets, rest);
     j.sound
 }

@@ -24,8 +24,8 @@ use Rattle.laws.specs.Laws.{keep-same, rising-mem}
 use Rattle.theory.specs.Programs.{Is}
 use Rattle.tables.specs.declared.ProgramSet.{ProgramSet}
 use Rattle.tables.specs.ProgramSets.{noPrograms, hasProgram, unionOf, commonOf, lessOf}
-use Rattle.tables.specs.Sets.{inPlace, places}
-use Rattle.tables.specs.Tables.{joined, packed}
+use Rattle.store.specs.Sets.{inPlace}
+use Rattle.tables.specs.Tables.{places, joined, packed}
 use Rattle.tables.specs.Boards.{admits, admittedSet}
 
 -- ---- programs by their places

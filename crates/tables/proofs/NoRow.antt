@@ -1,49 +1,78 @@
 -- Laws of the row of a program of whose open files the others claim nothing. Assumes nothing.
 use mathlib.Core.Path.{_≡_, sym, ap, _∙_}
 use mathlib.Core.Logic.{_≢_}
-use mathlib.Core.Bool.{true, false}
+use mathlib.Core.Bool.{true, false, _||_}
 use mathlib.Core.List.{List}
-use Prim.Native.Nat.{ℕ}
-use lib.Bits.{bitAnd, bitOr}
+use Prim.Native.Nat.{ℕ, _-_, _≤_}
+use native.Mathlib.Omega.{arith}
+use lib.Bits.{bitOr}
 use lib.Dec.{eqb}
+use lib.ListN.{length}
 use borrow.Author.Tests.{eqb-true, eqb-false}
-use Rattle.files.specs.Bits.{hasBit}
-use Rattle.files.proofs.Bits.{or-has, and-has, zero-has, of-share, without-number-same, without-number-other}
-use Rattle.laws.specs.Tests.{by-test, never, no-true, and-both, and-false, or-left, or-right}
+use Rattle.files.specs.Sets.{meets}
+use Rattle.files.specs.Words.{wordCount, setOf}
+use Rattle.files.proofs.Bits.{share-of, of-share, without-number-same, without-number-other}
+use Rattle.files.proofs.Rows.{or-words, length-wordwise}
+use Rattle.laws.specs.Tests.{by-test, never, no-true, and-false, or-left, or-right}
 use Rattle.rules.specs.Modes.{Mode, Write, Read}
+use Rattle.store.specs.Sets.{Sets, IsStore, claimPlace, openPlace, rowIn, claimAt, openAt, holdsOne}
+use Rattle.store.proofs.Laws.{claim-place, open-place}
 use Rattle.theory.specs.Modes.{by-touching}
+use Rattle.theory.specs.Programs.{Is}
 use Rattle.tables.specs.declared.ProgramSet.{ProgramSet}
 use Rattle.tables.specs.declared.shared.Shared.{Shared}
 use Rattle.tables.specs.ProgramSets.{noPrograms, hasProgram, withoutProgram}
-use Rattle.tables.specs.Sets.{claimAt, openAt, holdsOne}
-use Rattle.tables.specs.Shared.{othersOf, claimedAt, SharedBy}
+use Rattle.tables.specs.Shared.{othersOf, openRow, claimedAt, openedAt, inWords, SharedBy}
 use Rattle.tables.specs.Tables.{heldBy, packed}
-use Rattle.tables.proofs.Laws.{packed-none}
+use Rattle.tables.proofs.Laws.{packed-none, set-is}
 use Rattle.tables.proofs.Sharing.{of-others}
 
-module _ (sets : List ℕ) (a : ProgramSet) (k : Shared) (f : SharedBy (claimedAt sets) (hasProgram a) k) (p : ℕ) (e : hasProgram a p ≡ true) where
-  abbrev files : ℕ
-  files = bitOr (openAt sets p Write .bits) (openAt sets p Read .bits)
+-- the rows of a program have as many words as a set
+module _ (sets : Sets) (s : IsStore sets) (p : ℕ) (h : 1 ≤ p) (k : p ≤ 32) where
+  pub claim-words : (m : Mode) → length (rowIn sets (claimPlace m (p - 1))) ≡ wordCount
+  claim-words m = s .words-are (claimPlace m (p - 1)) (claim-place m (p - 1) (omega arith))
 
-  in-open : (m : Mode) (x : ℕ) → hasBit (openAt sets p m .bits) x ≡ true → hasBit files x ≡ true
-  in-open Write x d = or-has (openAt sets p Write .bits) (openAt sets p Read .bits) x ∙ or-left _ (hasBit (openAt sets p Read .bits) x) d
-  in-open Read x d = or-has (openAt sets p Write .bits) (openAt sets p Read .bits) x ∙ or-right (hasBit (openAt sets p Write .bits) x) _ d
+  pub open-words : (m : Mode) → length (openRow sets m p) ≡ wordCount
+  open-words m = s .words-are (openPlace m (p - 1)) (open-place m (p - 1) (omega arith))
 
-  in-claims : (q : ℕ) (m : Mode) (x : ℕ) → hasBit (claimAt sets q m .bits) x ≡ true → hasBit (claimedAt sets q .bits) x ≡ true
-  in-claims q Write x d = or-has (claimAt sets q Write .bits) (claimAt sets q Read .bits) x ∙ or-left _ (hasBit (claimAt sets q Read .bits) x) d
-  in-claims q Read x d = or-has (claimAt sets q Write .bits) (claimAt sets q Read .bits) x ∙ or-right (hasBit (claimAt sets q Write .bits) x) _ d
+  pub claimed-words : length (claimedAt sets p) ≡ wordCount
+  claimed-words = length-wordwise bitOr (rowIn sets (claimPlace Write (p - 1))) (rowIn sets (claimPlace Read (p - 1))) ∙ claim-words Write
 
-  abbrev others : ℕ
-  others = othersOf k (claimedAt sets p) .bits
+  -- what is open in a mode is open
+  in-open : (m : Mode) (x : ℕ) → inWords (openRow sets m p) x ≡ true → inWords (openedAt sets p) x ≡ true
+  in-open m x d = or-words (openRow sets Write p) (openRow sets Read p) x (open-words Write ∙ sym (open-words Read)) ∙ either m d
+    where
+      either : (m : Mode) → inWords (openRow sets m p) x ≡ true → (inWords (openRow sets Write p) x || inWords (openRow sets Read p) x) ≡ true
+      either Write e = or-left (inWords (openRow sets Write p) x) (inWords (openRow sets Read p) x) e
+      either Read e = or-right (inWords (openRow sets Write p) x) (inWords (openRow sets Read p) x) e
 
-  holds-none : bitAnd files others ≡ 0 → (q : ℕ) → hasProgram a q ≡ true → q ≢ p → holdsOne sets q p ≡ false
-  holds-none z q h n = no-true _ (λ t. by-touching (openAt sets p) (claimAt sets q) t (λ m l _ u.
+  -- what is claimed in a mode is claimed
+  in-claims : (m : Mode) (x : ℕ) → inWords (rowIn sets (claimPlace m (p - 1))) x ≡ true → inWords (claimedAt sets p) x ≡ true
+  in-claims m x d = or-words (claimRow Write) (claimRow Read) x (claim-words Write ∙ sym (claim-words Read)) ∙ either m d
+    where
+      claimRow : Mode → List ℕ
+      claimRow n = rowIn sets (claimPlace n (p - 1))
+
+      either : (m : Mode) → inWords (claimRow m) x ≡ true → (inWords (claimRow Write) x || inWords (claimRow Read) x) ≡ true
+      either Write e = or-left (inWords (claimRow Write) x) (inWords (claimRow Read) x) e
+      either Read e = or-right (inWords (claimRow Write) x) (inWords (claimRow Read) x) e
+
+module _ (sets : Sets) (s : IsStore sets) (a : ProgramSet) (k : Shared) (f : SharedBy (claimedAt sets) (hasProgram a) k) (p : ℕ)
+    (e : hasProgram a p ≡ true) where
+  me : Is p
+  me = set-is a p e
+
+  abbrev others : List ℕ
+  others = othersOf k (claimedAt sets p)
+
+  holds-none : meets (setOf (openedAt sets p)) (setOf others) ≡ false → (q : ℕ) → hasProgram a q ≡ true → q ≢ p → holdsOne sets q p ≡ false
+  holds-none z q h n = let i = set-is a q h in no-true _ (λ t. by-touching (openAt sets p) (claimAt sets q) t (λ m l _ u.
       let (x, b, c) = of-share (openAt sets p m .bits) (claimAt sets q l .bits) u in
-      never (and-has files others x ∙ and-both (hasBit files x) (hasBit others x) (in-open m x b)
-      (of-others (claimedAt sets) (hasProgram a) k f p e q x h n (in-claims q l x c)))
-      (ap (λ (y : ℕ). hasBit y x) z ∙ zero-has x)))
+      never (share-of (setOf (openedAt sets p) .bits) (setOf others .bits) x (in-open sets s p (me .least) (me .most) m x b)
+      (of-others (claimedAt sets) (hasProgram a) k f p e (claimed-words sets s p (me .least) (me .most)) q x h n
+      (in-claims sets s q (i .least) (i .most) l x c))) z))
 
-  pub row-none : bitAnd files others ≡ 0 → noPrograms ≡ packed (heldBy sets p (withoutProgram a p)) 32
+  pub row-none : meets (setOf (openedAt sets p)) (setOf others) ≡ false → noPrograms ≡ packed (heldBy sets p (withoutProgram a p)) 32
   row-none z = sym (packed-none (heldBy sets p (withoutProgram a p)) 32 (λ q. by-test (eqb q p)
       (λ t. rw (ap (hasProgram (withoutProgram a p)) (eqb-true q p t) ∙ without-number-same 32 (a .bits) p))
       (λ t. let n = eqb-false q p t in by-test (hasProgram a q)

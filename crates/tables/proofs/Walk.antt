@@ -16,8 +16,7 @@ use Rattle.files.specs.Bits.{isNumber, hasNumber}
 use Rattle.files.proofs.Bits.{is-number, least, most, has-number, has-bit, with-number-same, with-number-other, without-number-same, without-number-other}
 use Rattle.tables.specs.declared.ProgramSet.{ProgramSet}
 use Rattle.tables.specs.ProgramSets.{noPrograms, hasProgram, withoutProgram, IsLowest}
-use Rattle.tables.specs.Sets.{places}
-use Rattle.tables.specs.Tables.{joined, packed}
+use Rattle.tables.specs.Tables.{places, joined, packed}
 use Rattle.tables.proofs.Laws.{places-length, places-at, packed-has, packed-lt, none-has, set-same}
 
 -- an empty rest

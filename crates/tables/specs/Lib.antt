@@ -1,6 +1,5 @@
 -- The definitions that the contracts of tables cite.
 pub mod ProgramSets
-pub mod Sets
 pub mod Shared
 pub mod Tables
 pub mod Boards

@@ -4,8 +4,8 @@ use Prim.Native.Nat.{ℕ, _≤_, _<_}
 use mathlib.Core.Path.{_≡_}
 use mathlib.Core.Bool.{Bool, true, false}
 use mathlib.Core.Option.{Option·getD}
-use lib.Bits.{bitAnd, bitOr, bitXor}
-use Rattle.files.specs.Bits.{hasNumber, withNumber, withoutNumber, share}
+use lib.Bits.{bitAnd, bitOr}
+use Rattle.files.specs.Bits.{hasNumber, withNumber, withoutNumber, share, lessBits}
 use Rattle.laws.specs.Lists.{first}
 use Rattle.rules.specs.Boards.{everyone}
 use Rattle.tables.specs.declared.ProgramSet.{ProgramSet}
@@ -39,7 +39,7 @@ commonOf s t = record { bits = bitAnd (s .bits) (t .bits) }
 
 -- the programs of s that are not in t
 abbrev pub lessOf : ProgramSet → ProgramSet → ProgramSet
-lessOf s t = record { bits = bitXor (s .bits) (bitAnd (s .bits) (t .bits)) }
+lessOf s t = record { bits = lessBits (s .bits) (t .bits) }
 
 -- the lowest program of s, or 0
 unfoldable pub lowestOf : ProgramSet → ℕ

@@ -3,15 +3,20 @@
 use Prim.Native.Nat.{ℕ, zero, suc, _-_, _≤_}
 use mathlib.Core.Path.{_≡_}
 use mathlib.Core.Bool.{Bool, not, cond, _&&_}
-use mathlib.Core.List.{List}
+use mathlib.Core.List.{List, [], _∷_}
 use lib.Dec.{eqb}
 use lib.ListN.{getD}
 use Rattle.rules.specs.declared.Board.{Board}
 use Rattle.rules.specs.Boards.{at}
 use Rattle.rules.specs.Orders.{holdsBack}
+use Rattle.store.specs.Sets.{Sets, holdsOne}
 use Rattle.tables.specs.declared.ProgramSet.{ProgramSet}
 use Rattle.tables.specs.ProgramSets.{noPrograms, hasProgram, withProgram, withoutProgram}
-use Rattle.tables.specs.Sets.{places, holdsOne}
+
+-- f k, f (k + 1) and so on, in n places
+unfoldable pub places : (ℕ → ℕ) → ℕ → ℕ → List ℕ
+places f zero k = []
+places f (suc n) k = f k ∷ places f n (suc k)
 
 -- s, and n where the test passes
 abbrev pub joined : ProgramSet → ℕ → Bool → ProgramSet
@@ -27,15 +32,15 @@ abbrev pub stops : Board → ℕ → ℕ → Bool
 stops b p i = not (eqb i p) && holdsBack (at b i) (at b p)
 
 -- x is of the set, and p holds it back
-abbrev pub heldBy : List ℕ → ℕ → ProgramSet → ℕ → Bool
+abbrev pub heldBy : Sets → ℕ → ProgramSet → ℕ → Bool
 heldBy sets p s x = hasProgram s x && holdsOne sets x p
 
 -- x is of the set, and holds p back
-abbrev pub holdersOf : List ℕ → ℕ → ProgramSet → ℕ → Bool
+abbrev pub holdersOf : Sets → ℕ → ProgramSet → ℕ → Bool
 holdersOf sets p s x = hasProgram s x && holdsOne sets p x
 
 -- by the sets: for each program of the set a the others of a that it holds back, in 32 places
-unfoldable pub rowsOf : List ℕ → ProgramSet → List ℕ
+unfoldable pub rowsOf : Sets → ProgramSet → List ℕ
 rowsOf sets a = places (λ i. cond (hasProgram a (suc i)) (packed (heldBy sets (suc i) (withoutProgram a (suc i))) 32 .bits) 0) 32 0
 
 -- the row of p

@@ -2,11 +2,12 @@
 use crate::ProgramSet;
 use rules::Board;
 use rules::Program;
+use store::Rest;
 ghost use mathlib.Core.Path.{_≡_};
 ghost use Prim.Native.Nat.{_-_, _≤_, _<_};
 ghost use lib.ListN.{length};
 ghost use Rattle.rules.specs.Boards.{admitted, awaited, setProgram};
-ghost use Rattle.tables.specs.Boards.{admittedSet};
+ghost use Rattle.tables.specs.Boards.{admittedSet, admittedSeats};
 
 // The place of program p in an array of 32.
 pub fn place_of(p: u8) -> usize
@@ -48,6 +49,23 @@ pub fn admitted_set(b: Board) -> ProgramSet
         let i = (p - 1) as usize;
         let q = b.programs[i];
         let s = q.standing;
+        let yes = parts::standings::is_admitted(s);
+        set = crate::join(set, p, yes);
+        p += 1;
+    }
+    set
+}
+
+// The same by the seats.
+pub fn admitted_seats(rest: Rest) -> ProgramSet
+    ensures { λ r. ⌜ r ≡ admittedSeats rest ⌝ }
+{
+    let mut set = ProgramSet::EMPTY;
+    let mut p: u8 = 1;
+    while p <= 32 {
+        let i = (p - 1) as usize;
+        let seat = rest.seats[i];
+        let s = seat.standing;
         let yes = parts::standings::is_admitted(s);
         set = crate::join(set, p, yes);
         p += 1;

@@ -1,18 +1,19 @@
-// The sets of a board's programs and which admitted program holds back which, in plain arrays that are lent and not copied.
-// In `sets` stand the sets of all programs, as `sets` says; in `rows` the set of the admitted programs that the admitted
-// program p holds back stands in place p - 1.
+// Which admitted program holds back which, in an array that is lent and not copied, by the sets of a board's programs (`store::sets`):
+// in `rows` the set of the admitted programs that the admitted program p holds back stands in place p - 1.
+use files::WORDS;
 use parts::modes;
 use rules::Board;
+use store::sets;
 ghost use mathlib.Core.Path.{_≡_};
 ghost use Prim.Native.Nat.{_≤_};
-ghost use lib.ListN.{length, replicate};
-ghost use Rattle.tables.specs.Sets.{setsOf, holdsOne};
+ghost use lib.ListN.{replicate};
+ghost use Rattle.store.specs.Sets.{IsStore, SetsOf, holdsOne};
+ghost use Rattle.store.specs.Store.{programsBy};
 ghost use Rattle.tables.specs.Tables.{holdersOf, rowsOf, joined, packed};
 
 pub mod boards;
 mod programs;
 pub mod rows;
-pub mod sets;
 pub mod shared;
 
 // A set of the programs 1 to 32: bit p - 1 says whether program p is in it.
@@ -31,20 +32,20 @@ pub fn join(s: ProgramSet, p: u8, yes: bool) -> ProgramSet
 }
 
 // The test of an ordered pair: whether p holds back q. No other function makes it.
-pub fn holds_back(sets: &[u64; 128], p: u8, q: u8) -> bool
-    requires { ⌜ ((1 ≤ p) × (p ≤ 32)) × ((1 ≤ q) × (q ≤ 32)) ⌝ }
+pub fn holds_back(sets: &[[u64; WORDS]; 128], p: u8, q: u8) -> bool
+    requires { ⌜ ((1 ≤ p) × (p ≤ 32)) × ((1 ≤ q) × (q ≤ 32)) × IsStore (now sets) ⌝ }
     ensures { λ r. ⌜ r ≡ holdsOne (now (sets .entry)) q p ⌝ }
 {
-    let w = sets::writing(sets, p);
-    let r = sets::reading(sets, p);
-    let v = sets::writable(sets, q);
-    let c = sets::readable(sets, q);
-    modes::touches(w, r, v, c)
+    let w = sets::writing_at(p);
+    let r = sets::reading_at(p);
+    let v = sets::writable_at(q);
+    let c = sets::readable_at(q);
+    modes::touches(&sets[w], &sets[r], &sets[v], &sets[c])
 }
 
 // Those of a set that hold p back: one test for each of them.
-pub fn holders_of(sets: &[u64; 128], p: u8, set: ProgramSet) -> ProgramSet
-    requires { ⌜ (1 ≤ p) × (p ≤ 32) ⌝ }
+pub fn holders_of(sets: &[[u64; WORDS]; 128], p: u8, set: ProgramSet) -> ProgramSet
+    requires { ⌜ ((1 ≤ p) × (p ≤ 32)) × IsStore (now sets) ⌝ }
     ensures { λ r. ⌜ r ≡ packed (holdersOf (now (sets .entry)) p set) 32 ⌝ }
 {
     let mut holders = ProgramSet::EMPTY;
@@ -59,9 +60,10 @@ pub fn holders_of(sets: &[u64; 128], p: u8, set: ProgramSet) -> ProgramSet
 }
 
 // The sets of the board's programs, and which of these admitted ones holds back which.
-pub fn fill(b: Board, admitted: ProgramSet, sets: &mut [u64; 128], rows: &mut [u32; 32])
-    requires { ⌜ (length (now sets) ≡ 128) × (now rows ≡ replicate 32 0) ⌝ }
-    ensures { λ _. ⌜ (now (sets .exit) ≡ setsOf b) × (now (rows .exit) ≡ rowsOf (setsOf b) admitted) ⌝ }
+pub fn fill(b: Board, admitted: ProgramSet, sets: &mut [[u64; WORDS]; 128], rows: &mut [u32; 32])
+    requires { ⌜ (now rows ≡ replicate 32 0) × IsStore (now sets) ⌝ }
+    ensures { λ _. ⌜ programsBy (now (sets .exit)) b ≡ b .programs ⌝ }
+    ensures { λ _. ⌜ SetsOf b (now (sets .exit)) × (now (rows .exit) ≡ rowsOf (now (sets .exit)) admitted) ⌝ }
 {
     sets::take_sets(b, sets);
     rows::fill_rows(sets, admitted, rows);

@@ -1,7 +1,6 @@
 -- `do_open` meets its contract. Assumes nothing.
 use mathlib.Core.Path.{_≡_, refl, sym, ap, _∙_}
 use mathlib.Core.List.{[], _∷_}
-use lib.ListN.{length}
 use Rattle.rules.specs.declared.Board.{Board}
 use Rattle.rules.specs.declared.Program.{Program}
 use Rattle.rules.specs.declared.Answer.{Answer}
@@ -16,9 +15,9 @@ use Rattle.tables.specs.declared.ProgramSet.{ProgramSet}
 use Rattle.search.specs.Gives.{usesIn}
 use Rattle.search.specs.Rows.{asOrder}
 use Rattle.apply.proofs.Laws.{comes, waiting-free, not-safe, is-safe, order-whole}
-use Rattle.tables.proofs.Whole.{sets-in, sets-length}
 use Rattle.search.proofs.Used.{used-by}
 use Rattle.search.proofs.Ordered.{given-for}
+use Rattle.store.proofs.Laws.{fresh-store}
 use borrow.Author.Needs.{needs}
 use Rattle.apply.proofs.do_open.Statement.{statement}
 use Rattle.apply.proofs.do_open.Tie as tie
@@ -33,7 +32,7 @@ start u = taken u .before .before
 -- whether the file is in conflicting use
 used : (u : tie.After-in-use) → u .in-use .result ≡ inUse (start u .args .b) (start u .args .p) (start u .args .f)
 used u = let s = start u in let a = s .args in let t = taken u .take-sets in
-    used-by (t .last .1 .0) _ (a .p) (a .f) _ (s .pre .0 .0) (s .pre .0 .1) (u .in-use .ensures) (a .b) (sets-in (a .b) _ (t .ensures))
+    used-by (t .last .1 .0) _ (a .p) (a .f) _ (s .pre .0 .0) (s .pre .0 .1) (u .in-use .ensures) (a .b) (t .ensures .1)
     (u .before .before .uses-in .ensures ∙ ap (λ (x : ProgramSet). usesIn x (t .last .1 .0)) (u .before .before .before .before .admitted-set .ensures))
     (loose-apart (a .b) (s .pre .1 .loose))
 
@@ -45,7 +44,7 @@ sought : (o : tie.After-order-given) → let a = start (tested o) .args in o .or
 sought o = let u = tested o in let s = start u in let a = s .args in let t = taken u .take-sets in
     o .order-given .ensures .0
     ∙ given-for (t .last .1 .0) _ (a .p) (a .f) (record { least = s .pre .0 .0; most = s .pre .0 .1 }) (a .b)
-    (s .pre .1 .loose .base .size) (sets-in (a .b) _ (t .ensures)) (u .before .before .before .before .admitted-set .ensures)
+    (s .pre .1 .loose .base .size) (t .ensures .1) (u .before .before .before .before .admitted-set .ensures)
 
 put-waiting-requires : tie.Need-put-waiting-requires
 put-waiting-requires c κs = let s = start (c .before) in let a = s .args in
@@ -94,7 +93,7 @@ returns-3 c = let o = searched (c .before) in let u = tested o in let a = start 
 
 order-given-requires : tie.Need-order-given-requires
 order-given-requires c κs = let u = c .before .before in let s = start u in
-    (s .pre .0, ap length (taken u .take-sets .ensures) ∙ sets-length (s .args .b))
+    (s .pre .0, taken u .take-sets .ensures .1 .0)
 
 answered-requires-3 : tie.Need-answered-requires-3
 answered-requires-3 c κs = let k = c .before .before .before .before .kind in let o = searched c in
@@ -105,7 +104,7 @@ pub do-open-spec : {M : Type 1} → statement M
 do-open-spec =
     tie.close
     (tie.spec
-    (λ c κs. search needs)
+    (λ c κs. fresh-store)
     (λ c κs. search needs)
     (λ c κs. search needs)
     (λ c κs. search needs)

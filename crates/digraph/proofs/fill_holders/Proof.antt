@@ -5,6 +5,7 @@ use mathlib.Core.List.{List}
 use Prim.Native.Nat.{ℕ, suc, _-_}
 use native.Mathlib.Omega.{arith}
 use lib.ListN.{getD, getD-replicate}
+use Rattle.store.specs.Sets.{Sets}
 use Rattle.tables.specs.declared.ProgramSet.{ProgramSet}
 use Rattle.tables.specs.ProgramSets.{hasProgram, withoutProgram}
 use Rattle.tables.specs.Tables.{holdersOf, packed}
@@ -16,7 +17,7 @@ use Rattle.digraph.proofs.fill_holders.Statement.{statement}
 use Rattle.digraph.proofs.fill_holders.Tie as tie
 
 -- what is written at place i
-abbrev rowBits : List ℕ → ProgramSet → ℕ → ℕ
+abbrev rowBits : Sets → ProgramSet → ℕ → ℕ
 rowBits sets a i = packed (holdersOf sets (suc i) (withoutProgram a (suc i))) 32 .bits
 
 abbrev Inv-loop : tie.InvT-loop
@@ -32,7 +33,8 @@ lowest-requires : tie.Need-lowest-requires Inv-loop μ-loop
 lowest-requires c κs = c .if1 .taken
 
 holders-of-requires : tie.Need-holders-of-requires Inv-loop μ-loop
-holders-of-requires c κs = let l = c .before .lowest in (l .ensures .1 .0, l .ensures .1 .1)
+holders-of-requires c κs = let l = c .before .lowest in
+    ((l .ensures .1 .0, l .ensures .1 .1), c .before .before .before .before .before .pre .1)
 
 loop-less : tie.Need-loop-less Inv-loop μ-loop
 loop-less c = let k = c .before .before .before in let l = k .lowest in let s = k .before in
@@ -51,7 +53,7 @@ unfolding holderRows
 returns c = let l = c .before .before .loop in let t = c .before .before .before in let a = t .args in
     wrote-done (a .admitted) (rowBits (a .sets .now) (a .admitted)) (a .rows .now) (l .rest) (l .rows) (c .if1 .left) (l .inv)
     ∙ places-same _ _ 32 0 (λ i h m. ap (cond (hasProgram (a .admitted) (suc i)) (rowBits (a .sets .now) (a .admitted) i))
-    (ap (λ (x : List ℕ). getD x i 0) (t .pre) ∙ getD-replicate 32 i 0 0 (omega arith)))
+    (ap (λ (x : List ℕ). getD x i 0) (t .pre .0) ∙ getD-replicate 32 i 0 0 (omega arith)))
 
 pub fill-holders-spec : {M : Type 1} → statement M
 fill-holders-spec =

@@ -7,6 +7,7 @@ use Rattle.rules.specs.declared.Reply.{Reply}
 use Rattle.rules.specs.Orders.{carried}
 use Rattle.rules.specs.Replies.{refused}
 use Rattle.rules.specs.Soundness.{sound}
+use Rattle.store.proofs.Laws.{fresh-store}
 use Rattle.search.specs.Rows.{asOrder}
 use Rattle.apply.proofs.Laws.{found-is}
 use Rattle.linecall.proofs.Laws.{call-unsound}
@@ -17,16 +18,31 @@ use borrow.Author.Needs.{needs}
 use Rattle.linecall.proofs.line_call.Statement.{statement}
 use Rattle.linecall.proofs.line_call.Tie as tie
 
+take-requires : tie.Need-take-requires
+take-requires c κs = fresh-store
+
+judge-requires : tie.Need-judge-requires
+judge-requires c κs = c .before .take .ensures .0 .0
+
+abbrev begin : tie.After-judge → tie.Start
+begin j = j .before .before .before .before .before .before
+
+-- what the test says of the board
+judged : (j : tie.After-judge) → let b = begin j .args .b in
+    (j .judge .result .sound ≡ sound b) × (j .judge .result .order ≡ asOrder (carried b))
+judged j = let e = j .before .before .take .ensures .1 in
+    (j .judge .ensures .0 ∙ ap sound e, j .judge .ensures .1 ∙ ap (λ (x : Board). asOrder (carried x)) e)
+
 abbrev start : tie.Else1 → tie.Start
-start c = c .before .before .before .before .before
+start c = begin (c .before .before)
 
 -- the board is sound
 sure : (c : tie.Else1) → sound (start c .args .b) ≡ true
-sure c = let j = c .before .before .judge in sym (j .ensures .0) ∙ not-false (j .result .sound) (c .if1 .left)
+sure c = let j = c .before .before in sym (judged j .0) ∙ not-false (j .judge .result .sound) (c .if1 .left)
 
 returns : tie.Need-returns
-returns c = let i = c .before in let j = i .before .before in let a = j .before .before .before .args in
-    let e = call-unsound (a .b) (a .line .now) (a .journal .now) (a .place) (sym (j .judge .ensures .0)
+returns c = let i = c .before in let j = i .before .before in let a = begin j .args in
+    let e = call-unsound (a .b) (a .line .now) (a .journal .now) (a .place) (sym (judged j .0)
     ∙ not-true (j .judge .result .sound) (i .if1 .taken)) in (
       rw e (c .refused-unsound .ensures),
       (
@@ -45,7 +61,7 @@ line-requires c κs = sure (c .before)
 complete-requires : tie.Need-complete-requires
 complete-requires c κs = let l = c .before .before .before in let i = l .before .before in let a = start i .args in let k = l .line .ensures .0 in (
   λ h. let n = sym (ap (λ (x : Reply). refused (x .answer)) (k .0)) ∙ h in
-      i .before .before .judge .ensures .1 ∙ sym (ap (λ (x : Board). asOrder (carried x)) (ap (λ (x : Reply). x .board) (k .0)
+      judged (i .before .before) .1 ∙ sym (ap (λ (x : Board). asOrder (carried x)) (ap (λ (x : Reply). x .board) (k .0)
       ∙ refused-same (a .b) (a .line .now) (a .journal .now) (a .place) n)),
   found-is (l .line .result .changed) k,
 )
@@ -67,7 +83,8 @@ pub line-call-spec : {M : Type 1} → statement M
 line-call-spec =
     tie.close
     (tie.spec
-    (λ c κs. search needs)
+    take-requires
+    judge-requires
     (λ c κs. search needs)
     returns
     line-requires

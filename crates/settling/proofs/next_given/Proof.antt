@@ -46,7 +46,7 @@ place-of-requires : tie.Need-place-of-requires Inv-loop μ-loop
 place-of-requires c κs = range c
 
 can-give-requires : tie.Need-can-give-requires Inv-loop μ-loop
-can-give-requires c κs = range (c .before .before)
+can-give-requires c κs = let e = c .before .before in (range e, e .before .before .before .pre .2)
 
 -- the waiter is known
 abbrev known : tie.After-can-give Inv-loop μ-loop → tie.Else1 Inv-loop μ-loop

@@ -13,7 +13,7 @@ use Rattle.rules.specs.Settling.{candidate}
 use Rattle.lines.proofs.Laws.{names-stop, names-end}
 use Rattle.settling.specs.Writing.{Ready, unused}
 use Rattle.settling.proofs.Laws.{waiter-range, waiter-used, ready-all, ready-left, first-names-on, first-none-left}
-use Rattle.tables.proofs.Whole.{sets-in}
+use Rattle.store.proofs.Laws.{fresh-store}
 use borrow.Author.Needs.{needs}
 use Rattle.settling.proofs.oldest_unused.Statement.{statement}
 use Rattle.settling.proofs.oldest_unused.Tie as tie
@@ -66,7 +66,7 @@ place-of-requires : tie.Need-place-of-requires Inv-loop μ-loop
 place-of-requires c κs = range c
 
 in-use-requires : tie.Need-in-use-requires Inv-loop μ-loop
-in-use-requires c κs = range (c .before .before .before .before)
+in-use-requires c κs = let i = c .before .before .before .before in (range i, taken (turn i .before) .take-sets .ensures .1 .0)
 
 -- whether its file is in conflicting use
 used : (w : tie.After-in-use Inv-loop μ-loop) → let s = turn (reached w) in let b = start (s .before) .args .t1 in
@@ -74,7 +74,7 @@ used : (w : tie.After-in-use Inv-loop μ-loop) → let s = turn (reached w) in l
 used w = let i = reached w in let s = turn i in let u = s .before in let l = s .loop in let b = start u .args .t1 in
     let a = w .before .before in let q = a .before .before in let m = l .inv .3 in
     waiter-used b (b .waiting) (l .k) (omega arith) (i .if2 .left) (l .inv .1) (taken u .take-sets .last .1 .0)
-    (u .uses-of .result) (a .awaited .result) (w .in-use .result) (sets-in b _ (taken u .take-sets .ensures)) (u .uses-of .ensures)
+    (u .uses-of .result) (a .awaited .result) (w .in-use .result) (taken u .take-sets .ensures .1) (u .uses-of .ensures)
     (a .awaited .ensures ∙ ap (λ (j : ℕ). awaitedOf (getD (b .programs) j noProgram .standing)) (q .place-of .ensures .0)) (w .in-use .ensures)
 
 returns-3 : tie.Need-returns-3 Inv-loop μ-loop
@@ -106,7 +106,7 @@ oldest-unused-spec =
     μ-loop
     (λ c. search needs)
     returns
-    (λ c κs. search needs)
+    (λ c κs. fresh-store)
     (λ c κs. search needs)
     loop-holds
     (λ c. search needs)

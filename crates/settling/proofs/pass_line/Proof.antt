@@ -1,15 +1,16 @@
 -- `pass_line` meets its contract. Assumes nothing.
-use mathlib.Core.Path.{_≡_, ap, _∙_}
+use mathlib.Core.Path.{_≡_, sym, ap, subst, _∙_}
 use mathlib.Core.List.{List}
 use Prim.Native.Nat.{ℕ, _+_, _-_, _≤_, _<_}
 use native.Mathlib.Omega.{arith}
 use lib.ListN.{length, getD}
-use Rattle.tables.specs.Sets.{givenAt}
+use Rattle.store.specs.Sets.{IsStore, givenAt}
 use Rattle.search.specs.Gives.{usesIn}
 use Rattle.lines.proofs.Laws.{names-end}
 use Rattle.settling.proofs.Laws.{ready-all, pass-start, pass-over}
 use Rattle.settling.proofs.Giving.{Found, givenTo, stateOf, asks-all, ready-programs, next-found, give-range, give-next}
-use Rattle.tables.proofs.Whole.{sets-in}
+use Rattle.store.proofs.Laws.{fresh-store}
+use Rattle.store.proofs.Given.{given-store}
 use borrow.Author.Needs.{needs}
 use Rattle.settling.proofs.pass_line.Statement.{statement}
 use Rattle.settling.proofs.pass_line.Tie as tie
@@ -42,14 +43,14 @@ line-length a = search needs
 
 next-given-requires : tie.Need-next-given-requires Inv-loop μ-loop
 next-given-requires c κs = let a = start (c .before .before .before) in let w = a .args .w in
-    (search needs, ready-programs (w .board) _ (ready-all (w .board) (a .pre .0)))
+    (search needs, ready-programs (w .board) _ (ready-all (w .board) (a .pre .0)), taken (c .before .before .before) .take-sets .ensures .1 .0)
 
 loop-holds : tie.Need-loop-holds Inv-loop μ-loop
 loop-holds c = let u = c .before .before .before .before in let a = start u in let w = a .args .w in (
   line-length a,
   next-found _ _ _ _ _ _ 0 _ (record {
     passed = pass-start w (a .pre .0) (a .pre .1);
-    sets-are = sets-in (w .board) _ (taken u .take-sets .ensures);
+    sets-are = taken u .take-sets .ensures .1;
     uses-are = u .uses-of .ensures;
     asks = asks-all (w .board) (asked u .fill-asked .last .1 .0) (a .pre .0) (asked u .fill-asked .ensures);
   }) (c .next-given .ensures .2),
@@ -141,6 +142,9 @@ next-given-requires-2 : tie.Need-next-given-requires-2 Inv-loop μ-loop
 next-given-requires-2 c κs = let u = c .before .before in let l = at u .loop in let t = turn-given u .loop-test .taken in (
   omega arith,
   ready-programs (givenTo (l .c) _ _) _ (give-next _ _ _ _ _ _ _ (l .inv .1) (l .inv .0) (omega arith) (u .uses-in .result) (uses-then u) .passed .0),
+  let r = range (turn-given u) in
+      subst IsStore (sym (gave u .give .ensures))
+      (given-store (l .sets) (waiter u) (getD (files u) (waiter u - 1) 0) (r .0) (r .1) (l .inv .1 .here .sets-are .0)),
 )
 
 loop-again : tie.Need-loop-again Inv-loop μ-loop
@@ -169,7 +173,7 @@ pass-line-spec =
     (tie.spec
     Inv-loop
     μ-loop
-    (λ c κs. search needs)
+    (λ c κs. fresh-store)
     (λ c κs. search needs)
     (λ c κs. search needs)
     next-given-requires

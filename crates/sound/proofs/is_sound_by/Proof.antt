@@ -1,6 +1,7 @@
 -- `is_sound_by` meets its contract. Assumes nothing.
 use mathlib.Core.Path.{_≡_, sym, ap, _∙_}
-use mathlib.Core.Bool.{Bool, true, false, _&&_}
+use mathlib.Core.Bool.{Bool, true, false, cond, _&&_}
+use lib.Dec.{eqb}
 use borrow.Author.Tests.{not-true, not-false}
 use borrow.Author.Needs.{needs}
 use Rattle.laws.specs.Tests.{and-both, and-right}
@@ -8,13 +9,17 @@ use Rattle.rules.specs.declared.Board.{Board}
 use Rattle.laws.specs.Lists.{all, names, found}
 use Rattle.rules.specs.Boards.{everyone}
 use Rattle.rules.specs.Orders.{carried}
-use Rattle.rules.specs.Soundness.{noConflict, lineSound, sound}
+use Rattle.rules.specs.Soundness.{noConflict, lineSound, noneFavoured, someFavoured, sound}
+use Rattle.store.specs.Sets.{SetsOf}
+use Rattle.store.specs.Store.{boardOf}
+use Rattle.store.proofs.Boards.{board-sets}
 use Rattle.tables.specs.declared.ProgramSet.{ProgramSet}
 use Rattle.tables.specs.ProgramSets.{hasProgram}
 use Rattle.search.specs.Gives.{usesIn}
 use Rattle.sound.specs.Parts.{isSoundAt, standsAt, waiterAt}
 use Rattle.sound.proofs.Laws.{line-waiters as named-waiters}
 use Rattle.sound.proofs.Taken.{line-packed}
+use Rattle.sound.proofs.Seats.{counts-are}
 use Rattle.sound.proofs.Conflicts.{no-conflict-is}
 use Rattle.sound.proofs.is_sound_by.Statement.{statement}
 use Rattle.sound.proofs.is_sound_by.Tie as tie
@@ -56,29 +61,36 @@ abbrev s6 : tie.Else6 → tie.Start
 s6 c = s5 (c .before .before)
 
 -- the board there
+abbrev board : tie.Start → Board
+board s = boardOf (s .args .sets .now) (s .args .rest)
+
 abbrev b1 : tie.Else1 → Board
-b1 c = s1 c .args .b
+b1 c = board (s1 c)
 
 abbrev b2 : tie.Else2 → Board
-b2 c = s2 c .args .b
+b2 c = board (s2 c)
 
 abbrev b3 : tie.Else3 → Board
-b3 c = s3 c .args .b
+b3 c = board (s3 c)
 
 abbrev b4 : tie.Else4 → Board
-b4 c = s4 c .args .b
+b4 c = board (s4 c)
 
 abbrev b5 : tie.Else5 → Board
-b5 c = s5 c .args .b
+b5 c = board (s5 c)
 
 abbrev b6 : tie.Else6 → Board
-b6 c = s6 c .args .b
+b6 c = board (s6 c)
+
+-- its sets
+stored : (s : tie.Start) → SetsOf (board s) (s .args .sets .now)
+stored s = board-sets (s .args .sets .now) (s .args .rest) (s .pre .0)
 
 past1 : (c : tie.Else1) → all (isSoundAt (b1 c)) everyone ≡ true
 past1 c = sym (c .before .programs-sound .ensures) ∙ not-false (c .before .programs-sound .result) (c .if1 .left)
 
 conflicts : (c : tie.After-no-conflict) → c .no-conflict .result ≡ noConflict (b1 (c .before))
-conflicts c = let s = s1 (c .before) in c .no-conflict .ensures ∙ no-conflict-is (s .args .b) (s .args .sets .now) (s .pre .0)
+conflicts c = let s = s1 (c .before) in c .no-conflict .ensures ∙ no-conflict-is (board s) (s .args .sets .now) (stored s)
 
 past2 : (c : tie.Else2) → first2 (b2 c) ≡ true
 past2 c = and-both (all (isSoundAt (b2 c)) everyone) (noConflict (b2 c)) (past1 (c .before .before))
@@ -86,12 +98,13 @@ past2 c = and-both (all (isSoundAt (b2 c)) everyone) (noConflict (b2 c)) (past1 
 
 past3 : (c : tie.Else3) → first3 (b3 c) ≡ true
 past3 c = let s = s3 c in
-    and-both (first2 (b3 c)) (found (carried (b3 c))) (past2 (c .before)) (sym (s .pre .2) ∙ not-false (s .args .ordered) (c .if3 .left))
+    and-both (first2 (b3 c)) (found (carried (b3 c))) (past2 (c .before)) (sym (s .pre .1 .is-ordered) ∙ not-false (s .args .ordered) (c .if3 .left))
 
 waiting-line : (c : tie.After-line-sound) → let b = b3 (c .before .before) in
     c .line-sound .result ≡ lineSound (b .waiting) (standsAt b false)
-waiting-line c = let s = s3 (c .before .before) in let b = s .args .b in c .line-sound .ensures
-    ∙ ap (λ (s : ProgramSet). lineSound (b .waiting) (hasProgram s)) (s .pre .3)
+unfolding boardOf
+waiting-line c = let s = s3 (c .before .before) in let b = board s in c .line-sound .ensures
+    ∙ ap (λ (s : ProgramSet). lineSound (b .waiting) (hasProgram s)) (s .pre .1 .waiters-are)
     ∙ line-packed (b .waiting) (standsAt b false)
 
 past4 : (c : tie.Else4) → first4 (b4 c) ≡ true
@@ -100,17 +113,22 @@ past4 c = and-both (first3 (b4 c)) (lineSound (b4 c .waiting) (standsAt (b4 c) f
 
 entry-line : (c : tie.After-line-sound2) → let b = b4 (c .before .before) in
     c .line-sound2 .result ≡ lineSound (b .entry) (standsAt b true)
-entry-line c = let s = s4 (c .before .before) in let b = s .args .b in c .line-sound2 .ensures
-    ∙ ap (λ (s : ProgramSet). lineSound (b .entry) (hasProgram s)) (s .pre .4)
+unfolding boardOf
+entry-line c = let s = s4 (c .before .before) in let b = board s in c .line-sound2 .ensures
+    ∙ ap (λ (s : ProgramSet). lineSound (b .entry) (hasProgram s)) (s .pre .1 .held-are)
     ∙ line-packed (b .entry) (standsAt b true)
 
 past5 : (c : tie.Else5) → first5 (b5 c) ≡ true
 past5 c = and-both (first4 (b5 c)) (lineSound (b5 c .entry) (standsAt (b5 c) true)) (past4 (c .before .before .before))
     (sym (entry-line (c .before)) ∙ not-false (c .before .line-sound2 .result) (c .if5 .left))
 
+waiters : (c : tie.After-line-waiters) → let b = b5 (c .before) in c .line-waiters .result ≡ all (waiterAt b) (names (b .waiting))
+unfolding boardOf
+waiters c = c .line-waiters .ensures
+
 past6 : (c : tie.Else6) → first6 (b6 c) ≡ true
 past6 c = and-both (first5 (b6 c)) (all (waiterAt (b6 c)) (names (b6 c .waiting))) (past5 (c .before .before))
-    (sym (c .before .line-waiters .ensures) ∙ not-false (c .before .line-waiters .result) (c .if6 .left))
+    (sym (waiters (c .before)) ∙ not-false (c .before .line-waiters .result) (c .if6 .left))
 
 -- ---- the returns
 
@@ -128,7 +146,7 @@ returns-2 c = rw (
 returns-3 : tie.Need-returns-3
 unfolding sound
 returns-3 c = let s = s2 (c .before) in
-    rw (past2 (c .before), sym (s .pre .2) ∙ not-true (s .args .ordered) (c .if3 .taken))
+    rw (past2 (c .before), sym (s .pre .1 .is-ordered) ∙ not-true (s .args .ordered) (c .if3 .taken))
 
 returns-4 : tie.Need-returns-4
 unfolding sound
@@ -145,11 +163,12 @@ returns-5 c = rw (
 )
 
 line-waiters-requires : tie.Need-line-waiters-requires
+unfolding boardOf
 line-waiters-requires c κs = let l = c .before .before .before in
     let e = l .before .before .before in let s = s3 e in (
       record {
-        in-sets = s .pre .0;
-        in-use = ap (λ (x : ProgramSet). usesIn x (s .args .sets .now)) (s .pre .1);
+        in-sets = stored s;
+        in-use = ap (λ (x : ProgramSet). usesIn x (s .args .sets .now)) (s .pre .1 .admitted-are);
         apart = and-right (all (isSoundAt (b5 c)) everyone) (noConflict (b5 c)) (past2 (e .before));
         ordered = and-right (first2 (b5 c)) (found (carried (b5 c))) (past3 e);
       },
@@ -160,21 +179,25 @@ returns-6 : tie.Need-returns-6
 unfolding sound
 returns-6 c = rw (
   past5 (c .before .before),
-  sym (c .before .line-waiters .ensures) ∙ not-true (c .before .line-waiters .result) (c .if6 .taken),
+  sym (waiters (c .before)) ∙ not-true (c .before .line-waiters .result) (c .if6 .taken),
 )
 
-favour-sound-requires : tie.Need-favour-sound-requires
-favour-sound-requires c κs = let s = s6 c in (s .pre .3, s .pre .4, s .pre .1)
+favours : (c : tie.After-favour-sound) → let b = b6 (c .before) in
+    c .favour-sound .result ≡ cond (eqb (b .favoured) 0) (noneFavoured b) (someFavoured b)
+unfolding boardOf
+favours c = let s = s6 (c .before) in let p = s .pre .1 in
+    c .favour-sound .ensures (s .args .sets .now) (p .waiters-are) (p .held-are) (p .admitted-are)
 
 returns-7 : tie.Need-returns-7
 unfolding sound
 returns-7 c = let f = c .before in
-    rw (past6 (f .before), sym (f .favour-sound .ensures) ∙ not-true (f .favour-sound .result) (c .if7 .taken))
+    rw (past6 (f .before), sym (favours f) ∙ not-true (f .favour-sound .result) (c .if7 .taken))
 
 returns-8 : tie.Need-returns-8
 unfolding sound
 returns-8 c = let i = c .before in let f = i .before in
-    rw (past6 (f .before), sym (f .favour-sound .ensures) ∙ not-false (f .favour-sound .result) (i .if7 .left)) (c .counts-sound .ensures)
+    rw (past6 (f .before), sym (favours f) ∙ not-false (f .favour-sound .result) (i .if7 .left))
+    (c .counts-sound .ensures ∙ counts-are (s6 (f .before) .args .sets .now) (s6 (f .before) .args .rest))
 
 pub is-sound-by-spec : {M : Type 1} → statement M
 is-sound-by-spec =
@@ -191,7 +214,7 @@ is-sound-by-spec =
     returns-5
     line-waiters-requires
     returns-6
-    favour-sound-requires
+    (λ c κs. search needs)
     returns-7
     (λ c κs. search needs)
     returns-8)

@@ -3,6 +3,7 @@ use mathlib.Core.Path.{_≡_, sym, subst}
 use native.Mathlib.Omega.{arith}
 use lib.ListN.{length}
 use Rattle.laws.specs.Lists.{all}
+use Rattle.store.specs.Store.{boardOf}
 use Rattle.search.specs.declared.Uses.{Uses}
 use Rattle.lines.proofs.Laws.{all-names-stop}
 use Rattle.sound.specs.Parts.{waiterAt, Known}
@@ -13,11 +14,11 @@ use Rattle.sound.proofs.line_waiters.Tie as tie
 returns : tie.Need-returns
 unfolding all
 returns c = let a = c .before .args in let m : length (a .t4) ≡ 32 = search needs in
-    sym (all-names-stop (a .t4) 0 (waiterAt (a .b)) (omega arith) (c .if1 .taken))
+    sym (all-names-stop (a .t4) 0 (waiterAt (boardOf (a .sets .now) (a .rest))) (omega arith) (c .if1 .taken))
 
 waiters-sound-requires : tie.Need-waiters-sound-requires
 waiters-sound-requires c κs = let s = c .before .before in let a = s .args in
-    (subst (λ (u : Uses). Known (a .b) (a .sets .now) u) (sym (c .uses-in .ensures)) (s .pre .0), s .pre .1)
+    (subst (λ (u : Uses). Known (boardOf (a .sets .now) (a .rest)) (a .sets .now) u) (sym (c .uses-in .ensures)) (s .pre .0), s .pre .1)
 
 pub line-waiters-spec : {M : Type 1} → statement M
 line-waiters-spec =

@@ -1,34 +1,56 @@
 -- `waiter_sound` meets its contract. Assumes nothing.
 use mathlib.Core.Path.{_≡_, sym, ap, _∙_}
-use mathlib.Core.Bool.{false, not}
+use mathlib.Core.Bool.{not}
 use borrow.Author.Tests.{not-true, not-false}
-use Rattle.rules.specs.declared.Program.{Program}
+use Rattle.files.specs.declared.FileSet.{FileSet}
+use Rattle.files.specs.Sets.{member}
+use Rattle.rules.specs.declared.Board.{Board}
+use Rattle.rules.specs.Modes.{claimOf, openOf}
 use Rattle.rules.specs.Boards.{at, claims, hasOpen}
 use Rattle.rules.specs.Soundness.{waiterSound}
+use Rattle.theory.specs.Modes.{same-mode}
+use Rattle.store.specs.Sets.{SetsOf, claimAt, openAt}
+use Rattle.store.proofs.Laws.{claim-is, open-is}
 use Rattle.search.proofs.Used.{give-by}
 use borrow.Author.Needs.{needs}
 use Rattle.sound.proofs.waiter_sound.Statement.{statement}
 use Rattle.sound.proofs.waiter_sound.Tie as tie
 
+-- whether the file is claimed
+claimed : (h : tie.After-has-claim) (b : Board) → SetsOf b (h .before .args .sets .now)
+    → h .has-claim .result ≡ claims (at b (h .before .args .p)) (h .before .args .f)
+claimed h b s = let a = h .before .args in let e = h .before .pre .0 in h .has-claim .ensures
+    ∙ same-mode (λ m. member (claimAt (a .sets .now) (a .p) m) (a .f)) (λ m. member (claimOf m (at b (a .p))) (a .f))
+    (λ m. ap (λ (x : FileSet). member x (a .f)) (claim-is b (a .sets .now) s (a .p) (e .0) (e .1) m))
+
+abbrev start : tie.After-has-open → tie.Start
+start o = o .before .before .before
+
+-- and whether it is open
+opened : (o : tie.After-has-open) (b : Board) → SetsOf b (start o .args .sets .now)
+    → o .has-open .result ≡ hasOpen (at b (start o .args .p)) (start o .args .f)
+opened o b s = let a = start o .args in let e = start o .pre .0 in o .has-open .ensures
+    ∙ same-mode (λ m. member (openAt (a .sets .now) (a .p) m) (a .f)) (λ m. member (openOf m (at b (a .p))) (a .f))
+    (λ m. ap (λ (x : FileSet). member x (a .f)) (open-is b (a .sets .now) s (a .p) (e .0) (e .1) m))
+
 returns : tie.Need-returns
 unfolding waiterSound
-returns c = λ b e k a. let s = c .before .before in
-    rw (ap (λ (z : Program). claims z (s .args .f)) (sym e) ∙ sym (c .before .claims .ensures) ∙ not-true (c .before .claims .result) (c .if1 .taken))
+returns c = λ b k a. rw (sym (claimed (c .before) b (k .in-sets)) ∙ not-true (c .before .has-claim .result) (c .if1 .taken))
 
 returns-2 : tie.Need-returns-2
 unfolding waiterSound
-returns-2 c = λ b e k a. let i = c .before .before in let s = i .before .before in rw (
-  ap (λ (z : Program). claims z (s .args .f)) (sym e) ∙ sym (i .before .claims .ensures) ∙ not-false (i .before .claims .result) (i .if1 .left),
-  ap (λ (z : Program). hasOpen z (s .args .f)) (sym e) ∙ sym (c .before .has-open .ensures) ∙ c .if2 .taken,
+returns-2 c = λ b k a. let i = c .before .before in rw (
+  sym (claimed (i .before) b (k .in-sets)) ∙ not-false (i .before .has-claim .result) (i .if1 .left),
+  sym (opened (c .before) b (k .in-sets)) ∙ c .if2 .taken,
 )
 
 returns-3 : tie.Need-returns-3
 unfolding waiterSound
-returns-3 c = λ b e k a. let j = c .before in let i = j .before .before in let s = i .before .before in
-    let o : hasOpen (at b (s .args .p)) (s .args .f) ≡ false = ap (λ (z : Program). hasOpen z (s .args .f)) (sym e)
-    ∙ sym (j .before .has-open .ensures) ∙ j .if2 .left in
-    rw (ap (λ (z : Program). claims z (s .args .f)) (sym e) ∙ sym (i .before .claims .ensures) ∙ not-false (i .before .claims .result) (i .if1 .left), o)
-    (ap not (give-by (s .args .sets .now) (s .args .uses) (s .args .p) (s .args .f) _ (search needs) (search needs)
+returns-3 c = λ b k a. let j = c .before in let i = j .before .before in let s = i .before .before in rw (
+  sym (claimed (i .before) b (k .in-sets)) ∙ not-false (i .before .has-claim .result) (i .if1 .left),
+  sym (opened (j .before) b (k .in-sets)) ∙ j .if2 .left,
+)
+    (ap not (give-by (s .args .sets .now) (s .args .uses) (s .args .p) (s .args .f) _ (s .pre .0 .0) (s .pre .0 .1)
     (c .can-give .ensures) b (k .in-sets) (k .in-use) (k .apart) (k .ordered) a))
 
 pub waiter-sound-spec : {M : Type 1} → statement M

@@ -1,27 +1,30 @@
 -- `holds_back` meets its contract. Assumes nothing.
-use mathlib.Core.Path.{_≡_, _∙_}
+use mathlib.Core.Path.{_≡_, ap, _∙_}
 use Rattle.rules.specs.Modes.{Mode, Write, Read, byMode}
 use Rattle.theory.specs.Modes.{touching-same}
-use Rattle.tables.specs.Sets.{claimAt, openAt}
+use Rattle.store.specs.Sets.{setIn, claimAt, openAt}
 use borrow.Author.Needs.{needs}
 use Rattle.tables.proofs.holds_back.Statement.{statement}
 use Rattle.tables.proofs.holds_back.Tie as tie
 
-module _ (c : tie.After-readable) where
+-- the places of the four sets are known
+module _ (c : tie.After-readable-at) where
   abbrev start : tie.Start
   start = c .before .before .before .before
 
-  open-read : (m : Mode) → byMode (c .before .before .before .writing .result) (c .before .before .reading .result) m
-      ≡ openAt (start .args .sets .now) (start .args .p) m
-  open-read Write = c .before .before .before .writing .ensures
-  open-read Read = c .before .before .reading .ensures
+  open-read : (m : Mode) → byMode (setIn (start .args .sets .now) (c .before .before .before .writing-at .result))
+      (setIn (start .args .sets .now) (c .before .before .reading-at .result)) m ≡ openAt (start .args .sets .now) (start .args .p) m
+  open-read Write = ap (setIn (start .args .sets .now)) (c .before .before .before .writing-at .ensures .0)
+  open-read Read = ap (setIn (start .args .sets .now)) (c .before .before .reading-at .ensures .0)
 
-  claims-read : (m : Mode) → byMode (c .before .writable .result) (c .readable .result) m ≡ claimAt (start .args .sets .now) (start .args .q) m
-  claims-read Write = c .before .writable .ensures
-  claims-read Read = c .readable .ensures
+  claims-read : (m : Mode) → byMode (setIn (start .args .sets .now) (c .before .writable-at .result))
+      (setIn (start .args .sets .now) (c .readable-at .result)) m ≡ claimAt (start .args .sets .now) (start .args .q) m
+  claims-read Write = ap (setIn (start .args .sets .now)) (c .before .writable-at .ensures .0)
+  claims-read Read = ap (setIn (start .args .sets .now)) (c .readable-at .ensures .0)
 
 returns : tie.Need-returns
-returns c = c .touches .ensures ∙ touching-same _ _ _ _ (open-read (c .before)) (claims-read (c .before))
+returns c = let r = c .before .before .before .before .before .before .before .before .before in
+    c .touches .ensures ∙ touching-same _ _ _ _ (open-read r) (claims-read r)
 
 pub holds-back-spec : {M : Type 1} → statement M
 holds-back-spec =
@@ -31,5 +34,13 @@ holds-back-spec =
     (λ c κs. search needs)
     (λ c κs. search needs)
     (λ c κs. search needs)
+    (λ c. search needs)
+    (λ c. search needs)
+    (λ c. search needs)
+    (λ c. search needs)
+    (λ c. search needs)
+    (λ c. search needs)
+    (λ c. search needs)
+    (λ c. search needs)
     (λ c κs. search needs)
     returns)

@@ -1,14 +1,13 @@
 -- `is_loop` meets its contract. Assumes nothing.
 use mathlib.Core.Path.{_∙_}
 use borrow.Author.Needs.{needs}
-use Rattle.digraph.proofs.Laws.{steps-are}
 use Rattle.digraph.proofs.LoopLaws.{loop-on}
 use Rattle.digraph.proofs.loops.is_loop.Statement.{statement}
 use Rattle.digraph.proofs.loops.is_loop.Tie as tie
 
 returns : tie.Need-returns
 returns c = let f = c .before .before in let a = f .before .before .before .args in
-    c .is-loop-in .ensures ∙ loop-on (a .b) _ (a .l .now) (f .fill-steps .ensures ∙ steps-are (a .b))
+    c .is-loop-in .ensures ∙ loop-on (a .b) _ (a .l .now) (f .fill-steps .ensures)
 
 pub is-loop-spec : {M : Type 1} → statement M
 is-loop-spec = tie.close (tie.spec (λ c κs. search needs) (λ c κs. search needs) returns)

@@ -1,17 +1,15 @@
 -- `is_safe` meets its contract; in its loop `found` and `rest` are a stage of the decision. Assumes nothing.
 use mathlib.Core.Path.{_≡_, sym, ap, ap₂, _∙_}
 use mathlib.Core.Bool.{Bool, cond}
-use mathlib.Core.List.{List}
 use Prim.Native.Nat.{ℕ, suc}
 use lib.ListN.{length}
-use Rattle.files.specs.declared.FileSet.{FileSet}
 use Rattle.files.specs.Sets.{member}
 use Rattle.laws.specs.Lists.{keep}
 use Rattle.rules.specs.Modes.{Mode, Write, Read}
 use Rattle.rules.specs.Boards.{everyone}
 use Rattle.tables.specs.declared.ProgramSet.{ProgramSet}
 use Rattle.tables.specs.ProgramSets.{withoutProgram, unionOf, lessOf}
-use Rattle.tables.specs.Sets.{modeAt, claimsAt}
+use Rattle.store.specs.Sets.{Sets, setIn, modeAt, claimsAt}
 use Rattle.tables.proofs.Walk.{none-left}
 use Rattle.search.specs.Stages.{Stage, asked, stage}
 use Rattle.search.proofs.Closing.{Closing, more, closing-start, closing-next, closing-done}
@@ -22,7 +20,7 @@ use Rattle.search.proofs.gives.is_safe.Statement.{statement}
 use Rattle.search.proofs.gives.is_safe.Tie as tie
 
 -- a stage of the decision with the programs a admitted
-record Here (sets : List ℕ) (a : ProgramSet) (p f : ℕ) (mode : Mode) (found rest : ProgramSet) : Type 0 where
+record Here (sets : Sets) (a : ProgramSet) (p f : ℕ) (mode : Mode) (found rest : ProgramSet) : Type 0 where
   closing : Closing sets (withoutProgram a p) p f mode found rest
   asks : ℕ
   is-found : found ≡ stage sets a p (suc asks) .found
@@ -32,11 +30,11 @@ abbrev by : Bool → Mode
 by write = cond write Write Read
 
 abbrev Inv-loop : tie.InvT-loop
-Inv-loop sets p f write found₀ rest₀ found rest = (a : ProgramSet) → found₀ ≡ more sets p (withoutProgram a p)
+Inv-loop sets p f v write found₀ rest₀ found rest = (a : ProgramSet) → found₀ ≡ more sets p (withoutProgram a p)
     → rest₀ ≡ lessOf (withoutProgram a p) found₀ → Here sets a p f (by write) found rest
 
 abbrev μ-loop : tie.MeasureT-loop
-μ-loop sets p f write found₀ rest₀ found rest = length (keep (toAsk (record { found = found; rest = rest })) everyone)
+μ-loop sets p f v write found₀ rest₀ found rest = length (keep (toAsk (record { found = found; rest = rest })) everyone)
 
 -- ---- stations
 
@@ -45,7 +43,7 @@ abbrev known : tie.At-loop Inv-loop μ-loop → tie.After-has Inv-loop μ-loop
 known s = s .before .before .before .before
 
 abbrev begun : tie.At-loop Inv-loop μ-loop → tie.Start Inv-loop μ-loop
-begun s = known s .before .before
+begun s = known s .before .before .before .before
 
 -- one of those found is asked about
 abbrev picked : tie.After-or Inv-loop μ-loop → tie.After-lowest Inv-loop μ-loop
@@ -55,9 +53,9 @@ picked c = c .before .before .before .before .before .before
 abbrev before : tie.After-lowest Inv-loop μ-loop → tie.At-loop Inv-loop μ-loop
 before l = l .before .before .before
 
-mode-is : (h : tie.After-has Inv-loop μ-loop) → let a = h .before .before .args in by (h .has .result) ≡ modeAt (a .sets .now) (a .p) (a .f)
-mode-is h = let a = h .before .before .args in
-    ap by (h .has .ensures ∙ ap (λ (s : FileSet). member s (a .f)) (h .before .writable .ensures))
+mode-is : (h : tie.After-has Inv-loop μ-loop) → let a = h .before .before .before .before .args in by (h .has .result) ≡ modeAt (a .sets .now) (a .p) (a .f)
+mode-is h = let v = h .before .before .before in let a = v .before .args in
+    ap by (h .has .ensures ∙ ap (λ (k : ℕ). member (setIn (a .sets .now) k) (a .f)) (v .writable-at .ensures .0))
 
 -- the stage, with those admitted that are
 here : (s : tie.At-loop Inv-loop μ-loop) → let a = begun s .args in
@@ -72,8 +70,8 @@ stage-at s = record { found = s .loop .found; rest = s .loop .rest }
 -- ---- the loop
 
 loop-holds : tie.Need-loop-holds Inv-loop μ-loop
-loop-holds c = let h = c .before .before .before in let t = h .before .before in let g = t .args in λ a e d.
-    let (i, r) = stage-first (g .sets .now) a (g .p) (t .pre .0) (t .pre .1) in record {
+loop-holds c = let h = c .before .before .before in let t = h .before .before .before .before in let g = t .args in λ a e d.
+    let (i, r) = stage-first (g .sets .now) a (g .p) (t .pre .0 .0) (t .pre .0 .1) in record {
       closing = rw (d, e) (closing-start (g .sets .now) (withoutProgram a (g .p)) (g .p) (g .f) (by (h .has .result)));
       asks = 0;
       is-found = e ∙ sym i;
@@ -90,7 +88,7 @@ returns c = let l = c .before .before in let s = before l in let k = here s in l
     (ap (λ (m : Mode). claimsAt (g .sets .now) (g .f) m q) (sym (mode-is (known s))) ∙ sym (c .before .has-claim .ensures) ∙ c .if2 .taken))
 
 module _ (c : tie.After-or Inv-loop μ-loop) where
-  abbrev sets : List ℕ
+  abbrev sets : Sets
   sets = begun (before (picked c)) .args .sets .now
 
   -- whom it asks about
@@ -137,6 +135,8 @@ is-safe-spec =
     Inv-loop
     μ-loop
     (λ c κs. search needs)
+    (λ c. search needs)
+    (λ c. search needs)
     (λ c κs. search needs)
     (λ c κs. search needs)
     (λ c κs. search needs)

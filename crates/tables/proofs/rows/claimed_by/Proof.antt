@@ -3,6 +3,7 @@ use mathlib.Core.Path.{sym}
 use Rattle.tables.specs.ProgramSets.{hasProgram, withoutProgram}
 use Rattle.tables.specs.Shared.{claimedAt, SharedBy}
 use Rattle.tables.proofs.Walk.{Rest, came, rest-more, came-start, came-here, came-other, came-not, came-all, without-lt}
+use Rattle.tables.proofs.NoRow.{claimed-words}
 use Rattle.tables.proofs.Sharing.{shared-none, shared-more, shared-same}
 use borrow.Author.Needs.{needs}
 use Rattle.tables.proofs.rows.claimed_by.Statement.{statement}
@@ -21,7 +22,7 @@ lowest-requires : tie.Need-lowest-requires Inv-loop μ-loop
 lowest-requires c κs = c .if1 .taken
 
 claims-of-requires : tie.Need-claims-of-requires Inv-loop μ-loop
-claims-of-requires c κs = (c .lowest .ensures .1 .0, c .lowest .ensures .1 .1)
+claims-of-requires c κs = ((c .lowest .ensures .1 .0, c .lowest .ensures .1 .1), c .before .before .before .before .pre)
 
 loop-less : tie.Need-loop-less Inv-loop μ-loop
 loop-less c = let l = c .before .before .before .lowest in let s = c .before .before .before .before in
@@ -33,7 +34,8 @@ loop-again c = let l = c .before .before .before .lowest in let s = c .before .b
     let r = s .loop .rest in
     rw (c .but-lowest .ensures, sym (l .ensures .0), c .before .with .ensures, c .before .before .claims-of .ensures) (
       rest-more (a .set) r p (s .loop .inv .0),
-      shared-more g (came (a .set) r) (came (a .set) (withoutProgram r p)) p (s .loop .claimed) (came-not (a .set) r p h)
+      shared-more g (came (a .set) r) (came (a .set) (withoutProgram r p)) p (s .loop .claimed)
+          (claimed-words (a .sets .now) (s .before .pre) p (l .ensures .1 .0) (l .ensures .1 .1)) (came-not (a .set) r p h)
           (came-here (a .set) r p (s .loop .inv .0) h) (came-other (a .set) r p) (s .loop .inv .1),
     )
 

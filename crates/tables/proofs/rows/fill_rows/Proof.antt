@@ -5,6 +5,7 @@ use mathlib.Core.List.{List}
 use Prim.Native.Nat.{ℕ, suc, _-_}
 use native.Mathlib.Omega.{arith}
 use lib.ListN.{getD, getD-replicate}
+use Rattle.store.specs.Sets.{Sets}
 use Rattle.tables.specs.declared.ProgramSet.{ProgramSet}
 use Rattle.tables.specs.ProgramSets.{hasProgram, withoutProgram}
 use Rattle.tables.specs.Tables.{heldBy, packed, rowsOf}
@@ -15,7 +16,7 @@ use Rattle.tables.proofs.rows.fill_rows.Statement.{statement}
 use Rattle.tables.proofs.rows.fill_rows.Tie as tie
 
 -- what is written at place i
-abbrev rowBits : List ℕ → ProgramSet → ℕ → ℕ
+abbrev rowBits : Sets → ProgramSet → ℕ → ℕ
 rowBits sets a i = packed (heldBy sets (suc i) (withoutProgram a (suc i))) 32 .bits
 
 abbrev Inv-loop : tie.InvT-loop
@@ -32,7 +33,7 @@ lowest-requires c κs = c .if1 .taken
 
 row-of-requires : tie.Need-row-of-requires Inv-loop μ-loop
 row-of-requires c κs = let l = c .lowest in let s = c .before .before .before in
-    ((l .ensures .1 .0, l .ensures .1 .1), s .loop .inv .0 (l .result) (l .ensures .1 .2), s .before .claimed-by .ensures)
+    ((l .ensures .1 .0, l .ensures .1 .1), s .loop .inv .0 (l .result) (l .ensures .1 .2), s .before .claimed-by .ensures, s .before .before .pre .1)
 
 loop-less : tie.Need-loop-less Inv-loop μ-loop
 loop-less c = let l = c .before .before .lowest in let s = c .before .before .before in
@@ -51,7 +52,7 @@ unfolding rowsOf
 returns c = let l = c .before .before .loop in let t = c .before .before .before .before in let a = t .args in
     wrote-done (a .admitted) (rowBits (a .sets .now) (a .admitted)) (a .rows .now) (l .rest) (l .rows) (c .if1 .left) (l .inv)
     ∙ places-same _ _ 32 0 (λ i h m. ap (cond (hasProgram (a .admitted) (suc i)) (rowBits (a .sets .now) (a .admitted) i))
-    (ap (λ (x : List ℕ). getD x i 0) (t .pre) ∙ getD-replicate 32 i 0 0 (omega arith)))
+    (ap (λ (x : List ℕ). getD x i 0) (t .pre .0) ∙ getD-replicate 32 i 0 0 (omega arith)))
 
 pub fill-rows-spec : {M : Type 1} → statement M
 fill-rows-spec =

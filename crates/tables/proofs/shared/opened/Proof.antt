@@ -1,10 +1,10 @@
 -- `opened` meets its contract. Assumes nothing.
 use mathlib.Core.Path.{_≡_, refl, ap, _∙_}
-use Prim.Native.Nat.{_-_, _≤_}
+use Prim.Native.Nat.{ℕ, _-_, _≤_}
 use native.Mathlib.Omega.{arith}
 use Rattle.rules.specs.Modes.{Write, Read}
-use Rattle.tables.specs.Sets.{openAt}
-use Rattle.tables.specs.Shared.{sharing, sharedTo}
+use Rattle.store.specs.Sets.{rowIn}
+use Rattle.tables.specs.Shared.{sharing, sharedTo, openRow}
 use Rattle.tables.proofs.Sharing.{to-more}
 use borrow.Author.Needs.{needs}
 use Rattle.tables.proofs.shared.opened.Statement.{statement}
@@ -12,7 +12,7 @@ use Rattle.tables.proofs.shared.opened.Tie as tie
 
 abbrev Inv-loop : tie.InvT-loop
 Inv-loop sets writing₀ reading₀ p₀ writing reading p = ((1 ≤ p) × (p ≤ 33))
-    × (writing ≡ sharedTo (λ i. openAt sets i Write) (p - 1)) × (reading ≡ sharedTo (λ i. openAt sets i Read) (p - 1))
+    × (writing ≡ sharedTo (openRow sets Write) (p - 1)) × (reading ≡ sharedTo (openRow sets Read) (p - 1))
 
 abbrev μ-loop : tie.MeasureT-loop
 μ-loop sets writing₀ reading₀ p₀ writing reading p = 33 - p
@@ -22,13 +22,14 @@ unfolding sharedTo
 loop-holds c = ((search needs, search needs), refl, refl)
 
 loop-again : tie.Need-loop-again Inv-loop μ-loop
-loop-again c = let r = c .before in let w = r .before .before in let s = w .before .before in let l = s .loop in let a = s .before .args .sets .now in (
-  (search needs, search needs),
-  to-more (λ i. openAt a i Write) (l .p) (l .writing) _ (l .inv .0 .0) (l .inv .1)
-      (r .before .with .ensures ∙ ap (sharing (l .writing)) (w .writing .ensures)),
-  to-more (λ i. openAt a i Read) (l .p) (l .reading) _ (l .inv .0 .0) (l .inv .2)
-      (c .with2 .ensures ∙ ap (sharing (l .reading)) (r .reading .ensures)),
-)
+loop-again c = let r = c .before .before in let w = r .before .before .before in let s = w .before .before in let l = s .loop in
+    let a = s .before .args .sets .now in (
+      (search needs, search needs),
+      to-more (openRow a Write) (l .p) (l .writing) _ (l .inv .0 .0) (l .inv .1)
+          (r .before .with .ensures ∙ ap (λ (k : ℕ). sharing (l .writing) (rowIn a k)) (w .writing-at .ensures .0)),
+      to-more (openRow a Read) (l .p) (l .reading) _ (l .inv .0 .0) (l .inv .2)
+          (c .with2 .ensures ∙ ap (λ (k : ℕ). sharing (l .reading) (rowIn a k)) (r .reading-at .ensures .0)),
+    )
 
 returns : tie.Need-returns Inv-loop μ-loop
 returns c = let l = c .before .loop in let e : l .p ≡ 33 = omega (arith, l .inv .0 .1) in
@@ -42,8 +43,12 @@ opened-spec =
     μ-loop
     loop-holds
     (λ c κs. search needs)
+    (λ c. search needs)
+    (λ c. search needs)
     (λ c κs. search needs)
     (λ c κs. search needs)
+    (λ c. search needs)
+    (λ c. search needs)
     (λ c κs. search needs)
     (λ c. search needs)
     (λ c. search needs)

@@ -1,0 +1,4 @@
+-- The laws of the store.
+pub mod Laws
+pub mod Given
+pub mod Boards

@@ -1,0 +1,43 @@
+-- `give` meets its contract. Assumes nothing.
+use mathlib.Core.Path.{_≡_, sym, ap, _∙_}
+use Prim.Native.Nat.{ℕ}
+use Rattle.files.specs.Sets.{member}
+use Rattle.rules.specs.Modes.{Write}
+use Rattle.store.specs.Sets.{setIn, claimAt}
+use borrow.Author.Needs.{needs}
+use Rattle.store.proofs.sets.give.Statement.{statement}
+use Rattle.store.proofs.sets.give.Tie as tie
+
+abbrev start : tie.After-has → tie.Start
+start h = h .before .before .before .before
+
+-- whether p may write f
+mine : (h : tie.After-has) → let a = start h .args in h .has .result ≡ member (claimAt (a .sets .now) (a .p) Write) (a .f)
+mine h = let a = start h .args in h .has .ensures ∙ ap (λ (k : ℕ). member (setIn (a .sets .now) k) (a .f)) (h .before .before .before .writable-at .ensures .0)
+
+returns : tie.Need-returns
+returns c = let w = c .before .before in let h = w .before in
+    rw (sym (mine (h .before)) ∙ h .if1 .taken, c .add .ensures, w .writing-at .ensures .0)
+
+returns-2 : tie.Need-returns-2
+returns-2 c = let r = c .before .before in let h = r .before in
+    rw (sym (mine (h .before)) ∙ h .if1 .left, c .add2 .ensures, r .reading-at .ensures .0)
+
+pub give-spec : {M : Type 1} → statement M
+give-spec =
+    tie.close
+    (tie.spec
+    (λ c κs. search needs)
+    (λ c. search needs)
+    (λ c. search needs)
+    (λ c κs. search needs)
+    (λ c κs. search needs)
+    (λ c. search needs)
+    (λ c. search needs)
+    (λ c κs. search needs)
+    returns
+    (λ c κs. search needs)
+    (λ c. search needs)
+    (λ c. search needs)
+    (λ c κs. search needs)
+    returns-2)

@@ -1,0 +1,3 @@
+-- The definitions that the contracts of store cite.
+pub mod Sets
+pub mod Store

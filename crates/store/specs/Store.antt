@@ -1,0 +1,70 @@
+-- A board as two things: the sets of its programs, and the small rest. `boardOf` leads from both to the board of the rules.
+-- Assumes nothing.
+use Prim.Native.Nat.{ℕ, zero, suc, _-_, _<_}
+use mathlib.Core.Path.{_≡_}
+use mathlib.Core.List.{List, [], _∷_}
+use lib.ListN.{getD}
+use Rattle.rules.specs.declared.Standing.{Standing}
+use Rattle.rules.specs.declared.Program.{Program}
+use Rattle.rules.specs.declared.Board.{Board}
+use Rattle.rules.specs.Modes.{Write, Read}
+use Rattle.store.specs.declared.Seat.{Seat}
+use Rattle.store.specs.declared.Rest.{Rest}
+use Rattle.store.specs.Sets.{Sets, setIn, claimPlace, openPlace, inPlace}
+
+-- the seat of an absent program
+abbrev pub noSeat : Seat
+noSeat = record { standing = Standing.Absent }
+
+-- the standing of program p
+abbrev pub standingAt : Rest → ℕ → Standing
+standingAt r p = getD (r .seats) (p - 1) noSeat .standing
+
+-- the program at index i, by its sets, at a standing
+abbrev pub programWith : Sets → ℕ → Standing → Program
+programWith sets i s =
+    record {
+      writable = setIn sets (claimPlace Write i);
+      readable = setIn sets (claimPlace Read i);
+      writing = setIn sets (openPlace Write i);
+      reading = setIn sets (openPlace Read i);
+      standing = s;
+    }
+
+-- the n programs from index i on, by their sets, at these standings
+unfoldable pub programsFrom : Sets → (ℕ → Standing) → ℕ → ℕ → List Program
+programsFrom sets s zero i = []
+programsFrom sets s (suc n) i = programWith sets i (s i) ∷ programsFrom sets s n (suc i)
+
+-- the programs of a board, with their sets read from the array
+abbrev pub programsBy : Sets → Board → List Program
+programsBy sets b = programsFrom sets (λ i. inPlace b i .standing) 32 0
+
+-- the board
+unfoldable pub boardOf : Sets → Rest → Board
+boardOf sets r =
+    record {
+      programs = programsFrom sets (λ i. getD (r .seats) i noSeat .standing) 32 0;
+      waiting = r .waiting;
+      entry = r .entry;
+      favoured = r .favoured;
+      initial = r .initial;
+      leaves = r .leaves;
+      passed = r .passed;
+    }
+
+-- ---- the rest of a board
+
+-- the first n seats have the standings of the board's programs
+abbrev pub SeatsTo : Board → ℕ → List Seat → Type 0
+SeatsTo b n seats = (i : ℕ) → i < n → getD seats i noSeat .standing ≡ inPlace b i .standing
+
+-- the rest has the standings, the lines, the numbers and the counts of the board
+pub record RestOf (b : Board) (r : Rest) : Type 0 where
+  pub seats-are : SeatsTo b 32 (r .seats)
+  pub waiting-is : r .waiting ≡ b .waiting
+  pub entry-is : r .entry ≡ b .entry
+  pub favoured-is : r .favoured ≡ b .favoured
+  pub initial-is : r .initial ≡ b .initial
+  pub leaves-are : r .leaves ≡ b .leaves
+  pub passed-are : r .passed ≡ b .passed
