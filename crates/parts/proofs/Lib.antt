@@ -1,2 +1,3 @@
 -- What is proved of the parts.
 pub mod Laws
+pub mod Lined

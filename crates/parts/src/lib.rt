@@ -1,5 +1,5 @@
-// Functions on the parts of a board: the table of modes, a program, a standing, a refusal.
+// Functions on the parts of a board: the table of modes, a standing, a refusal, a journal line as bytes.
+pub mod entries;
 pub mod modes;
-pub mod programs;
 pub mod refusals;
 pub mod standings;

@@ -1,7 +1,7 @@
 -- Laws of a board as its sets and the rest. Assumes nothing.
 use Prim.Native.Nat.{ℕ, zero, suc, _+_, _-_, _≤_, _<_}
 use native.Mathlib.Omega.{arith}
-use mathlib.Core.Path.{_≡_, refl, sym, ap, _∙_}
+use mathlib.Core.Path.{_≡_, refl, sym, ap, ap₂, _∙_}
 use mathlib.Core.List.{List, []}
 use mathlib.Core.Logic.{_≢_}
 use lib.Dec.{eqb}
@@ -12,11 +12,14 @@ use Rattle.laws.specs.Tests.{by-test}
 use Rattle.rules.specs.declared.Standing.{Standing}
 use Rattle.rules.specs.declared.Board.{Board}
 use Rattle.rules.specs.Modes.{Write, Read}
-use Rattle.rules.specs.Boards.{noProgram, at}
+use Rattle.files.specs.Words.{bitsOf}
+use Rattle.laws.specs.Lists.{padded}
+use Rattle.rules.specs.Boards.{noProgram, emptyBoard, at, setWaiting, setEntry, setPassed}
 use Rattle.store.specs.declared.Seat.{Seat}
 use Rattle.store.specs.declared.Rest.{Rest}
 use Rattle.store.specs.Sets.{Sets, IsStore, SetsTo, SetsOf, inPlace}
 use Rattle.store.specs.Store.{noSeat, standingAt, programWith, programsFrom, boardOf, SeatsTo, RestOf}
+use Rattle.store.specs.Store.{withWaiting, withEntry, withPassed, emptySets, emptyRest}
 
 -- ---- reading
 
@@ -33,7 +36,7 @@ from-at sets s (suc n) i zero h = ap (λ (j : ℕ). programWith sets j (s j)) (o
 from-at sets s (suc n) i (suc k) h = from-at sets s n (suc i) k (omega arith) ∙ ap (λ (j : ℕ). programWith sets j (s j)) (omega arith)
 
 -- programs that stand so, with the sets of the board, are the board's
-pub programs-are : (b : Board) (sets : Sets) (s : ℕ → Standing) → SetsOf b sets → ((i : ℕ) → i < 32 → s i ≡ inPlace b i .standing)
+programs-are : (b : Board) (sets : Sets) (s : ℕ → Standing) → SetsOf b sets → ((i : ℕ) → i < 32 → s i ≡ inPlace b i .standing)
     → length (b .programs) ≡ 32 → programsFrom sets s 32 0 ≡ b .programs
 programs-are b sets s o t n = ext-getD noProgram (programsFrom sets s 32 0) (b .programs) (length-from sets s 32 0 ∙ sym n)
     (λ i h. let l : i < 32 = omega (arith, length-from sets s 32 0) in
@@ -67,7 +70,7 @@ module _ (sets : Sets) (r : Rest) where
 
 -- ---- the same board
 
-same-board : (b c : Board) → b .programs ≡ c .programs → b .waiting ≡ c .waiting → b .entry ≡ c .entry → b .favoured ≡ c .favoured
+pub same-board : (b c : Board) → b .programs ≡ c .programs → b .waiting ≡ c .waiting → b .entry ≡ c .entry → b .favoured ≡ c .favoured
     → b .initial ≡ c .initial → b .leaves ≡ c .leaves → b .passed ≡ c .passed → b ≡ c
 same-board b c e f g h i j k = rw (e, f, g, h, i, j, k) refl
 
@@ -84,3 +87,23 @@ seats-more b i l h f k d = by-test (eqb k i)
     (λ t. let z : k ≡ i = eqb-true k i t in rw (z, getD-set-same l i (record { standing = inPlace b i .standing }) noSeat h) refl)
     (λ t. let z : k ≢ i = eqb-false k i t in
     ap (λ (s : Seat). s .standing) (getD-set-other l i k (record { standing = inPlace b i .standing }) noSeat z) ∙ f k (omega arith))
+
+-- ---- a board whose rest changes
+
+module _ (sets : Sets) (r : Rest) (b : Board) (e : boardOf sets r ≡ b) where
+  pub with-waiting : (l n : List ℕ) → l ≡ padded 0 n → boardOf sets (withWaiting r l) ≡ setWaiting b n
+  unfolding boardOf
+  with-waiting l n k = ap (λ (y : List ℕ). boardOf sets (withWaiting r y)) k ∙ ap (λ (x : Board). setWaiting x n) e
+
+  pub with-entry : (l n : List ℕ) → l ≡ padded 0 n → boardOf sets (withEntry r l) ≡ setEntry b n
+  unfolding boardOf
+  with-entry l n k = ap (λ (y : List ℕ). boardOf sets (withEntry r y)) k ∙ ap (λ (x : Board). setEntry x n) e
+
+  pub with-passed : (l n : List ℕ) → l ≡ n → boardOf sets (withPassed r l) ≡ setPassed b n
+  unfolding boardOf
+  with-passed l n k = ap₂ (λ (x : Board) (y : List ℕ). setPassed x y) e k
+
+-- the empty sets and rest are the empty board
+pub empty-board : boardOf emptySets emptyRest ≡ emptyBoard
+unfolding boardOf programsFrom bitsOf
+empty-board = refl

@@ -7,7 +7,7 @@ use Prim.Native.Nat.{ℕ, _-_, _/_, _≤_, _<_}
 use native.Mathlib.Omega.{arith}
 use lib.Dec.{eqb}
 use lib.ListN.{length, getD, set}
-use lib.Seq.{getD-set-same, getD-set-other}
+use lib.Seq.{getD-set-same, getD-set-other, set-getD, set-set, set-comm}
 use borrow.Author.Tests.{eqb-true, eqb-false}
 use Rattle.laws.specs.Tests.{by-test, never}
 use Rattle.files.specs.declared.FileSet.{FileSet}
@@ -17,7 +17,7 @@ use Rattle.files.specs.Words.{setOf, withFile}
 use Rattle.files.proofs.Rows.{words-with, length-with}
 use Rattle.rules.specs.declared.Program.{Program}
 use Rattle.rules.specs.declared.Board.{Board}
-use Rattle.rules.specs.Modes.{Mode, isMode, claimOf, openOf, modeOf}
+use Rattle.rules.specs.Modes.{Mode, Write, Read, isMode, claimOf, openOf, modeOf}
 use Rattle.rules.specs.Boards.{noProgram, at, opened, opening}
 use Rattle.theory.specs.Modes.{mode-is, opened-claim, opened-open, opened-same}
 use Rattle.theory.specs.Programs.{Is, Sized, SameSets}
@@ -98,3 +98,28 @@ sets-given c d g p f sets z i ed k (n, s) = (
 
     there-is : (j : ℕ) → j ≢ p - 1 → inPlace d j ≡ inPlace c j
     there-is j n′ = ap (λ (l : List Program). getD l j noProgram) ed ∙ getD-set-other (c .programs) (p - 1) j g noProgram n′
+
+-- ---- a file given, and the rows put back
+
+module _ (sets : Sets) (p f : ℕ) (h : 1 ≤ p) (k : p ≤ 32) where
+  abbrev w : ℕ
+  w = openPlace Write (p - 1)
+
+  abbrev r : ℕ
+  r = openPlace Read (p - 1)
+
+  apart : w ≢ r
+  apart e = omega arith
+
+  rows-back : set (set sets w (rowIn sets w)) r (rowIn sets r) ≡ sets
+  rows-back = ap (λ (l : Sets). set l r (rowIn sets r)) (set-getD sets w []) ∙ set-getD sets r []
+
+  back-from : (m : Mode) (x : List ℕ) → set (set (set sets (openPlace m (p - 1)) x) w (rowIn sets w)) r (rowIn sets r) ≡ sets
+  back-from Write x = ap (λ (l : Sets). set l r (rowIn sets r)) (set-set sets w x (rowIn sets w)) ∙ rows-back
+  back-from Read x = set-comm (set sets r x) w r (rowIn sets w) (rowIn sets r) apart
+      ∙ ap (λ (l : Sets). set l w (rowIn sets w)) (set-set sets r x (rowIn sets r))
+      ∙ set-comm sets r w (rowIn sets r) (rowIn sets w) (λ e. apart (sym e)) ∙ rows-back
+
+  -- the sets are as they were
+  pub given-back : set (set (givenAt sets p f) w (rowIn sets w)) r (rowIn sets r) ≡ sets
+  given-back = back-from (modeAt sets p f) (withFile (rowIn sets (openPlace (modeAt sets p f) (p - 1))) f)

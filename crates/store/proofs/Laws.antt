@@ -13,6 +13,7 @@ use Rattle.files.specs.declared.FileSet.{FileSet}
 use Rattle.files.specs.Sets.{member}
 use Rattle.files.specs.Words.{wordCount, setOf}
 use Rattle.laws.specs.Tests.{by-test}
+use Rattle.laws.specs.Tables.{fresh-table, put-in}
 use Rattle.rules.specs.declared.Program.{Program}
 use Rattle.rules.specs.declared.Board.{Board}
 use Rattle.rules.specs.Modes.{Mode, Write, Read, isMode, clashing, someMode, claimOf, openOf, modeOf}
@@ -52,20 +53,11 @@ open-place Read i h = omega arith
 
 -- an array of empty sets
 pub fresh-store : IsStore (replicate 128 (replicate {A = ℕ} wordCount 0))
-fresh-store = record {
-  places-are = length-replicate 128 (replicate {A = ℕ} wordCount 0);
-  words-are = λ k h. ap length (getD-replicate 128 k (replicate {A = ℕ} wordCount 0) [] h) ∙ length-replicate {A = ℕ} wordCount 0;
-}
+fresh-store = fresh-table 128 wordCount
 
 -- a row is put in a place
 pub put-row : (sets : Sets) (k : ℕ) (r : List ℕ) → IsStore sets → length r ≡ wordCount → IsStore (set sets k r)
-put-row sets k r s n = record {
-  places-are = length-set sets k r ∙ s .places-are;
-  words-are = λ j h. by-test (eqb j k)
-      (λ t. let z : j ≡ k = eqb-true j k t in let l : k < length sets = omega (arith, h, s .places-are) in
-      ap (λ (x : ℕ). length (getD (set sets k r) x [])) z ∙ ap length (getD-set-same sets k r [] l) ∙ n)
-      (λ t. ap length (getD-set-other sets k j r [] (eqb-false j k t)) ∙ s .words-are j h);
-}
+put-row = put-in 128 wordCount
 
 -- ---- one program after another
 

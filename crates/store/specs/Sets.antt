@@ -6,10 +6,11 @@ use mathlib.Core.Path.{_≡_}
 use mathlib.Core.Logic.{_≢_}
 use mathlib.Core.Bool.{Bool, cond, _&&_}
 use mathlib.Core.List.{List, []}
-use lib.ListN.{length, getD, set}
+use lib.ListN.{getD, set}
+use Rattle.laws.specs.Tables.{IsTable}
 use Rattle.files.specs.declared.FileSet.{FileSet}
 use Rattle.files.specs.Sets.{member}
-use Rattle.files.specs.Words.{wordCount, setOf, withFile}
+use Rattle.files.specs.Words.{wordCount, setOf, withFile, withoutFile}
 use Rattle.rules.specs.declared.Program.{Program}
 use Rattle.rules.specs.declared.Board.{Board}
 use Rattle.rules.specs.Modes.{Mode, Write, Read, clashing, someMode, claimOf, openOf, touching}
@@ -19,9 +20,8 @@ abbrev pub Sets : Type 0
 Sets = List (List ℕ)
 
 -- 128 places, and as many words in each as a set has
-pub record IsStore (sets : Sets) : Type 0 where
-  pub places-are : length sets ≡ 128
-  pub words-are : (k : ℕ) → k < 128 → length (getD sets k []) ≡ wordCount
+abbrev pub IsStore : Sets → Type 0
+IsStore sets = IsTable 128 wordCount sets
 
 -- ---- places
 
@@ -92,6 +92,18 @@ pub record PutAt (q : Program) (i : ℕ) (before after : Sets) : Type 0 where
   pub here : (m : Mode) → (setIn after (claimPlace m i) ≡ claimOf m q) × (setIn after (openPlace m i) ≡ openOf m q)
   pub there : (j : ℕ) → j < 32 → j ≢ i → (m : Mode)
       → (rowIn after (claimPlace m j) ≡ rowIn before (claimPlace m j)) × (rowIn after (openPlace m j) ≡ rowIn before (openPlace m j))
+
+-- file f leaves the set in a place
+abbrev pub leftIn : Sets → ℕ → ℕ → Sets
+leftIn sets k f = set sets k (withoutFile (rowIn sets k) f)
+
+-- the sets with f closed: it leaves what p has open
+abbrev pub closedAt : Sets → ℕ → ℕ → Sets
+closedAt sets p f = leftIn (leftIn sets (openPlace Write (p - 1)) f) (openPlace Read (p - 1)) f
+
+-- the sets with f dropped: it leaves p's claim
+abbrev pub droppedAt : Sets → ℕ → ℕ → Sets
+droppedAt sets p f = leftIn (leftIn sets (claimPlace Write (p - 1)) f) (claimPlace Read (p - 1)) f
 
 -- file f joins the set in a place
 abbrev pub joinedIn : Sets → ℕ → ℕ → Sets

@@ -3,7 +3,8 @@
 use Prim.Native.Nat.{ℕ, zero, suc, _-_, _<_}
 use mathlib.Core.Path.{_≡_}
 use mathlib.Core.List.{List, [], _∷_}
-use lib.ListN.{getD}
+use lib.ListN.{getD, set, replicate}
+use Rattle.files.specs.Words.{wordCount}
 use Rattle.rules.specs.declared.Standing.{Standing}
 use Rattle.rules.specs.declared.Program.{Program}
 use Rattle.rules.specs.declared.Board.{Board}
@@ -36,10 +37,6 @@ unfoldable pub programsFrom : Sets → (ℕ → Standing) → ℕ → ℕ → Li
 programsFrom sets s zero i = []
 programsFrom sets s (suc n) i = programWith sets i (s i) ∷ programsFrom sets s n (suc i)
 
--- the programs of a board, with their sets read from the array
-abbrev pub programsBy : Sets → Board → List Program
-programsBy sets b = programsFrom sets (λ i. inPlace b i .standing) 32 0
-
 -- the board
 unfoldable pub boardOf : Sets → Rest → Board
 boardOf sets r =
@@ -52,6 +49,73 @@ boardOf sets r =
       leaves = r .leaves;
       passed = r .passed;
     }
+
+-- ---- a rest with one part changed
+
+abbrev pub withSeats : Rest → List Seat → Rest
+withSeats r l =
+    record {
+      seats = l;
+      waiting = r .waiting;
+      entry = r .entry;
+      favoured = r .favoured;
+      initial = r .initial;
+      leaves = r .leaves;
+      passed = r .passed;
+    }
+
+abbrev pub withWaiting : Rest → List ℕ → Rest
+withWaiting r l =
+    record {
+      seats = r .seats;
+      waiting = l;
+      entry = r .entry;
+      favoured = r .favoured;
+      initial = r .initial;
+      leaves = r .leaves;
+      passed = r .passed;
+    }
+
+abbrev pub withEntry : Rest → List ℕ → Rest
+withEntry r l =
+    record {
+      seats = r .seats;
+      waiting = r .waiting;
+      entry = l;
+      favoured = r .favoured;
+      initial = r .initial;
+      leaves = r .leaves;
+      passed = r .passed;
+    }
+
+-- p is favoured, n were admitted when it was, and v leaves are counted since
+abbrev pub withFavour : Rest → ℕ → ℕ → ℕ → Rest
+withFavour r p n v =
+    record {
+      seats = r .seats;
+      waiting = r .waiting;
+      entry = r .entry;
+      favoured = p;
+      initial = n;
+      leaves = v;
+      passed = r .passed;
+    }
+
+abbrev pub withPassed : Rest → List ℕ → Rest
+withPassed r l =
+    record {
+      seats = r .seats;
+      waiting = r .waiting;
+      entry = r .entry;
+      favoured = r .favoured;
+      initial = r .initial;
+      leaves = r .leaves;
+      passed = l;
+    }
+
+-- the rest with p at a standing
+abbrev pub seatedAt : Rest → ℕ → Standing → Rest
+seatedAt r p s = withSeats r (set (r .seats) (p - 1) (record { standing = s }))
 
 -- ---- the rest of a board
 
@@ -68,3 +132,21 @@ pub record RestOf (b : Board) (r : Rest) : Type 0 where
   pub initial-is : r .initial ≡ b .initial
   pub leaves-are : r .leaves ≡ b .leaves
   pub passed-are : r .passed ≡ b .passed
+
+-- ---- the empty board
+
+-- no file is in any set
+abbrev pub emptySets : Sets
+emptySets = replicate 128 (replicate {A = ℕ} wordCount 0)
+
+abbrev pub emptyRest : Rest
+emptyRest =
+    record {
+      seats = replicate 32 noSeat;
+      waiting = replicate 32 0;
+      entry = replicate 32 0;
+      favoured = 0;
+      initial = 0;
+      leaves = 0;
+      passed = replicate 32 0;
+    }

@@ -1,11 +1,9 @@
 // A board as two things: the sets of its programs in an array that is lent and not copied (`sets`), and the small rest by value.
-// The board of the rules stands at the edges: `take` takes it apart.
-use files::WORDS;
-use rules::Board;
+// The board of the rules stands at the edges: `sets::take` takes it apart.
 use rules::Standing;
 ghost use mathlib.Core.Path.{_≡_};
-ghost use Rattle.store.specs.Sets.{IsStore, SetsOf};
-ghost use Rattle.store.specs.Store.{boardOf, SeatsTo};
+ghost use Prim.Native.Nat.{_≤_};
+ghost use Rattle.store.specs.Store.{standingAt, seatedAt};
 
 pub mod sets;
 
@@ -25,43 +23,38 @@ pub struct Rest {
     pub passed: [u8; 32],
 }
 
-// The standings of the board's programs.
-fn seats_of(b: Board) -> [Seat; 32]
-    ensures { λ r. ⌜ SeatsTo b 32 r ⌝ }
-{
-    let mut seats = [Seat {
-        standing: Standing::Absent,
-    }; 32];
-    let mut i: usize = 0;
-    while i < 32 {
-        let q = b.programs[i];
-        let s = q.standing;
-        seats[i] = Seat { standing: s };
-        i += 1;
-    }
-    seats
+impl Rest {
+    // Of the empty board.
+    pub const EMPTY: Rest = Rest {
+        seats: [Seat {
+            standing: Standing::Absent,
+        }; 32],
+        waiting: [0; 32],
+        entry: [0; 32],
+        favoured: 0,
+        initial: 0,
+        leaves: 0,
+        passed: [0; 32],
+    };
 }
 
-// The board, taken apart: its sets are put into the array, and the rest comes back.
-pub fn take(b: Board, sets: &mut [[u64; WORDS]; 128]) -> Rest
-    requires { ⌜ IsStore (now sets) ⌝ }
-    ensures { λ r. ⌜ SetsOf b (now (sets .exit)) × (boardOf (now (sets .exit)) r ≡ b) ⌝ }
+// The standing of p.
+pub fn standing_at(rest: Rest, p: u8) -> Standing
+    requires { ⌜ (1 ≤ p) × (p ≤ 32) ⌝ }
+    ensures { λ r. ⌜ r ≡ standingAt rest p ⌝ }
 {
-    sets::take_sets(b, sets);
-    let seats = seats_of(b);
-    let waiting = b.waiting;
-    let entry = b.entry;
-    let favoured = b.favoured;
-    let initial = b.initial;
-    let leaves = b.leaves;
-    let passed = b.passed;
-    Rest {
-        seats,
-        waiting,
-        entry,
-        favoured,
-        initial,
-        leaves,
-        passed,
-    }
+    let i = (p - 1) as usize;
+    let seat = rest.seats[i];
+    seat.standing
+}
+
+// The rest with p at a standing.
+pub fn seated(rest: Rest, p: u8, s: Standing) -> Rest
+    requires { ⌜ (1 ≤ p) × (p ≤ 32) ⌝ }
+    ensures { λ r. ⌜ r ≡ seatedAt rest p s ⌝ }
+{
+    let i = (p - 1) as usize;
+    let mut r = rest;
+    r.seats[i] = Seat { standing: s };
+    r
 }

@@ -1,9 +1,10 @@
 -- `give` meets its contract. Assumes nothing.
 use mathlib.Core.Path.{_≡_, sym, ap, _∙_}
 use Prim.Native.Nat.{ℕ}
+use lib.ListN.{set}
 use Rattle.files.specs.Sets.{member}
 use Rattle.rules.specs.Modes.{Write}
-use Rattle.store.specs.Sets.{setIn, claimAt}
+use Rattle.store.specs.Sets.{setIn, claimAt, joinedIn}
 use borrow.Author.Needs.{needs}
 use Rattle.store.proofs.sets.give.Statement.{statement}
 use Rattle.store.proofs.sets.give.Tie as tie
@@ -16,12 +17,14 @@ mine : (h : tie.After-has) → let a = start h .args in h .has .result ≡ membe
 mine h = let a = start h .args in h .has .ensures ∙ ap (λ (k : ℕ). member (setIn (a .sets .now) k) (a .f)) (h .before .before .before .writable-at .ensures .0)
 
 returns : tie.Need-returns
-returns c = let w = c .before .before in let h = w .before in
-    rw (sym (mine (h .before)) ∙ h .if1 .taken, c .add .ensures, w .writing-at .ensures .0)
+returns c = let w = c .before .before in let h = w .before in let a = start (h .before) .args in
+    rw (sym (mine (h .before)) ∙ h .if1 .taken)
+    (ap (set (a .sets .now) (w .writing-at .result)) (c .add .ensures) ∙ ap (λ (k : ℕ). joinedIn (a .sets .now) k (a .f)) (w .writing-at .ensures .0))
 
 returns-2 : tie.Need-returns-2
-returns-2 c = let r = c .before .before in let h = r .before in
-    rw (sym (mine (h .before)) ∙ h .if1 .left, c .add2 .ensures, r .reading-at .ensures .0)
+returns-2 c = let r = c .before .before in let h = r .before in let a = start (h .before) .args in
+    rw (sym (mine (h .before)) ∙ h .if1 .left)
+    (ap (set (a .sets .now) (r .reading-at .result)) (c .add2 .ensures) ∙ ap (λ (k : ℕ). joinedIn (a .sets .now) k (a .f)) (r .reading-at .ensures .0))
 
 pub give-spec : {M : Type 1} → statement M
 give-spec =

@@ -6,8 +6,8 @@ use lib.ListN.{length}
 use borrow.Author.Needs.{needs}
 use Rattle.store.specs.Store.{SeatsTo}
 use Rattle.store.proofs.Boards.{seats-more}
-use Rattle.store.proofs.seats_of.Statement.{statement}
-use Rattle.store.proofs.seats_of.Tie as tie
+use Rattle.store.proofs.sets.seats_of.Statement.{statement}
+use Rattle.store.proofs.sets.seats_of.Tie as tie
 
 abbrev Inv-loop : tie.InvT-loop
 Inv-loop b seats₀ i₀ seats i = (i ≤ 32) × (length seats ≡ 32) × SeatsTo b i seats

@@ -1,0 +1,59 @@
+// A journal line as four bytes, as it stands in the lent array of a call's lines.
+use rules::Line;
+use rules::Word;
+ghost use mathlib.Core.Path.{_≡_};
+ghost use Rattle.parts.specs.Entries.{wordNumber, wordNumbered, entryOf, lineIn};
+
+// The number of a word.
+fn word_number(w: Word) -> u8
+    ensures { λ r. ⌜ r ≡ wordNumber w ⌝ }
+{
+    match w {
+        Word::Admit => 0,
+        Word::Held => 1,
+        Word::Given => 2,
+        Word::Wait => 3,
+        Word::Unsafe => 4,
+        Word::Done => 5,
+        Word::Favour => 6,
+        Word::Refuse => 7,
+    }
+}
+
+// The word with a number: REFUSE from 7 on.
+fn word_numbered(n: u8) -> Word
+    ensures { λ r. ⌜ r ≡ wordNumbered n ⌝ }
+{
+    match n {
+        0 => Word::Admit,
+        1 => Word::Held,
+        2 => Word::Given,
+        3 => Word::Wait,
+        4 => Word::Unsafe,
+        5 => Word::Done,
+        6 => Word::Favour,
+        _ => Word::Refuse,
+    }
+}
+
+// The bytes of a line: the number of its word, program, file, refusal.
+pub fn entry_of(l: Line) -> [u8; 4]
+    ensures { λ r. ⌜ r ≡ entryOf l ⌝ }
+{
+    let word = l.word;
+    let n = word_number(word);
+    [n, l.program, l.file, l.refusal]
+}
+
+// The line in four bytes.
+pub fn line_in(e: [u8; 4]) -> Line
+    ensures { λ r. ⌜ r ≡ lineIn e ⌝ }
+{
+    let word = word_numbered(e[0]);
+    Line {
+        word,
+        program: e[1],
+        file: e[2],
+        refusal: e[3],
+    }
+}

@@ -1,0 +1,2 @@
+-- The laws of whole boards.
+pub mod Laws

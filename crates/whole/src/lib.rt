@@ -1,0 +1,95 @@
+// A board of the rules, whole, made of its sets and the rest; at the edges only.
+// That a set is one word is known here alone.
+use files::FileSet;
+use files::WORDS;
+use rules::Board;
+use rules::Program;
+use rules::Standing;
+use store::Rest;
+use store::Seat;
+use store::sets;
+ghost use mathlib.Core.Path.{_≡_};
+ghost use Prim.Native.Nat.{_-_, _≤_, _<_};
+ghost use lib.ListN.{length, getD};
+ghost use Rattle.files.specs.Words.{wordCount, setOf};
+ghost use Rattle.store.specs.Sets.{IsStore, setIn};
+ghost use Rattle.store.specs.Store.{noSeat, programWith, programsFrom, boardOf};
+
+// The set of a row.
+fn set_of(s: &[u64]) -> FileSet
+    requires { ⌜ length (now s) ≡ wordCount ⌝ }
+    ensures { λ r. ⌜ r ≡ setOf (now (s .entry)) ⌝ }
+{
+    FileSet { bits: s[0] }
+}
+
+// The set in place k.
+pub fn set_at(sets: &[[u64; WORDS]; 128], k: usize) -> FileSet
+    requires { ⌜ (k < 128) × IsStore (now sets) ⌝ }
+    ensures { λ r. ⌜ r ≡ setIn (now (sets .entry)) k ⌝ }
+{
+    set_of(&sets[k])
+}
+
+// Program p, at a standing.
+fn program(sets: &[[u64; WORDS]; 128], p: u8, standing: Standing) -> Program
+    requires { ⌜ ((1 ≤ p) × (p ≤ 32)) × IsStore (now sets) ⌝ }
+    ensures { λ r. ⌜ r ≡ programWith (now (sets .entry)) (p - 1) standing ⌝ }
+{
+    let v = sets::writable_at(p);
+    let q = sets::readable_at(p);
+    let w = sets::writing_at(p);
+    let r = sets::reading_at(p);
+    let writable = set_at(sets, v);
+    let readable = set_at(sets, q);
+    let writing = set_at(sets, w);
+    let reading = set_at(sets, r);
+    Program {
+        writable,
+        readable,
+        writing,
+        reading,
+        standing,
+    }
+}
+
+// The programs.
+fn programs(sets: &[[u64; WORDS]; 128], seats: [Seat; 32]) -> [Program; 32]
+    requires { ⌜ IsStore (now sets) ⌝ }
+    ensures { λ r. ⌜ r ≡ programsFrom (now (sets .entry)) (λ i. getD seats i noSeat .standing) 32 0 ⌝ }
+{
+    let absent = Program::ABSENT;
+    let mut ps = [absent; 32];
+    let mut i: usize = 0;
+    while i < 32 {
+        let seat = seats[i];
+        let s = seat.standing;
+        ps[i] = program(sets, (i + 1) as u8, s);
+        i += 1;
+    }
+    ps
+}
+
+// The board.
+pub fn board(sets: &[[u64; WORDS]; 128], rest: Rest) -> Board
+    requires { ⌜ IsStore (now sets) ⌝ }
+    ensures { λ r. ⌜ r ≡ boardOf (now (sets .entry)) rest ⌝ }
+{
+    let seats = rest.seats;
+    let programs = programs(sets, seats);
+    let waiting = rest.waiting;
+    let entry = rest.entry;
+    let favoured = rest.favoured;
+    let initial = rest.initial;
+    let leaves = rest.leaves;
+    let passed = rest.passed;
+    Board {
+        programs,
+        waiting,
+        entry,
+        favoured,
+        initial,
+        leaves,
+        passed,
+    }
+}
