@@ -18,7 +18,8 @@ use Rattle.files.proofs.Laws.{member-file}
 use Rattle.files.proofs.Bits.{least, most, has-bit, zero-has, without-number-same, without-number-other}
 use Rattle.rules.specs.declared.Board.{Board}
 use Rattle.laws.specs.Lists.{any, all, first, found, rising, listed}
-use Rattle.rules.specs.Boards.{isProgram, isAdmitted, everyone, at, admitted, claims}
+use Rattle.rules.specs.Modes.{Write}
+use Rattle.rules.specs.Boards.{isProgram, isAdmitted, everyone, at, admitted, claims, setProgram, opening}
 use Rattle.rules.specs.Orders.{carried, withGiven}
 use Rattle.rules.specs.Digraph.{isIn, step, reaches, isLoop, isLoopWith}
 use Rattle.laws.specs.Laws.{_∈_, Pairs, NoRepeat, by-mem, here, all-each, some-any, first-some, keep-mem, mem-keep, length-keep, length-rising, first-keep}
@@ -28,6 +29,11 @@ use Rattle.theory.specs.Carried.{holdsOn, carried-sound, of-order}
 use Rattle.theory.specs.Reach.{admitted-mem}
 use Rattle.theory.specs.Loops.{LeadsTo, Closes, test-two, loop-test, isLoop-same, AllHeld, walk, upTo, held-loop, round-held}
 use Rattle.theory.specs.Matrix.{step-iff, reaches-iff, itself-iff}
+use Rattle.store.specs.declared.Rest.{Rest}
+use Rattle.store.specs.Sets.{Sets, SetsOf, claimsAt, givenAt}
+use Rattle.store.specs.Store.{standingAt, boardOf}
+use Rattle.store.proofs.Laws.{claims-is}
+use Rattle.store.proofs.Changing.{standing-is, given-board}
 use Rattle.tables.specs.declared.ProgramSet.{ProgramSet}
 use Rattle.tables.specs.ProgramSets.{hasProgram, withoutProgram, commonOf, IsLowest}
 use Rattle.tables.specs.Tables.{packed, rowOf}
@@ -374,3 +380,16 @@ module _ (b : Board) (p f : ℕ) (L : List ℕ) where
   unfolding isLoopWith
   loop-with i a k = sym (ap (λ (t : Bool). t && claims (at b p) f && isLoop (step (withGiven b p f)) L) (and-both (isProgram p) _ (of-is p i) a)
       ∙ ap (λ (t : Bool). t && isLoop (step (withGiven b p f)) L) k)
+
+-- ---- a board taken apart
+
+module _ (b : Board) (sets : Sets) (r : Rest) (s : SetsOf b sets) (e : boardOf sets r ≡ b) (p : ℕ) (h : 1 ≤ p) (k : p ≤ 32) where
+  pub stands-as : standingAt r p ≡ at b p .standing
+  stands-as = sym (standing-is sets r p h k (s .0)) ∙ ap (λ (x : Board). at x p .standing) e
+
+  pub claims-as : (f : ℕ) → claimsAt sets f Write p ≡ claims (at b p) f
+  claims-as f = claims-is b sets s f p Write h k
+
+  pub given-as : (f : ℕ) → boardOf (givenAt sets p f) r ≡ withGiven b p f
+  unfolding withGiven
+  given-as f = given-board sets r p f h k (s .0) ∙ ap (λ (x : Board). setProgram x p (opening (at x p) f)) e

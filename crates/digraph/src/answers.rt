@@ -34,7 +34,7 @@ fn loop_with(b: Board, line: Line) -> Loop
     if 32 < p {
         return Loop::NONE;
     }
-    crate::loops::find(crate::loops::give(b, p, line.file))
+    crate::loops::find_given(b, p, line.file)
 }
 
 // The loop that the reply to a call on the board carries.

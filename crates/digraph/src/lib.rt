@@ -2,12 +2,14 @@
 // In place p - 1 of the rows stands the set of the admitted programs that hold p back; closed, of those that reach p.
 use files::WORDS;
 use rules::Board;
+use store::Rest;
 use tables::ProgramSet;
 ghost use mathlib.Core.Path.{_≡_};
 ghost use Prim.Native.Nat.{_≤_};
 ghost use lib.ListN.{length, replicate};
 ghost use Rattle.rules.specs.Digraph.{step};
 ghost use Rattle.store.specs.Sets.{IsStore};
+ghost use Rattle.store.specs.Store.{boardOf};
 ghost use Rattle.digraph.specs.Rows.{byRow, rowsSaying, holderRows, PassedBy, ClosedOver, matrixOf};
 
 pub mod answers;
@@ -45,14 +47,12 @@ fn fill_holders(sets: &[[u64; WORDS]; 128], admitted: ProgramSet, rows: &mut [u3
 }
 
 // For each admitted program the others of them that hold it back.
-fn fill_steps(b: Board, rows: &mut [u32; 32])
-    requires { ⌜ now rows ≡ replicate 32 0 ⌝ }
-    ensures { λ _. ⌜ now (rows .exit) ≡ rowsSaying (step b) ⌝ }
+fn fill_steps(sets: &[[u64; WORDS]; 128], rest: Rest, rows: &mut [u32; 32])
+    requires { ⌜ (now rows ≡ replicate 32 0) × IsStore (now sets) ⌝ }
+    ensures { λ _. ⌜ now (rows .exit) ≡ rowsSaying (step (boardOf (now (sets .entry)) rest)) ⌝ }
 {
-    let mut sets = [[0u64; WORDS]; 128];
-    store::sets::take_sets(b, &mut sets);
-    let admitted = tables::boards::admitted_set(b);
-    fill_holders(&sets, admitted, rows);
+    let admitted = tables::boards::admitted_seats(rest);
+    fill_holders(sets, admitted, rows);
 }
 
 // ---- closing over paths
@@ -104,6 +104,8 @@ pub fn fill_matrix(b: Board, rows: &mut [u32; 32])
     requires { ⌜ now rows ≡ replicate 32 0 ⌝ }
     ensures { λ _. ⌜ now (rows .exit) ≡ matrixOf b ⌝ }
 {
-    fill_steps(b, rows);
+    let mut sets = [[0u64; WORDS]; 128];
+    let rest = store::sets::take(b, &mut sets);
+    fill_steps(&sets, rest, rows);
     close_rows(rows);
 }

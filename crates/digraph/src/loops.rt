@@ -1,8 +1,10 @@
 // Loops of programs, each holding back the next and the last the first: the test of them, and the search for one.
 use crate::Loop;
-use parts::programs;
+use files::WORDS;
 use parts::standings;
 use rules::Board;
+use store::Rest;
+use store::sets;
 use tables::ProgramSet;
 ghost use mathlib.Core.Path.{_≡_};
 ghost use mathlib.Core.Bool.{true, _&&_};
@@ -11,6 +13,8 @@ ghost use lib.ListN.{drop, take};
 ghost use Rattle.rules.specs.Orders.{withGiven};
 ghost use Rattle.rules.specs.Soundness.{sound};
 ghost use Rattle.rules.specs.Digraph.{step, isLoop, isLoopWith};
+ghost use Rattle.store.specs.Sets.{IsStore};
+ghost use Rattle.store.specs.Store.{boardOf};
 ghost use Rattle.tables.specs.ProgramSets.{hasProgram};
 ghost use Rattle.tables.specs.Tables.{packed, rowOf};
 ghost use Rattle.theory.specs.Loops.{walk};
@@ -156,36 +160,48 @@ fn find_in(rows: &[u32; 32], matrix: &[u32; 32]) -> Loop
 
 // ---- of a board
 
-// A loop of the board, sound or not; none exactly where it has an order.
-pub fn find(b: Board) -> Loop
-    ensures { λ r. ⌜ LoopOf b r ⌝ }
+// A loop of the board by its sets and the rest, sound or not; none exactly where it has an order.
+fn find_by(sets: &[[u64; WORDS]; 128], rest: Rest) -> Loop
+    requires { ⌜ IsStore (now sets) ⌝ }
+    ensures { λ r. ⌜ LoopOf (boardOf (now (sets .entry)) rest) r ⌝ }
 {
     let mut rows = [0u32; 32];
-    crate::fill_steps(b, &mut rows);
+    crate::fill_steps(sets, rest, &mut rows);
     let mut matrix = rows;
     crate::close_rows(&mut matrix);
     find_in(&rows, &matrix)
 }
 
-// Whether the list is a loop of the board, sound or not.
-fn is_loop(b: Board, l: &[u8]) -> bool
-    ensures { λ r. ⌜ r ≡ isLoop (step b) (now (l .entry)) ⌝ }
+// A loop of the board, sound or not; none exactly where it has an order.
+pub fn find(b: Board) -> Loop
+    ensures { λ r. ⌜ LoopOf b r ⌝ }
+{
+    let mut sets = [[0u64; WORDS]; 128];
+    let rest = store::sets::take(b, &mut sets);
+    find_by(&sets, rest)
+}
+
+// Whether the list is a loop of the board by its sets and the rest, sound or not.
+fn is_loop(sets: &[[u64; WORDS]; 128], rest: Rest, l: &[u8]) -> bool
+    requires { ⌜ IsStore (now sets) ⌝ }
+    ensures { λ r. ⌜ r ≡ isLoop (step (boardOf (now (sets .entry)) rest)) (now (l .entry)) ⌝ }
 {
     let mut rows = [0u32; 32];
-    crate::fill_steps(b, &mut rows);
+    crate::fill_steps(sets, rest, &mut rows);
     is_loop_in(&rows, l)
 }
 
 // ---- with a file given
 
-// The board with f given to p.
-pub fn give(b: Board, p: u8, f: u8) -> Board
+// A loop of the board with f given to p.
+pub fn find_given(b: Board, p: u8, f: u8) -> Loop
     requires { ⌜ (1 ≤ p) × (p ≤ 32) ⌝ }
-    ensures { λ r. ⌜ r ≡ withGiven b p f ⌝ }
+    ensures { λ r. ⌜ LoopOf (withGiven b p f) r ⌝ }
 {
-    let i = (p - 1) as usize;
-    let q = b.programs[i];
-    tables::boards::put(b, p, programs::opening(q, f))
+    let mut sets = [[0u64; WORDS]; 128];
+    let rest = store::sets::take(b, &mut sets);
+    sets::give(&mut sets, p, f);
+    find_by(&sets, rest)
 }
 
 // Whether p is admitted and claims f, and the list is a loop with f given to it.
@@ -193,17 +209,17 @@ fn is_loop_by(b: Board, p: u8, f: u8, l: &[u8]) -> bool
     requires { ⌜ (1 ≤ p) × (p ≤ 32) ⌝ }
     ensures { λ r. ⌜ r ≡ isLoopWith b p f (now (l .entry)) ⌝ }
 {
-    let i = (p - 1) as usize;
-    let q = b.programs[i];
-    let s = q.standing;
+    let mut sets = [[0u64; WORDS]; 128];
+    let rest = store::sets::take(b, &mut sets);
+    let s = store::standing_at(rest, p);
     if !standings::is_admitted(s) {
         return false;
     }
-    if !programs::claims(q, f) {
+    if !sets::has_claim(&sets, p, f, true) {
         return false;
     }
-    let given = give(b, p, f);
-    is_loop(given, l)
+    sets::give(&mut sets, p, f);
+    is_loop(&sets, rest, l)
 }
 
 // The checker: whether the list is a loop with file f given to program p, for any numbers, of any board.
@@ -233,5 +249,5 @@ pub fn find_for(b: Board, p: u8) -> Loop
     if !standings::is_waiting(s) {
         return Loop::NONE;
     }
-    find(give(b, p, standings::awaited(s)))
+    find_given(b, p, standings::awaited(s))
 }

@@ -1,20 +1,21 @@
--- From the arrays to boards: the carried order, and the one with a file given. Assumes nothing.
+-- From the arrays to boards: the carried order. Assumes nothing.
 use mathlib.Core.Path.{_≡_, refl, sym, ap, _∙_}
+use mathlib.Core.Bool.{true}
+use mathlib.Core.Option.{Option, none, some}
 use mathlib.Core.List.{List}
 use Prim.Native.Nat.{ℕ}
 use Rattle.rules.specs.declared.Board.{Board}
-use Rattle.rules.specs.Boards.{at, isAdmitted, opening}
-use Rattle.rules.specs.Orders.{carried, withGiven}
-use Rattle.theory.specs.Programs.{Is, Sized, same-sets}
+use Rattle.rules.specs.Orders.{carried}
 use Rattle.tables.specs.declared.ProgramSet.{ProgramSet}
-use Rattle.store.specs.Sets.{Sets, SetsOf, givenAt}
+use Rattle.store.specs.Sets.{Sets, SetsOf}
 use Rattle.tables.specs.Tables.{rowsOf}
-use Rattle.store.proofs.Given.{sets-given}
-use Rattle.tables.proofs.Given.{packed-same, standing-kept}
 use Rattle.tables.proofs.Whole.{rows-for}
-use Rattle.tables.specs.Boards.{admits, admittedSet}
-use Rattle.search.specs.Rows.{asOrder, orderIn}
-use Rattle.search.specs.Gives.{orderGiven, OrderGiven}
+use Rattle.tables.specs.Boards.{admittedSet}
+use Rattle.laws.specs.Tests.{never}
+use Rattle.laws.specs.Lists.{found}
+use Rattle.search.specs.declared.Search.{Search}
+use Rattle.search.specs.declared.Order.{Order}
+use Rattle.search.specs.Rows.{asOrder, orderIn, isFound}
 use Rattle.search.proofs.Laws.{order-for}
 
 -- by the arrays of the board
@@ -22,18 +23,12 @@ pub order-of : (b : Board) (sets : Sets) (rows : List ℕ) (left : ProgramSet) �
     → orderIn rows left ≡ asOrder (carried b)
 order-of b sets rows left s e d = ap (λ (l : List ℕ). orderIn l left) e ∙ order-for (rowsOf sets left) left b (rows-for b sets left s) d
 
--- ---- with a file given
+-- ---- what a search comes back with
 
-admitted-with : (b : Board) (p f : ℕ) → Sized (b .programs) → Is p → admittedSet (withGiven b p f) ≡ admittedSet b
-unfolding admittedSet
-admitted-with b p f z i = packed-same (admits (withGiven b p f)) (admits b) 32
-    (λ x h k. ap isAdmitted (standing-kept b p f x z i (record { least = h; most = k })))
+pub order-none : (o : Option (List ℕ)) (r : Order) → r ≡ asOrder o → r .kind ≡ Search.Stuck → o ≡ none
+order-none none r e k = refl
+order-none (some l) r e k = never {t = true} refl (ap isFound (sym (ap (λ (x : Order). x .kind) e) ∙ k))
 
-sets-with : (b : Board) (p f : ℕ) (sets : Sets) → Sized (b .programs) → Is p → SetsOf b sets → SetsOf (withGiven b p f) (givenAt sets p f)
-unfolding withGiven
-sets-with b p f sets z i s = sets-given b (withGiven b p f) (opening (at b p) f) p f sets z i refl (same-sets (opening (at b p) f)) s
-
-pub given-for : (sets : Sets) (a : ProgramSet) (p f : ℕ) → Is p → OrderGiven sets a p f (orderGiven sets a p f)
-given-for sets a p f i b z s e =
-    order-for (rowsOf (givenAt sets p f) a) a (withGiven b p f)
-    (rows-for (withGiven b p f) (givenAt sets p f) a (sets-with b p f sets z i s)) (e ∙ sym (admitted-with b p f z i))
+pub order-found : (o : Option (List ℕ)) (r : Order) (n : ℕ) → r ≡ asOrder o → r .kind ≡ Search.Found n → found o ≡ true
+order-found none r n e k = never {t = true} refl (ap isFound (sym k ∙ ap (λ (x : Order). x .kind) e))
+order-found (some l) r n e k = refl

@@ -4,24 +4,22 @@
 use Prim.Native.Nat.{ℕ, zero, suc}
 use mathlib.Core.Path.{_≡_}
 use mathlib.Core.Bool.{Bool, true, not, _&&_, _||_}
-use lib.ListN.{length}
+use mathlib.Core.List.{List}
 use Rattle.files.specs.Sets.{member}
 use Rattle.files.specs.Words.{setOf}
 use Rattle.rules.specs.declared.Board.{Board}
 use Rattle.laws.specs.Lists.{any, found}
 use Rattle.rules.specs.Modes.{clashing, someMode}
 use Rattle.rules.specs.Boards.{everyone}
-use Rattle.rules.specs.Orders.{carried, withGiven, inUse, safe, canGive}
+use Rattle.rules.specs.Orders.{carried, inUse, safe, canGive}
 use Rattle.rules.specs.Soundness.{noConflict}
 use Rattle.tables.specs.declared.ProgramSet.{ProgramSet}
 use Rattle.tables.specs.ProgramSets.{noPrograms, hasProgram, withoutProgram}
-use Rattle.store.specs.Sets.{Sets, SetsOf, modeAt, holdsOne, claimsAt, givenAt}
+use Rattle.store.specs.Sets.{Sets, SetsOf, modeAt, holdsOne, claimsAt}
 use Rattle.tables.specs.Shared.{sharedIn, openRow, openedIn, othersOf}
-use Rattle.tables.specs.Tables.{packed, rowsOf}
-use Rattle.search.specs.declared.Order.{Order}
+use Rattle.tables.specs.Tables.{packed, rowOf}
 use Rattle.search.specs.declared.Uses.{Uses}
 use Rattle.tables.specs.Boards.{admits, admittedSet}
-use Rattle.search.specs.Rows.{asOrder, orderIn}
 
 -- ---- by the arrays
 
@@ -32,6 +30,10 @@ usesIn a sets = record { admitted = a; files = openedIn sets }
 -- another than p has f open, in a mode that clashes with the one in which p would open it
 abbrev pub usedIn : Sets → Uses → ℕ → ℕ → Bool
 usedIn sets u p f = someMode (λ m. clashing (modeAt sets p f) m && member (setOf (othersOf (sharedIn m (u .files)) (openRow sets m p))) f)
+
+-- by the rows: x is of the set, and p stands in its row
+abbrev pub holdersIn : List ℕ → ℕ → ProgramSet → ℕ → Bool
+holdersIn rows p s x = hasProgram s x && hasProgram (rowOf rows x) p
 
 -- x was found before, or is among the others and holds back p or one that was found
 abbrev pub joins : Sets → ProgramSet → ℕ → ProgramSet → ℕ → Bool
@@ -53,10 +55,6 @@ safeIn sets a p f =
 abbrev pub giveIn : Sets → Uses → ℕ → ℕ → Bool
 giveIn sets u p f = not (usedIn sets u p f) && safeIn sets (u .admitted) p f
 
--- the order of those admitted, with f given to p
-abbrev pub orderGiven : Sets → ProgramSet → ℕ → ℕ → Order
-orderGiven sets a p f = orderIn (rowsOf (givenAt sets p f) a) a
-
 -- ---- from the arrays to boards
 
 -- who is admitted, and what is open
@@ -77,8 +75,3 @@ SafeFor sets a p f r = (b : Board) → SetsOf b sets → a ≡ admittedSet b →
 abbrev pub GivenFor : Sets → Uses → ℕ → ℕ → Bool → Type 0
 GivenFor sets u p f r = (b : Board) → SetsOf b sets → u ≡ usesOf b sets → noConflict b ≡ true → found (carried b) ≡ true
     → admits b p ≡ true → r ≡ canGive b p f
-
--- of every board of 32 programs with these sets and admitted programs: the carried order with f given to p
-abbrev pub OrderGiven : Sets → ProgramSet → ℕ → ℕ → Order → Type 0
-OrderGiven sets a p f r = (b : Board) → length (b .programs) ≡ 32 → SetsOf b sets → a ≡ admittedSet b
-    → r ≡ asOrder (carried (withGiven b p f))

@@ -3,13 +3,19 @@ use crate::Order;
 use crate::Uses;
 use files::WORDS;
 use files::words;
-use rules::Board;
+use store::Rest;
 use store::sets;
 use tables::ProgramSet;
 ghost use mathlib.Core.Path.{_≡_};
+ghost use mathlib.Core.Bool.{true};
 ghost use Prim.Native.Nat.{_≤_};
-ghost use Rattle.search.specs.Gives.{usesOf, usesIn, usedIn, safeIn, giveIn, orderGiven};
-ghost use Rattle.store.specs.Sets.{IsStore, givenAt};
+ghost use Rattle.search.specs.Gives.{usesIn, usedIn, holdersIn, safeIn, giveIn};
+ghost use Rattle.rules.specs.Orders.{carried, withGiven};
+ghost use Rattle.store.specs.Sets.{IsStore};
+ghost use Rattle.store.specs.Store.{boardOf};
+ghost use Rattle.search.specs.Rows.{asOrder};
+ghost use Rattle.tables.specs.ProgramSets.{hasProgram};
+ghost use Rattle.tables.specs.Tables.{packed, rowsOf};
 
 // What is open, by the sets, with these admitted.
 pub fn uses_in(admitted: ProgramSet, sets: &[[u64; WORDS]; 128]) -> Uses
@@ -17,14 +23,6 @@ pub fn uses_in(admitted: ProgramSet, sets: &[[u64; WORDS]; 128]) -> Uses
 {
     let files = tables::shared::opened(sets);
     Uses { admitted, files }
-}
-
-// Who is admitted, and what is open.
-pub fn uses_of(b: Board, sets: &[[u64; WORDS]; 128]) -> Uses
-    ensures { λ r. ⌜ r ≡ usesOf b (now (sets .entry)) ⌝ }
-{
-    let admitted = tables::boards::admitted_set(b);
-    uses_in(admitted, sets)
 }
 
 // Whether another than p has f open for writing, or p wants it for writing and another has it open for reading: on a board
@@ -86,14 +84,79 @@ pub fn can_give(sets: &[[u64; WORDS]; 128], u: Uses, p: u8, f: u8) -> bool
     is_safe(sets, admitted, p, f)
 }
 
-// The order with f given to p, by the sets, which then are those with f given.
-pub fn order_given(sets: &mut [[u64; WORDS]; 128], admitted: ProgramSet, p: u8, f: u8) -> Order
-    requires { ⌜ ((1 ≤ p) × (p ≤ 32)) × IsStore (now sets) ⌝ }
-    ensures { λ r. ⌜ r ≡ orderGiven (now (sets .entry)) admitted p f ⌝ }
-    ensures { λ r. ⌜ now (sets .exit) ≡ givenAt (now (sets .entry)) p f ⌝ }
+// Those of a set that hold p back, by the rows: one bit is read for each of them, and no pair is tested.
+fn holders_in(rows: &[u32; 32], p: u8, set: ProgramSet) -> ProgramSet
+    requires { ⌜ (1 ≤ p) × (p ≤ 32) ⌝ }
+    ensures { λ r. ⌜ r ≡ packed (holdersIn (now (rows .entry)) p set) 32 ⌝ }
 {
+    let mut holders = ProgramSet::EMPTY;
+    let mut rest = set;
+    while rest.bits != 0 {
+        let q = rest.lowest();
+        let row = ProgramSet {
+            bits: rows[(q - 1) as usize],
+        };
+        let yes = row.has(p);
+        holders = tables::join(holders, q, yes);
+        rest = rest.but_lowest();
+    }
+    holders
+}
+
+// The same as `is_safe`, of an admitted program, where the rows of the admitted are filled: who holds back whom is read from them.
+pub fn is_safe_by(
+    sets: &[[u64; WORDS]; 128],
+    rows: &[u32; 32],
+    admitted: ProgramSet,
+    p: u8,
+    f: u8,
+) -> bool
+    requires { ⌜ ((1 ≤ p) × (p ≤ 32)) × IsStore (now sets) × (hasProgram admitted p ≡ true) × (now rows ≡ rowsOf (now sets) admitted) ⌝ }
+    ensures { λ r. ⌜ r ≡ safeIn (now (sets .entry)) admitted p f ⌝ }
+{
+    let v = sets::writable_at(p);
+    let write = words::has(&sets[v], f);
+    let others = admitted.without(p);
+    let mut found = holders_in(rows, p, others);
+    let mut rest = others.less(found);
+    while found.bits != 0 {
+        let q = found.lowest();
+        if sets::has_claim(sets, q, f, write) {
+            return false;
+        }
+        let holders = holders_in(rows, q, rest);
+        rest = rest.less(holders);
+        let left = found.but_lowest();
+        found = left.or(holders);
+    }
+    true
+}
+
+// The same as `can_give`, of an admitted program, by the rows.
+pub fn can_give_by(sets: &[[u64; WORDS]; 128], rows: &[u32; 32], u: Uses, p: u8, f: u8) -> bool
+    requires { ⌜ ((1 ≤ p) × (p ≤ 32)) × IsStore (now sets) × (hasProgram (u .admitted) p ≡ true) × (now rows ≡ rowsOf (now sets) (u .admitted)) ⌝ }
+    ensures { λ r. ⌜ r ≡ giveIn (now (sets .entry)) u p f ⌝ }
+{
+    if in_use(sets, u, p, f) {
+        return false;
+    }
+    let admitted = u.admitted;
+    is_safe_by(sets, rows, admitted, p, f)
+}
+
+// The order with f given to p; the sets are then as they were.
+pub fn order_given(sets: &mut [[u64; WORDS]; 128], rest: Rest, p: u8, f: u8) -> Order
+    requires { ⌜ ((1 ≤ p) × (p ≤ 32)) × IsStore (now sets) ⌝ }
+    ensures { λ r. ⌜ r ≡ asOrder (carried (withGiven (boardOf (now (sets .entry)) rest) p f)) ⌝ }
+    ensures { λ _. ⌜ now (sets .exit) ≡ now (sets .entry) ⌝ }
+{
+    let w = sets::writing_at(p);
+    let r = sets::reading_at(p);
+    let writing = sets[w];
+    let reading = sets[r];
     sets::give(sets, p, f);
-    let mut rows = [0u32; 32];
-    tables::rows::fill_rows(sets, admitted, &mut rows);
-    crate::order_in(&rows, admitted)
+    let order = crate::carried_in(sets, rest);
+    sets[w] = writing;
+    sets[r] = reading;
+    order
 }

@@ -1,12 +1,14 @@
-// The carried order of a board.
+// The carried order of a board, by its sets and the rest, and whether a file can be given (`gives`).
 use files::WORDS;
-use rules::Board;
+use store::Rest;
 use tables::ProgramSet;
 use tables::shared::OpenFiles;
 ghost use mathlib.Core.Path.{_≡_};
 ghost use Prim.Native.Nat.{_+_, _≤_};
 ghost use lib.ListN.{length, replicate};
 ghost use Rattle.rules.specs.Orders.{carried};
+ghost use Rattle.store.specs.Sets.{IsStore};
+ghost use Rattle.store.specs.Store.{boardOf};
 ghost use Rattle.search.specs.Counts.{countsOf, Counted, CanRaise, CanLower, raised, lowered, lowest};
 ghost use Rattle.search.specs.Rows.{orderFrom, placed, outcome, asOrder, orderIn, isFound};
 
@@ -145,13 +147,13 @@ pub fn order_in(rows: &[u32; 32], left: ProgramSet) -> Order
 }
 
 // The carried order of the board's admitted programs.
-pub fn carried_order(b: Board) -> Order
-    ensures { λ r. ⌜ r ≡ asOrder (carried b) ⌝ }
+pub fn carried_in(sets: &[[u64; WORDS]; 128], rest: Rest) -> Order
+    requires { ⌜ IsStore (now sets) ⌝ }
+    ensures { λ r. ⌜ r ≡ asOrder (carried (boardOf (now (sets .entry)) rest)) ⌝ }
 {
-    let mut sets = [[0u64; WORDS]; 128];
     let mut rows = [0u32; 32];
-    let left = tables::boards::admitted_set(b);
-    tables::fill(b, left, &mut sets, &mut rows);
+    let left = tables::boards::admitted_seats(rest);
+    tables::rows::fill_rows(sets, left, &mut rows);
     order_in(&rows, left)
 }
 

@@ -1,9 +1,10 @@
 -- Laws of the parts of soundness. Assumes nothing.
-use mathlib.Core.Path.{_≡_, refl, sym, _∙_}
+use mathlib.Core.Path.{_≡_, refl, sym, ap, _∙_}
 use mathlib.Core.Logic.{_≢_}
 use mathlib.Core.Bool.{or-false, true, false, not, _&&_, _||_}
 use mathlib.Core.List.{List}
 use Prim.Native.Nat.{ℕ, suc, _≤_, _<_}
+use native.Mathlib.Omega.{arith}
 use lib.ListN.{length, getD, drop}
 use borrow.Author.Tests.{lt-leb, le-leb, ne-eqb}
 use Rattle.laws.specs.Tests.{and-left, and-right, or-right}
@@ -14,7 +15,12 @@ use Rattle.rules.specs.Soundness.{lineSound}
 use Rattle.rules.specs.Boards.{isProgram, isWaiting, everyone, at}
 use Rattle.theory.specs.Loose.{waiting-in}
 use Rattle.lines.proofs.Laws.{all-names-on, program-range}
-use Rattle.tables.specs.Boards.{admits}
+use Rattle.store.specs.Sets.{Sets}
+use Rattle.tables.specs.Boards.{admits, admittedSet}
+use Rattle.tables.specs.ProgramSets.{hasProgram}
+use Rattle.tables.proofs.Laws.{packed-has}
+use Rattle.search.specs.declared.Uses.{Uses}
+use Rattle.search.specs.Gives.{usesOf}
 use Rattle.sound.specs.Parts.{standsAt, rightName, countFits}
 
 -- a name of a line of waiting programs is that of an admitted program
@@ -26,6 +32,11 @@ waiter-named b l k h ne e =
       program-range (getD l k 0) (and-left (isProgram (getD l k 0)) _ n),
       waiting-in (at b (getD l k 0) .standing) (and-right (isProgram (getD l k 0)) _ n),
     )
+
+-- an admitted program is of those that the uses say are admitted
+pub in-admitted : (b : Board) (u : Uses) (sets : Sets) (p : ℕ) → u ≡ usesOf b sets → 1 ≤ p → p ≤ 32 → admits b p ≡ true → hasProgram (u .admitted) p ≡ true
+unfolding admittedSet
+in-admitted b u sets p e h k a = ap (λ (x : Uses). hasProgram (x .admitted) p) e ∙ packed-has (admits b) 32 p (omega arith) h k ∙ a
 
 -- the names of a sound line of waiting programs are such
 pub line-waiters : (b : Board) (l : List ℕ) → lineSound l (standsAt b false) ≡ true → all (rightName b false) (names l) ≡ true

@@ -23,6 +23,7 @@ ghost use Rattle.rules.specs.Soundness.{setsSound, lineSound, sound};
 ghost use Rattle.store.specs.Sets.{IsStore, claimAt, openAt};
 ghost use Rattle.store.specs.Store.{boardOf};
 ghost use Rattle.tables.specs.ProgramSets.{hasProgram};
+ghost use Rattle.tables.specs.Tables.{rowsOf};
 ghost use Rattle.search.specs.Rows.{asOrder};
 ghost use Rattle.search.specs.Gives.{usesIn};
 ghost use Rattle.sound.specs.Parts.{isName, stands, takes, bareAt, isSoundWith, isSoundAt, noConflictIn, seatSet};
@@ -239,8 +240,8 @@ fn line_sound(line: [u8; 32], set: ProgramSet) -> bool
 }
 
 // The waiter's file is claimed, not open by it, and can't be given now.
-fn waiter_sound(sets: &[[u64; WORDS]; 128], uses: Uses, p: u8, f: u8) -> bool
-    requires { ⌜ ((1 ≤ p) × (p ≤ 32)) × IsStore (now sets) ⌝ }
+fn waiter_sound(sets: &[[u64; WORDS]; 128], rows: &[u32; 32], uses: Uses, p: u8, f: u8) -> bool
+    requires { ⌜ ((1 ≤ p) × (p ≤ 32)) × IsStore (now sets) × (hasProgram (uses .admitted) p ≡ true) × (now rows ≡ rowsOf (now sets) (uses .admitted)) ⌝ }
     ensures { λ r. ⌜ WaiterFor (now (sets .entry)) uses p f r ⌝ }
 {
     if !sets::has_claim(sets, p, f, true) {
@@ -249,12 +250,18 @@ fn waiter_sound(sets: &[[u64; WORDS]; 128], uses: Uses, p: u8, f: u8) -> bool
     if sets::has_open(sets, p, f) {
         return false;
     }
-    !search::gives::can_give(sets, uses, p, f)
+    !search::gives::can_give_by(sets, rows, uses, p, f)
 }
 
 // All waiters of a line that names waiting programs.
-fn waiters_sound(sets: &[[u64; WORDS]; 128], rest: Rest, uses: Uses, line: [u8; 32]) -> bool
-    requires { ⌜ KnownLine (now sets) rest uses line ⌝ }
+fn waiters_sound(
+    sets: &[[u64; WORDS]; 128],
+    rows: &[u32; 32],
+    rest: Rest,
+    uses: Uses,
+    line: [u8; 32],
+) -> bool
+    requires { ⌜ KnownLine (now sets) (now rows) rest uses line ⌝ }
     ensures { λ r. ⌜ r ≡ all (waiterAt (boardOf (now (sets .entry)) rest)) (names line) ⌝ }
 {
     let mut k: usize = 0;
@@ -267,7 +274,7 @@ fn waiters_sound(sets: &[[u64; WORDS]; 128], rest: Rest, uses: Uses, line: [u8; 
         let seat = rest.seats[i];
         let s = seat.standing;
         let f = standings::awaited(s);
-        if !waiter_sound(sets, uses, p, f) {
+        if !waiter_sound(sets, rows, uses, p, f) {
             return false;
         }
         k += 1;
@@ -278,18 +285,19 @@ fn waiters_sound(sets: &[[u64; WORDS]; 128], rest: Rest, uses: Uses, line: [u8; 
 // The same by who is admitted; what is open is asked only where somebody waits.
 fn line_waiters(
     sets: &[[u64; WORDS]; 128],
+    rows: &[u32; 32],
     rest: Rest,
     admitted: ProgramSet,
     line: [u8; 32],
 ) -> bool
-    requires { ⌜ KnownLine (now sets) rest (usesIn admitted (now sets)) line ⌝ }
+    requires { ⌜ KnownLine (now sets) (now rows) rest (usesIn admitted (now sets)) line ⌝ }
     ensures { λ r. ⌜ r ≡ all (waiterAt (boardOf (now (sets .entry)) rest)) (names line) ⌝ }
 {
     if line[0] == 0 {
         return true;
     }
     let uses = search::gives::uses_in(admitted, sets);
-    waiters_sound(sets, rest, uses, line)
+    waiters_sound(sets, rows, rest, uses, line)
 }
 
 // Nobody favoured: nobody held, and both numbers 0.
@@ -365,13 +373,14 @@ fn counts_sound(rest: Rest) -> bool
 // Sets; no conflict; a completion order exists; the two lines; the waiters; the favoured program; the counts.
 fn is_sound_by(
     sets: &[[u64; WORDS]; 128],
+    rows: &[u32; 32],
     rest: Rest,
     admitted: ProgramSet,
     ordered: bool,
     waiters: ProgramSet,
     held: ProgramSet,
 ) -> bool
-    requires { ⌜ IsStore (now sets) × Packed (boardOf (now sets) rest) admitted ordered waiters held ⌝ }
+    requires { ⌜ IsStore (now sets) × Packed (boardOf (now sets) rest) admitted ordered waiters held × (now rows ≡ rowsOf (now sets) admitted) ⌝ }
     ensures { λ r. ⌜ r ≡ sound (boardOf (now (sets .entry)) rest) ⌝ }
 {
     if !programs_sound(sets, rest) {
@@ -391,7 +400,7 @@ fn is_sound_by(
     if !line_sound(entry, held) {
         return false;
     }
-    if !line_waiters(sets, rest, admitted, waiting) {
+    if !line_waiters(sets, rows, rest, admitted, waiting) {
         return false;
     }
     if !favour_sound(rest, waiters, held, admitted) {
@@ -412,7 +421,7 @@ pub fn judge(sets: &[[u64; WORDS]; 128], rest: Rest) -> Judged
     let ordered = search::is_found(order);
     let waiters = standing_set(rest, false);
     let held = standing_set(rest, true);
-    let sound = is_sound_by(sets, rest, admitted, ordered, waiters, held);
+    let sound = is_sound_by(sets, &rows, rest, admitted, ordered, waiters, held);
     Judged { sound, order }
 }
 

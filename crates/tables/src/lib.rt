@@ -2,14 +2,11 @@
 // in `rows` the set of the admitted programs that the admitted program p holds back stands in place p - 1.
 use files::WORDS;
 use parts::modes;
-use rules::Board;
 use store::sets;
 ghost use mathlib.Core.Path.{_≡_};
 ghost use Prim.Native.Nat.{_≤_};
-ghost use lib.ListN.{replicate};
-ghost use Rattle.store.specs.Sets.{IsStore, SetsOf, holdsOne};
-ghost use Rattle.store.specs.Store.{programsBy};
-ghost use Rattle.tables.specs.Tables.{holdersOf, rowsOf, joined, packed};
+ghost use Rattle.store.specs.Sets.{IsStore, holdsOne};
+ghost use Rattle.tables.specs.Tables.{holdersOf, joined, packed};
 
 pub mod boards;
 mod programs;
@@ -57,14 +54,4 @@ pub fn holders_of(sets: &[[u64; WORDS]; 128], p: u8, set: ProgramSet) -> Program
         rest = rest.but_lowest();
     }
     holders
-}
-
-// The sets of the board's programs, and which of these admitted ones holds back which.
-pub fn fill(b: Board, admitted: ProgramSet, sets: &mut [[u64; WORDS]; 128], rows: &mut [u32; 32])
-    requires { ⌜ (now rows ≡ replicate 32 0) × IsStore (now sets) ⌝ }
-    ensures { λ _. ⌜ programsBy (now (sets .exit)) b ≡ b .programs ⌝ }
-    ensures { λ _. ⌜ SetsOf b (now (sets .exit)) × (now (rows .exit) ≡ rowsOf (now (sets .exit)) admitted) ⌝ }
-{
-    sets::take_sets(b, sets);
-    rows::fill_rows(sets, admitted, rows);
 }

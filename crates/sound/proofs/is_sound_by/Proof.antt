@@ -173,6 +173,7 @@ line-waiters-requires c κs = let l = c .before .before .before in
         ordered = and-right (first2 (b5 c)) (found (carried (b5 c))) (past3 e);
       },
       named-waiters (b5 c) (b5 c .waiting) (sym (waiting-line (l .before)) ∙ not-false (l .before .line-sound .result) (l .if4 .left)),
+      s .pre .2,
     )
 
 returns-6 : tie.Need-returns-6

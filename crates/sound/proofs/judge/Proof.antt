@@ -30,18 +30,19 @@ order c = let s = start c in c .order-in .ensures
     ∙ order-of (board s) _ _ _ (board-sets (s .args .sets .now) (s .args .rest) (s .pre)) (c .before .before .fill-rows .ensures) (admitted c)
 
 is-sound-by-requires : tie.Need-is-sound-by-requires
-is-sound-by-requires c κs = let v = c .before in let i = v .before in let o = i .before in let s = start o in (
+is-sound-by-requires c κs = let h = c .before in let v = h .before in let i = v .before in let o = i .before in let s = start o in (
   s .pre,
   record {
     admitted-are = admitted o;
     is-ordered = i .is-found .ensures ∙ ap (λ (z : Order). isFound (z .kind)) (order o) ∙ has-found (carried (board s));
     waiters-are = v .standing-set .ensures ∙ seats-stand (s .args .sets .now) (s .args .rest) false;
-    held-are = c .standing-set2 .ensures ∙ seats-stand (s .args .sets .now) (s .args .rest) true;
+    held-are = h .standing-set2 .ensures ∙ seats-stand (s .args .sets .now) (s .args .rest) true;
   },
+  o .before .before .fill-rows .ensures,
 )
 
 returns : tie.Need-returns
-returns c = (c .is-sound-by .ensures, order (c .before .before .before .before))
+returns c = (c .is-sound-by .ensures, order (c .before .before .before .before .before))
 
 pub judge-spec : {M : Type 1} → statement M
 judge-spec =

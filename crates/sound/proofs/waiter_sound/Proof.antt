@@ -51,7 +51,7 @@ returns-3 c = λ b k a. let j = c .before in let i = j .before .before in let s 
   sym (opened (j .before) b (k .in-sets)) ∙ j .if2 .left,
 )
     (ap not (give-by (s .args .sets .now) (s .args .uses) (s .args .p) (s .args .f) _ (s .pre .0 .0) (s .pre .0 .1)
-    (c .can-give .ensures) b (k .in-sets) (k .in-use) (k .apart) (k .ordered) a))
+    (c .can-give-by .ensures) b (k .in-sets) (k .in-use) (k .apart) (k .ordered) a))
 
 pub waiter-sound-spec : {M : Type 1} → statement M
 waiter-sound-spec =

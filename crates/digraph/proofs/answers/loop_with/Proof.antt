@@ -1,8 +1,5 @@
 -- `loop_with` meets its contract. Assumes nothing.
-use mathlib.Core.Path.{subst}
 use native.Mathlib.Omega.{arith}
-use Rattle.rules.specs.declared.Board.{Board}
-use Rattle.digraph.specs.Loops.{LoopOf}
 use Rattle.files.proofs.Bits.{least, most}
 use borrow.Author.Needs.{needs}
 use Rattle.digraph.proofs.answers.loop_with.Statement.{statement}
@@ -15,7 +12,7 @@ returns-2 : tie.Need-returns-2
 returns-2 c = λ h. absurd (let i = most 32 (c .before .before .args .line .program) h in omega (arith, c .if2 .taken))
 
 returns-3 : tie.Need-returns-3
-returns-3 c = λ h. subst (λ (x : Board). LoopOf x (c .find .result)) (c .before .give .ensures) (c .find .ensures)
+returns-3 c = λ h. c .find-given .ensures
 
 pub loop-with-spec : {M : Type 1} → statement M
-loop-with-spec = tie.close (tie.spec returns returns-2 (λ c κs. search needs) (λ c κs. search needs) returns-3)
+loop-with-spec = tie.close (tie.spec returns returns-2 (λ c κs. search needs) returns-3)

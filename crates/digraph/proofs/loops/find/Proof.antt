@@ -1,19 +1,17 @@
 -- `find` meets its contract. Assumes nothing.
-use mathlib.Core.Path.{ap, _∙_}
-use lib.ListN.{length}
+use mathlib.Core.Path.{subst}
+use Rattle.rules.specs.declared.Board.{Board}
+use Rattle.store.proofs.Laws.{fresh-store}
+use Rattle.digraph.specs.Loops.{LoopOf}
 use borrow.Author.Needs.{needs}
-use Rattle.rules.specs.Digraph.{step}
-use Rattle.digraph.proofs.Laws.{says-length, matrix-of}
 use Rattle.digraph.proofs.loops.find.Statement.{statement}
 use Rattle.digraph.proofs.loops.find.Tie as tie
 
-close-rows-requires : tie.Need-close-rows-requires
-close-rows-requires c κs = let f = c .before in let b = f .before .before .args .b in ap length (f .fill-steps .ensures) ∙ says-length (step b)
+take-requires : tie.Need-take-requires
+take-requires c κs = fresh-store
 
 returns : tie.Need-returns
-returns c = let r = c .before .before .before in let f = r .before .before in let b = f .before .before .args .b in
-    let e = f .fill-steps .ensures in
-    c .find-in .ensures b e (matrix-of b _ (r .close-rows .ensures .1 (step b) e))
+returns c = subst (λ (x : Board). LoopOf x (c .find-by .result)) (c .before .before .take .ensures .1) (c .find-by .ensures)
 
 pub find-spec : {M : Type 1} → statement M
-find-spec = tie.close (tie.spec (λ c κs. search needs) close-rows-requires (λ c κs. search needs) returns)
+find-spec = tie.close (tie.spec take-requires (λ c κs. search needs) returns)

@@ -1,7 +1,5 @@
 -- `find_for` meets its contract. Assumes nothing.
-use mathlib.Core.Path.{refl, sym, _∙_, subst}
-use Rattle.rules.specs.declared.Board.{Board}
-use Rattle.digraph.specs.Loops.{LoopOf}
+use mathlib.Core.Path.{refl, sym, _∙_}
 use native.Mathlib.Omega.{arith}
 use borrow.Author.Tests.{not-true, not-false}
 use Rattle.laws.specs.Tests.{never}
@@ -15,11 +13,10 @@ returns c = let w = c .before .is-waiting in let n = sym (w .ensures) ∙ not-tr
     record { is-loop = λ u. never u n; is-none = λ u. refl; fits = omega arith }
 
 returns-2 : tie.Need-returns-2
-returns-2 c = let g = c .before in let f = g .before .awaited in let i = g .before .before in let w = i .before .is-waiting in
+returns-2 c = let f = c .before .awaited in let i = c .before .before in let w = i .before .is-waiting in
     let s = i .before .before .before in let a = s .args in
-    waiter-found (a .t1) (a .p) (f .result) (c .find .result) (search needs) (record { least = search needs; most = search needs })
-    (sym (w .ensures) ∙ not-false (w .result) (i .if1 .left)) (f .ensures)
-    (subst (λ (x : Board). LoopOf x (c .find .result)) (g .give .ensures) (c .find .ensures))
+    waiter-found (a .t1) (a .p) (f .result) (c .find-given .result) (search needs) (record { least = search needs; most = search needs })
+    (sym (w .ensures) ∙ not-false (w .result) (i .if1 .left)) (f .ensures) (c .find-given .ensures)
 
 pub find-for-spec : {M : Type 1} → statement M
 find-for-spec =
@@ -31,7 +28,6 @@ find-for-spec =
     (λ c. search needs)
     (λ c κs. search needs)
     returns
-    (λ c κs. search needs)
     (λ c κs. search needs)
     (λ c κs. search needs)
     returns-2)

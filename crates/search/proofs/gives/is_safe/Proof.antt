@@ -1,7 +1,7 @@
 -- `is_safe` meets its contract; in its loop `found` and `rest` are a stage of the decision. Assumes nothing.
-use mathlib.Core.Path.{_≡_, sym, ap, ap₂, _∙_}
+use mathlib.Core.Path.{_≡_, sym, ap, _∙_}
 use mathlib.Core.Bool.{Bool, cond}
-use Prim.Native.Nat.{ℕ, suc}
+use Prim.Native.Nat.{ℕ}
 use lib.ListN.{length}
 use Rattle.files.specs.Sets.{member}
 use Rattle.laws.specs.Lists.{keep}
@@ -9,22 +9,13 @@ use Rattle.rules.specs.Modes.{Mode, Write, Read}
 use Rattle.rules.specs.Boards.{everyone}
 use Rattle.tables.specs.declared.ProgramSet.{ProgramSet}
 use Rattle.tables.specs.ProgramSets.{withoutProgram, unionOf, lessOf}
-use Rattle.store.specs.Sets.{Sets, setIn, modeAt, claimsAt}
-use Rattle.tables.proofs.Walk.{none-left}
-use Rattle.search.specs.Stages.{Stage, asked, stage}
-use Rattle.search.proofs.Closing.{Closing, more, closing-start, closing-next, closing-done}
-use Rattle.search.proofs.Backers.{unsafe-in, safe-in}
-use Rattle.search.proofs.Stages.{toAsk, fewer-to-ask, stage-first, stage-next}
+use Rattle.store.specs.Sets.{setIn, modeAt}
+use Rattle.search.proofs.Closing.{more}
+use Rattle.search.proofs.Stages.{toAsk}
+use Rattle.search.proofs.Deciding.{Here, here-start, here-unsafe, here-safe, here-next, here-fewer}
 use borrow.Author.Needs.{needs}
 use Rattle.search.proofs.gives.is_safe.Statement.{statement}
 use Rattle.search.proofs.gives.is_safe.Tie as tie
-
--- a stage of the decision with the programs a admitted
-record Here (sets : Sets) (a : ProgramSet) (p f : ℕ) (mode : Mode) (found rest : ProgramSet) : Type 0 where
-  closing : Closing sets (withoutProgram a p) p f mode found rest
-  asks : ℕ
-  is-found : found ≡ stage sets a p (suc asks) .found
-  is-rest : rest ≡ stage sets a p (suc asks) .rest
 
 abbrev by : Bool → Mode
 by write = cond write Write Read
@@ -64,69 +55,36 @@ here s = let o = s .before .before .before in let h = s .before .before .holders
     s .loop .inv (a .admitted) (h .ensures ∙ ap (more (a .sets .now) (a .p)) (o .without .ensures))
     (s .before .less .ensures ∙ ap (λ (x : ProgramSet). lessOf x (h .result)) (o .without .ensures))
 
-abbrev stage-at : tie.At-loop Inv-loop μ-loop → Stage
-stage-at s = record { found = s .loop .found; rest = s .loop .rest }
-
 -- ---- the loop
 
 loop-holds : tie.Need-loop-holds Inv-loop μ-loop
 loop-holds c = let h = c .before .before .before in let t = h .before .before .before .before in let g = t .args in λ a e d.
-    let (i, r) = stage-first (g .sets .now) a (g .p) (t .pre .0 .0) (t .pre .0 .1) in record {
-      closing = rw (d, e) (closing-start (g .sets .now) (withoutProgram a (g .p)) (g .p) (g .f) (by (h .has .result)));
-      asks = 0;
-      is-found = e ∙ sym i;
-      is-rest = d ∙ ap (lessOf (withoutProgram a (g .p))) e ∙ sym r;
-    }
+    here-start (g .sets .now) a (g .p) (g .f) (t .pre .0 .0) (t .pre .0 .1) (by (h .has .result)) _ _ e d
 
 lowest-requires : tie.Need-lowest-requires Inv-loop μ-loop
 lowest-requires c κs = c .if1 .taken
 
 returns : tie.Need-returns Inv-loop μ-loop
-returns c = let l = c .before .before in let s = before l in let k = here s in let g = begun s .args in let q = l .lowest .result in
-    let (i, r) = k .closing .inside q (l .lowest .ensures .1 .2) in
-    sym (unsafe-in (g .sets .now) (g .admitted) (g .p) (g .f) q (k .closing .backs q i r)
-    (ap (λ (m : Mode). claimsAt (g .sets .now) (g .f) m q) (sym (mode-is (known s))) ∙ sym (c .before .has-claim .ensures) ∙ c .if2 .taken))
-
-module _ (c : tie.After-or Inv-loop μ-loop) where
-  abbrev sets : Sets
-  sets = begun (before (picked c)) .args .sets .now
-
-  -- whom it asks about
-  abbrev whom : ℕ
-  whom = picked c .lowest .result
-
-  abbrev at : Stage
-  at = stage-at (before (picked c))
-
-  next-found : c .or .result ≡ asked sets whom at .found
-  next-found = c .or .ensures ∙ ap₂ unionOf (c .before .but-lowest .ensures ∙ ap (withoutProgram (at .found))
-      (sym (picked c .lowest .ensures .0))) (c .before .before .before .holders-of2 .ensures)
-
-  next-rest : c .before .before .less2 .result ≡ asked sets whom at .rest
-  next-rest = c .before .before .less2 .ensures ∙ ap (lessOf (at .rest)) (c .before .before .before .holders-of2 .ensures)
+returns c = let l = c .before .before in let s = before l in let g = begun s .args in
+    sym (here-unsafe (g .sets .now) (g .admitted) (g .p) (g .f) _ _ _ (here s) (mode-is (known s)) (l .lowest .result) (l .lowest .ensures .1 .2)
+    (sym (c .before .has-claim .ensures) ∙ c .if2 .taken))
 
 loop-less : tie.Need-loop-less Inv-loop μ-loop
-loop-less c = let k = here (before (picked c)) in
-    fewer-to-ask (sets c) (whom c) (at c) (λ x e. k .closing .inside x e .1) (picked c .lowest .ensures .1 .2) _ _ (next-found c) (next-rest c)
+loop-less c = let l = picked c in let s = before l in let g = begun s .args in let m = c .before .before .before .holders-of2 in
+    here-fewer (g .sets .now) (g .admitted) (g .p) (g .f) _ _ _ (here s) (l .lowest .result) (l .lowest .ensures .0) (l .lowest .ensures .1 .2)
+    (m .result) _ _ (m .ensures) (c .or .ensures ∙ ap (λ (x : ProgramSet). unionOf x (m .result)) (c .before .but-lowest .ensures))
+    (c .before .before .less2 .ensures)
 
 loop-again : tie.Need-loop-again Inv-loop μ-loop
-loop-again c = let l = picked c in let s = before l in let g = begun s .args in let t = c .before .before .before .before in λ a e d.
-    let k = s .loop .inv a e d in
-    let (i, r) = stage-next (sets c) a (g .p) (suc (k .asks)) (s .loop .found) (s .loop .rest) (whom c) (k .is-found) (k .is-rest)
-    (l .lowest .ensures .0) in record {
-      closing = closing-next (sets c) (withoutProgram a (g .p)) (g .p) (g .f) (by (known s .has .result)) (s .loop .found) (s .loop .rest)
-          (k .closing) (whom c) (l .lowest .ensures .1 .2) (sym (t .before .has-claim .ensures) ∙ t .if2 .left) _ _ (next-found c) (next-rest c);
-      asks = suc (k .asks);
-      is-found = next-found c ∙ i;
-      is-rest = next-rest c ∙ r;
-    }
+loop-again c = let l = picked c in let s = before l in let g = begun s .args in let m = c .before .before .before .holders-of2 in
+    let t = c .before .before .before .before in λ a e d.
+    here-next (g .sets .now) a (g .p) (g .f) _ _ _ (s .loop .inv a e d) (l .lowest .result) (l .lowest .ensures .0) (l .lowest .ensures .1 .2)
+    (m .result) _ _ (m .ensures) (c .or .ensures ∙ ap (λ (x : ProgramSet). unionOf x (m .result)) (c .before .but-lowest .ensures))
+    (c .before .before .less2 .ensures) (sym (t .before .has-claim .ensures) ∙ t .if2 .left)
 
 returns-2 : tie.Need-returns-2 Inv-loop μ-loop
-returns-2 c = let s = c .before .before in let k = here s in let g = begun s .args in
-    sym (safe-in (g .sets .now) (g .admitted) (g .p) (g .f) (λ x w.
-    ap (λ (m : Mode). claimsAt (g .sets .now) (g .f) m x) (sym (mode-is (known s)))
-    ∙ closing-done (g .sets .now) (withoutProgram (g .admitted) (g .p)) (g .p) (g .f) (by (known s .has .result)) (s .loop .found) (s .loop .rest)
-    (k .closing) (λ y. none-left (s .loop .found) y (c .if1 .left)) x w))
+returns-2 c = let s = c .before .before in let g = begun s .args in
+    sym (here-safe (g .sets .now) (g .admitted) (g .p) (g .f) _ _ _ (here s) (mode-is (known s)) (c .if1 .left))
 
 pub is-safe-spec : {M : Type 1} → statement M
 is-safe-spec =
