@@ -1,19 +1,20 @@
 -- Laws of the calls. Assumes nothing.
-use mathlib.Core.Path.{_≡_, refl, sym, ap, _∙_, subst}
+use mathlib.Core.Path.{_≡_, refl, sym, ap, ap₂, _∙_, subst}
 use mathlib.Core.Logic.{_≢_}
 use mathlib.Core.Bool.{Bool, true, false, not, _&&_}
-use mathlib.Core.List.{List, [], _∷_, _++_}
-use mathlib.Core.Option.{Option, none, some, Option·getD}
+use mathlib.Core.List.{List, [], _∷_}
+use mathlib.Core.Option.{none, some}
 use Prim.Native.Nat.{ℕ, suc, _+_, _-_, _≤_, _<_}
 use native.Mathlib.Omega.{arith}
 use lib.Dec.{leb}
-use lib.ListN.{length, replicate, length-append, length-replicate}
+use lib.ListN.{length, set, replicate, length-replicate}
 use lib.Seq.{sets, sets-eq}
-use borrow.Author.Tests.{le-leb, lt-leb, ne-eqb}
+use borrow.Author.Tests.{le-leb, lt-leb, eq-eqb, ne-eqb}
 use Rattle.laws.specs.Tests.{by-test, never}
 use Rattle.files.specs.declared.FileSet.{FileSet}
-use Rattle.files.specs.Sets.{isFile}
-use Rattle.files.proofs.Bits.{least}
+use Rattle.files.specs.Sets.{isFile, member}
+use Rattle.files.proofs.Bits.{least, is-number}
+use Rattle.rules.specs.declared.Standing.{Standing}
 use Rattle.rules.specs.declared.Board.{Board}
 use Rattle.rules.specs.declared.Refusal.{Refusal}
 use Rattle.rules.specs.declared.Check.{Check}
@@ -24,31 +25,41 @@ use Rattle.rules.specs.declared.Reply.{Reply}
 use Rattle.rules.specs.declared.Verb.{Verb}
 use Rattle.rules.specs.declared.Asked.{Asked}
 use Rattle.laws.specs.Lists.{found, padded, names}
-use Rattle.rules.specs.Boards.{noProgram, isProgram, at, setProgram, closing, dropping}
-use Rattle.rules.specs.Orders.{carried, withGiven, safe}
+use Rattle.rules.specs.Modes.{Write}
+use Rattle.rules.specs.Boards.{noProgram, isProgram, isAdmitted, at, claims, hasOpen, setProgram, setWaiting, setEntry, setPassed, uncount, closing, dropping}
+use Rattle.rules.specs.Orders.{carried, withGiven, inUse, safe}
 use Rattle.rules.specs.Soundness.{sound}
-use Rattle.rules.specs.Settling.{Step, line, favour, settle}
-use Rattle.rules.specs.Replies.{blank, refusalOf, refused, reply, refuse}
-use Rattle.rules.specs.Checks.{refuseIf, unlessRunning, enterCheck, openCheck, closeCheck, leaveCheck, cancelCheck}
-use Rattle.rules.specs.Calls.{hold, holdFor, done, countLeave, withdrawn, Call, Open, Close, Drop, callOf, callWith, checked, accepted, unless, apply}
+use Rattle.rules.specs.Settling.{Step, line, overdue, favour, settle}
+use Rattle.rules.specs.Replies.{blank, refused, reply, refuse}
+use Rattle.rules.specs.Checks.{refuseIf, unlessRunning, unlessStopped, enterCheck, openCheck, closeCheck, leaveCheck, cancelCheck}
+use Rattle.rules.specs.Calls.{admit, hold, holdFor, enter, wait, openFile, done, countLeave, countCancel, withdrawn}
+use Rattle.rules.specs.Calls.{Call, Open, Close, Drop, callOf, callWith, checked, accepted, unless, apply}
+use Rattle.theory.specs.Modes.{same-mode}
 use Rattle.theory.specs.Loose.{Loose, Counts, Good}
 use Rattle.theory.specs.Sound.{sound-iff, sound-good, good-sound}
-use Rattle.theory.specs.Calls.{apply-accepted, apply-refused, failed-passed}
+use Rattle.theory.specs.Calls.{apply-accepted, apply-refused, failed-passed, open-may}
 use Rattle.theory.specs.Worked.{accepted-answer}
 use Rattle.theory.specs.Ready.{Ready, entry-room, waiting-room, close-ready, drop-ready, leave-ready, cancel-ready, leaves-room}
+use Rattle.parts.specs.Entries.{Entries, IsEntries, noEntries, linesIn, entryOf}
+use Rattle.parts.proofs.Lined.{lines-set, entries-set, fresh-entries, no-lines-padded}
+use Rattle.store.specs.declared.Rest.{Rest}
+use Rattle.store.specs.Sets.{Sets, IsStore, claimsAt, opensAt}
+use Rattle.store.specs.Store.{standingAt, withWaiting, withFavour, withPassed, boardOf}
+use Rattle.store.proofs.Laws.{open-is, claims-is}
+use Rattle.store.proofs.Boards.{board-size, board-sets}
+use Rattle.store.proofs.Changing.{standing-is}
 use Rattle.search.specs.declared.Search.{Search}
 use Rattle.search.specs.declared.Order.{Order}
-use Rattle.search.specs.Rows.{asOrder, isFound}
+use Rattle.search.specs.Rows.{asOrder}
 use Rattle.search.proofs.Laws.{drop-replicate}
-use Rattle.settling.specs.declared.Written.{Written}
-use Rattle.settling.specs.Writing.{after, Fits}
-use Rattle.apply.specs.declared.Changed.{Changed}
-use Rattle.apply.specs.Replies.{wrote, replied, numberIf, fileFirst, claimCheck, useCheck, nearCheck, foundBy, ComesTo}
+use Rattle.search.proofs.Ordered.{order-none, order-found}
+use Rattle.settling.specs.Writing.{Written, after, Fits}
+use Rattle.apply.specs.Replies.{wrote, replied, numberIf, fileFirst, entryCheck, claimCheckAt, useCheckAt, nearCheck}
 
 -- ---- a call on a good board
 
-pub good-of : (b : Board) → length (b .programs) ≡ 32 → sound b ≡ true → Good b
-good-of b z e = sound-good b z (sound-iff b .0 e)
+pub good-of : (sets : Sets) (r : Rest) → sound (boardOf sets r) ≡ true → Good (boardOf sets r)
+good-of sets r e = sound-good (boardOf sets r) (board-size sets r) (sound-iff (boardOf sets r) .0 e)
 
 module _ (b : Board) (c : Call) where
   pub apply-passed : checked b c ≡ Check.Passed → accepted b c ≡ apply b c
@@ -117,17 +128,70 @@ file-first m f t next e h =
     (λ k. let d : f ≡ m = rw k at h in let z : m ≢ 0 = omega (arith, least 64 m k) in rw (d, e, k, ne-eqb m 0 z))
     (λ k. let d : f ≡ 0 = rw k at h in rw (d, e, k))
 
-module _ (b : Board) (p f m : ℕ) (w r : FileSet) (number : f ≡ numberIf (isFile m) m) where
-  -- in range: the standing, then the other checks
-  pub checked-near : (v : Verb) → isProgram p ≡ true → nearCheck (at b p) f v w r ≡ checked b (callWith v p m w r)
-  unfolding enterCheck openCheck closeCheck leaveCheck cancelCheck
-  checked-near Verb.Enter e = rw e
-  checked-near Verb.Open e = file-first m f (isProgram p) (λ x. unlessRunning (at b p .standing) (claimCheck (at b p) x)) e number
-  checked-near Verb.Close e = file-first m f (isProgram p) (λ x. unlessRunning (at b p .standing) (useCheck (at b p) x)) e number
-  checked-near Verb.Drop e = file-first m f (isProgram p) (λ x. unlessRunning (at b p .standing) (claimCheck (at b p) x)) e number
-  checked-near Verb.Leave e = rw e
-  checked-near Verb.Cancel e = rw e
+-- what the sets and the standing say of the program
+module _ (sets : Sets) (q : Rest) (p : ℕ) (h : 1 ≤ p) (k : p ≤ 32) (st : IsStore sets) where
+  abbrev b : Board
+  b = boardOf sets q
 
+  claims-are : (f : ℕ) → claimsAt sets f Write p ≡ claims (at b p) f
+  claims-are f = claims-is b sets (board-sets sets q st) f p Write h k
+
+  opens-are : (f : ℕ) → opensAt sets f p ≡ hasOpen (at b p) f
+  opens-are f = same-mode _ _ (λ m. ap (λ (x : FileSet). member x f) (open-is b sets (board-sets sets q st) p h k m))
+
+  stands : standingAt q p ≡ at b p .standing
+  stands = sym (standing-is sets q p h k st)
+
+  abbrev claimCheck : ℕ → Check
+  claimCheck f = unlessRunning (at b p .standing)
+      (refuseIf (not (claims (at b p) f)) Refusal.NotClaimed (refuseIf (hasOpen (at b p) f) Refusal.IsOpen Check.Passed))
+
+  abbrev useCheck : ℕ → Check
+  useCheck f = unlessRunning (at b p .standing) (refuseIf (not (hasOpen (at b p) f)) Refusal.NotOpen Check.Passed)
+
+  near-claim : (f : ℕ) → unlessRunning (standingAt q p) (claimCheckAt sets p f) ≡ claimCheck f
+  near-claim f = ap (λ (s : Standing). unlessRunning s (claimCheckAt sets p f)) stands
+      ∙ ap₂ (λ (c o : Bool). unlessRunning (at b p .standing) (refuseIf (not c) Refusal.NotClaimed (refuseIf o Refusal.IsOpen Check.Passed)))
+      (claims-are f) (opens-are f)
+
+  near-use : (f : ℕ) → unlessRunning (standingAt q p) (useCheckAt sets p f) ≡ useCheck f
+  near-use f = ap (λ (s : Standing). unlessRunning s (useCheckAt sets p f)) stands
+      ∙ ap (λ (o : Bool). unlessRunning (at b p .standing) (refuseIf (not o) Refusal.NotOpen Check.Passed)) (opens-are f)
+
+  -- in range: the standing, then the other checks
+  module _ (f m : ℕ) (w r : FileSet) (number : f ≡ numberIf (isFile m) m) where
+    abbrev ranged : isProgram p ≡ true
+    ranged = is-number 32 p h k
+
+    near-open : fileFirst f (unlessRunning (standingAt q p) (claimCheckAt sets p f)) ≡ openCheck b p m
+    unfolding openCheck
+    near-open = ap (fileFirst f) (near-claim f) ∙ file-first m f (isProgram p) claimCheck ranged number
+
+    near-close : fileFirst f (unlessRunning (standingAt q p) (useCheckAt sets p f)) ≡ closeCheck b p m
+    unfolding closeCheck
+    near-close = ap (fileFirst f) (near-use f) ∙ file-first m f (isProgram p) useCheck ranged number
+
+    near-enter : entryCheck (at b p .standing) w r ≡ enterCheck b p w r
+    unfolding enterCheck
+    near-enter = rw ranged
+
+    near-leave : unlessRunning (at b p .standing) Check.Passed ≡ leaveCheck b p
+    unfolding leaveCheck
+    near-leave = rw ranged
+
+    near-cancel : unlessStopped (at b p .standing) Check.Passed ≡ cancelCheck b p
+    unfolding cancelCheck
+    near-cancel = rw ranged
+
+    pub checked-near : (v : Verb) → nearCheck sets p (standingAt q p) f v w r ≡ checked b (callWith v p m w r)
+    checked-near Verb.Enter = ap (λ (s : Standing). entryCheck s w r) stands ∙ near-enter
+    checked-near Verb.Open = near-open
+    checked-near Verb.Close = near-close
+    checked-near Verb.Drop = near-open
+    checked-near Verb.Leave = ap (λ (s : Standing). unlessRunning s Check.Passed) stands ∙ near-leave
+    checked-near Verb.Cancel = ap (λ (s : Standing). unlessStopped s Check.Passed) stands ∙ near-cancel
+
+module _ (b : Board) (p f m : ℕ) (w r : FileSet) (number : f ≡ numberIf (isFile m) m) where
   -- a file that a check has let pass is in range
   passed-file : (next : Check) → refuseIf (not (isProgram p && isFile m)) Refusal.OutOfRange next ≡ Check.Passed → f ≡ m
   passed-file next k =
@@ -148,59 +212,7 @@ pub apply-far : (b : Board) (a : Asked) → isProgram (a .program) ≡ false →
 apply-far b a e =
     apply-failed b (callOf a) Refusal.OutOfRange (checked-far b (a .verb) (a .program) (a .file) (a .writable) (a .readable) e)
 
--- ---- orders as the search gives them back
-
-abbrev countOf : Search → ℕ
-countOf (Search.Found n) = n
-countOf Search.Stuck = 0
-
-pub order-none : (o : Option (List ℕ)) (r : Order) → r ≡ asOrder o → r .kind ≡ Search.Stuck → o ≡ none
-order-none none r e k = refl
-order-none (some l) r e k = never {t = true} refl (ap isFound (sym (ap (λ (x : Order). x .kind) e) ∙ k))
-
-pub order-count : (o : Option (List ℕ)) (r : Order) (n : ℕ) → r ≡ asOrder o → r .kind ≡ Search.Found n → length (Option·getD o []) ≡ n
-order-count none r n e k = never {t = true} refl (ap isFound (sym k ∙ ap (λ (x : Order). x .kind) e))
-order-count (some l) r n e k = ap countOf (sym (ap (λ (x : Order). x .kind) e) ∙ k)
-
-pub order-at : (o : Option (List ℕ)) (r : Order) (n : ℕ) → r ≡ asOrder o → r .kind ≡ Search.Found n → padded 0 (Option·getD o []) ≡ r .at
-order-at none r n e k = never {t = true} refl (ap isFound (sym k ∙ ap (λ (x : Order). x .kind) e))
-order-at (some l) r n e k = sym (ap (λ (x : Order). x .at) e)
-
-pub order-found : (o : Option (List ℕ)) (r : Order) (n : ℕ) → r ≡ asOrder o → r .kind ≡ Search.Found n → found o ≡ true
-order-found none r n e k = never {t = true} refl (ap isFound (sym k ∙ ap (λ (x : Order). x .kind) e))
-order-found (some l) r n e k = refl
-
-pub order-short : (o : Option (List ℕ)) (r : Order) (n : ℕ) → r ≡ asOrder o → r .kind ≡ Search.Found n → length (r .at) ≡ 32 → n ≤ 32
-unfolding padded
-order-short o r n e k h =
-    let l = Option·getD o [] in
-    let a : length (l ++ replicate (32 - length l) 0) ≡ 32 = ap length (order-at o r n e k) ∙ h in
-    let x = length-append l (replicate (32 - length l) 0) in
-    let y = length-replicate {A = ℕ} (32 - length l) 0 in
-    let z = order-count o r n e k in
-    omega (arith, a, x, y, z)
-
 -- ---- replies
-
--- an answer with a number is a refusal
-pub refused-by : (a : Answer) → refusalOf a ≢ 0 → refused a ≡ true
-refused-by Answer.Admit h = absurd (h refl)
-refused-by Answer.Held h = absurd (h refl)
-refused-by Answer.Given h = absurd (h refl)
-refused-by Answer.Wait h = absurd (h refl)
-refused-by Answer.Unsafe h = absurd (h refl)
-refused-by Answer.Done h = absurd (h refl)
-refused-by (Answer.Refuse r) h = refl
-
-pub replied-stuck : (w : Written) (a : Answer) → carried (w .board) ≡ none
-    → _≡_ {A = Reply} (record { board = w .board; answer = a; lines = w .lines; count = w .count; order = replicate 32 0; placed = 0 }) (replied w a)
-unfolding padded
-replied-stuck w a e = rw e
-
-pub replied-found : (w : Written) (a : Answer) (at : List ℕ) (n : ℕ) → padded 0 (Option·getD (carried (w .board)) []) ≡ at
-    → length (Option·getD (carried (w .board)) []) ≡ n
-    → _≡_ {A = Reply} (record { board = w .board; answer = a; lines = w .lines; count = w .count; order = at; placed = n }) (replied w a)
-replied-found w a at n e k = rw (e, k)
 
 pub wrote-reply : (b : Board) (a : Answer) (l : Line) → replied (wrote b (l ∷ [])) a ≡ reply b a (l ∷ [])
 unfolding reply
@@ -209,6 +221,27 @@ wrote-reply b a l = refl
 pub wrote-none : (b : Board) (r : Refusal) → replied (wrote b []) (Answer.Refuse r) ≡ refuse b r
 unfolding refuse reply
 wrote-none b r = refl
+
+-- ---- lines in their array
+
+pub none-entries : (e : Entries) → e ≡ noEntries → IsEntries e
+none-entries e k = subst IsEntries (sym k) fresh-entries
+
+-- the first line is written
+pub wrote-first : (b : Board) (e : Entries) (x : List ℕ) (l : Line) → x ≡ entryOf l → e ≡ noEntries
+    → _≡_ {A = Written} (record { board = b; lines = linesIn (set e 0 x); count = 1 }) (wrote b (l ∷ []))
+unfolding padded
+wrote-first b e x l k z = ap (λ (y : List Line). record { board = b; lines = y; count = 1 })
+    (ap (λ (y : List ℕ). linesIn (set e 0 y)) k ∙ lines-set e 0 l ∙ ap (λ (y : Entries). set (linesIn y) 0 l) z)
+
+pub first-entries : (e : Entries) (x : List ℕ) (l : Line) → x ≡ entryOf l → e ≡ noEntries → IsEntries (set e 0 x)
+first-entries e x l k z = subst (λ (y : List ℕ). IsEntries (set e 0 y)) (sym k) (entries-set e 0 l (none-entries e z))
+
+-- none is written
+pub none-lines : (b : Board) (e : Entries) → e ≡ noEntries → _≡_ {A = Written} (record { board = b; lines = linesIn e; count = 0 }) (wrote b [])
+none-lines b e k = ap (λ (y : List Line). record { board = b; lines = y; count = 0 }) (ap linesIn k ∙ no-lines-padded)
+
+-- ---- lines after a line
 
 sets-one : (z l : Line) (ls : List Line) → suc (length ls) ≤ 32 → sets (padded z (l ∷ [])) 1 ls ≡ padded z (l ∷ ls)
 unfolding padded
@@ -252,13 +285,20 @@ held-for-is w s b c p v q n d e k =
 sound-of : (b : Board) → Good b → sound b ≡ true
 sound-of b g = sound-iff b .1 (good-sound b g)
 
-pub entry-free : (b : Board) (p : ℕ) (v q : FileSet) → Good b → enterCheck b p v q ≡ Check.Passed
-    → (b .entry ≡ padded 0 (names (b .entry))) × (length (names (b .entry)) < 32)
-entry-free b p v q g e = (g .loose .helds .form, entry-room b (g .loose .base .size) (sound-of b g) p v q e)
+module _ (sets : Sets) (r : Rest) where
+  pub entry-free : (p : ℕ) (v q : FileSet) → Good (boardOf sets r) → enterCheck (boardOf sets r) p v q ≡ Check.Passed
+      → (r .entry ≡ padded 0 (names (r .entry))) × (length (names (r .entry)) < 32)
+  unfolding boardOf
+  entry-free p v q g e = (g .loose .helds .form, entry-room (boardOf sets r) (board-size sets r) (sound-of (boardOf sets r) g) p v q e)
 
-pub waiting-free : (b : Board) (p f : ℕ) → Good b → openCheck b p f ≡ Check.Passed
-    → (b .waiting ≡ padded 0 (names (b .waiting))) × (length (names (b .waiting)) < 32)
-waiting-free b p f g e = (g .loose .waits .form, waiting-room b (g .loose .base .size) (sound-of b g) p f e)
+  pub waiting-free : (p f : ℕ) → Good (boardOf sets r) → openCheck (boardOf sets r) p f ≡ Check.Passed
+      → (r .waiting ≡ padded 0 (names (r .waiting))) × (length (names (r .waiting)) < 32)
+  unfolding boardOf
+  waiting-free p f g e = (g .loose .waits .form, waiting-room (boardOf sets r) (board-size sets r) (sound-of (boardOf sets r) g) p f e)
+
+  pub leaves-few : Good (boardOf sets r) → r .leaves ≤ 32
+  unfolding boardOf
+  leaves-few g = leaves-room (boardOf sets r) (board-size sets r) (sound-of (boardOf sets r) g)
 
 pub close-settles : (b c : Board) (p f : ℕ) → c ≡ setProgram b p (closing (at b p) f) → Good b → closeCheck b p f ≡ Check.Passed → Ready c
 close-settles b c p f k g e = subst Ready (sym k) (close-ready b (g .loose .base .size) (sound-of b g) p f e)
@@ -272,39 +312,71 @@ leave-settles b c p k g e = subst Ready (sym k) (leave-ready b (g .loose .base .
 pub cancel-settles : (b c : Board) (p : ℕ) → c ≡ withdrawn b p (at b p .standing) → Good b → cancelCheck b p ≡ Check.Passed → Ready c
 cancel-settles b c p k g e = subst Ready (sym k) (cancel-ready b (g .loose .base .size) (sound-of b g) p e)
 
-pub leaves-few : (b : Board) → Good b → b .leaves ≤ 32
-leaves-few b g = leaves-room b (g .loose .base .size) (sound-of b g)
+-- ---- a board whose rest changes
 
--- ---- whether an order comes back with the file given
+module _ (sets : Sets) (r : Rest) (b : Board) (e : boardOf sets r ≡ b) where
+  -- out of the waiting line, and the count of p is 0
+  pub with-cancelled : (p : ℕ) (l n : List ℕ) → l ≡ padded 0 n
+      → boardOf sets (withPassed (withWaiting r l) (set (r .passed) (p - 1) 0)) ≡ uncount (setWaiting b n) p
+  unfolding boardOf
+  with-cancelled p l n k = ap (λ (y : List ℕ). boardOf sets (withPassed (withWaiting r y) (set (r .passed) (p - 1) 0))) k
+      ∙ ap (λ (x : Board). uncount (setWaiting x n) p) e
 
-pub not-safe : (b g : Board) (p f : ℕ) (r : Order) → g ≡ withGiven b p f → r ≡ asOrder (carried g) → r .kind ≡ Search.Stuck → safe b p f ≡ false
-unfolding safe
-not-safe b g p f r e o k = ap (λ (x : Board). found (carried x)) (sym e) ∙ ap found (order-none (carried g) r o k)
+module _ (sets : Sets) (r : Rest) where
+  pub leave-free : r .favoured ≡ 0 → boardOf sets r ≡ countLeave (boardOf sets r)
+  unfolding boardOf countLeave
+  leave-free e = rw (eq-eqb (r .favoured) 0 e)
 
-pub is-safe : (b g : Board) (p f : ℕ) (r : Order) (n : ℕ) → g ≡ withGiven b p f → r ≡ asOrder (carried g)
-    → r .kind ≡ Search.Found n → safe b p f ≡ true
-unfolding safe
-is-safe b g p f r n e o k = ap (λ (x : Board). found (carried x)) (sym e) ∙ order-found (carried g) r n o k
+  pub leave-counted : r .favoured ≢ 0 → boardOf sets (withFavour r (r .favoured) (r .initial) (r .leaves + 1)) ≡ countLeave (boardOf sets r)
+  unfolding boardOf countLeave
+  leave-counted e = rw (ne-eqb (r .favoured) 0 e)
 
--- ---- what a call comes to
+  pub cancel-free : (p : ℕ) → r .favoured ≡ p → boardOf sets (withFavour r 0 0 0) ≡ countCancel (boardOf sets r) p
+  unfolding boardOf countCancel
+  cancel-free p e = rw (eq-eqb (r .favoured) p e)
 
-pub comes : {c : Changed} {r r′ : Reply} → ComesTo c r → r ≡ r′ → ComesTo c r′
-comes {c} k e = subst (ComesTo c) e k
+  pub cancel-other : (p : ℕ) → r .favoured ≢ p → countLeave (boardOf sets r) ≡ countCancel (boardOf sets r) p
+  unfolding boardOf countCancel
+  cancel-other p e = rw (ne-eqb (r .favoured) p e)
 
--- the order that was found, by the call's own answer and board
-pub found-is : (c : Changed) {r : Reply} → ComesTo c r → c .found ≡ foundBy (c .answer) (c .written .board)
-found-is c (e, f) = f ∙ ap (λ (x : Reply). foundBy (x .answer) (x .board)) (sym e)
+-- ---- what a call comes to, by its tests
 
--- an order that was found is that of the board after the call
-pub found-order : (a : Answer) (b : Board) (o : Order) → o ≡ foundBy a b → isFound (o .kind) ≡ true → o ≡ asOrder (carried b)
-found-order Answer.Given b o e h = e
-found-order Answer.Admit b o e h = never h (ap (λ (x : Order). isFound (x .kind)) e)
-found-order Answer.Held b o e h = never h (ap (λ (x : Order). isFound (x .kind)) e)
-found-order Answer.Wait b o e h = never h (ap (λ (x : Order). isFound (x .kind)) e)
-found-order Answer.Unsafe b o e h = never h (ap (λ (x : Order). isFound (x .kind)) e)
-found-order Answer.Done b o e h = never h (ap (λ (x : Order). isFound (x .kind)) e)
-found-order (Answer.Refuse r) b o e h = never h (ap (λ (x : Order). isFound (x .kind)) e)
+pub favoured-is : (sets : Sets) (r : Rest) → boardOf sets r .favoured ≡ r .favoured
+unfolding boardOf
+favoured-is sets r = refl
 
--- the order as it was found
-pub order-whole : (o : Order) (n : ℕ) → o .kind ≡ Search.Found n → _≡_ {A = Order} (record { kind = Search.Found n; at = o .at }) o
-order-whole o n e = sym (ap {B = Order} (λ (k : Search). record { kind = k; at = o .at }) e)
+module _ (b : Board) (p : ℕ) (v q : FileSet) where
+  pub enter-held : b .favoured ≢ 0 → reply (hold b p v q) Answer.Held (line Word.Held p 0 ∷ []) ≡ enter b p v q
+  unfolding enter
+  enter-held e = rw (ne-eqb (b .favoured) 0 e)
+
+  pub enter-for : (w : ℕ) → b .favoured ≡ 0 → overdue b ≡ some w → holdFor b p v q w ≡ enter b p v q
+  unfolding enter
+  enter-for w e o = rw (eq-eqb (b .favoured) 0 e, o)
+
+  pub enter-runs : b .favoured ≡ 0 → overdue b ≡ none → reply (admit b p v q) Answer.Admit (line Word.Admit p 0 ∷ []) ≡ enter b p v q
+  unfolding enter
+  enter-runs e o = rw (eq-eqb (b .favoured) 0 e, o)
+
+module _ (b : Board) (p f : ℕ) where
+  pub open-waits : inUse b p f ≡ true → reply (wait b p f) Answer.Wait (line Word.Wait p f ∷ []) ≡ openFile b p f
+  unfolding openFile
+  open-waits u = rw u
+
+  pub open-unsafe : inUse b p f ≡ false → safe b p f ≡ false → reply (wait b p f) Answer.Unsafe (line Word.Unsafe p f ∷ []) ≡ openFile b p f
+  unfolding openFile
+  open-unsafe u s = rw (u, s)
+
+  pub open-given : inUse b p f ≡ false → safe b p f ≡ true → reply (withGiven b p f) Answer.Given (line Word.Given p f ∷ []) ≡ openFile b p f
+  unfolding openFile
+  open-given u s = rw (u, s)
+
+  -- no order comes back with f given
+  pub not-safe : (r : Order) → r ≡ asOrder (carried (withGiven b p f)) → r .kind ≡ Search.Stuck → safe b p f ≡ false
+  unfolding safe
+  not-safe r o k = ap found (order-none (carried (withGiven b p f)) r o k)
+
+  -- an order does
+  pub is-safe : (r : Order) (n : ℕ) → r ≡ asOrder (carried (withGiven b p f)) → r .kind ≡ Search.Found n → safe b p f ≡ true
+  unfolding safe
+  is-safe r n o k = order-found (carried (withGiven b p f)) r n o k

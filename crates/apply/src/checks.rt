@@ -1,18 +1,19 @@
 // Checks 8 to 16 and 18 of a direct call.
 use files::FileSet;
-use parts::programs;
+use files::WORDS;
 use rules::Check;
-use rules::Program;
 use rules::Refusal;
 use rules::Standing;
 use rules::Verb;
+use store::sets;
 ghost use mathlib.Core.Path.{_≡_};
 ghost use Prim.Native.Nat.{_≤_};
 ghost use Rattle.files.specs.Sets.{isFile};
 ghost use Rattle.rules.specs.Boards.{isProgram};
 ghost use Rattle.rules.specs.declared.Check.{Check};
 ghost use Rattle.rules.specs.Checks.{unlessRunning, unlessStopped};
-ghost use Rattle.apply.specs.Replies.{numberIf, fileFirst, entryCheck, claimCheck, useCheck, nearCheck};
+ghost use Rattle.store.specs.Sets.{IsStore};
+ghost use Rattle.apply.specs.Replies.{numberIf, fileFirst, entryCheck, claimCheckAt, useCheckAt, nearCheck};
 
 // The number if it is a program's, and 0 otherwise.
 pub fn program_of(n: u64) -> u8
@@ -63,33 +64,34 @@ fn running_check(s: Standing, next: Check) -> Check
 }
 
 // 14, 15.
-fn claim_check(q: Program, f: u8) -> Check
-    ensures { λ r. ⌜ r ≡ claimCheck q f ⌝ }
+fn claim_check(sets: &[[u64; WORDS]; 128], p: u8, f: u8) -> Check
+    requires { ⌜ ((1 ≤ p) × (p ≤ 32)) × IsStore (now sets) ⌝ }
+    ensures { λ r. ⌜ r ≡ claimCheckAt (now (sets .entry)) p f ⌝ }
 {
-    if !programs::claims(q, f) {
+    if !sets::has_claim(sets, p, f, true) {
         return Check::Failed(Refusal::NotClaimed);
     }
-    if programs::has_open(q, f) {
+    if sets::has_open(sets, p, f) {
         return Check::Failed(Refusal::IsOpen);
     }
     Check::Passed
 }
 
 // 16.
-fn use_check(q: Program, f: u8) -> Check
-    ensures { λ r. ⌜ r ≡ useCheck q f ⌝ }
+fn use_check(sets: &[[u64; WORDS]; 128], p: u8, f: u8) -> Check
+    requires { ⌜ ((1 ≤ p) × (p ≤ 32)) × IsStore (now sets) ⌝ }
+    ensures { λ r. ⌜ r ≡ useCheckAt (now (sets .entry)) p f ⌝ }
 {
-    if !programs::has_open(q, f) {
+    if !sets::has_open(sets, p, f) {
         return Check::Failed(Refusal::NotOpen);
     }
     Check::Passed
 }
 
 // 9, 10, of a program in range.
-fn check_enter(q: Program, writable: FileSet, readable: FileSet) -> Check
-    ensures { λ r. ⌜ r ≡ entryCheck q writable readable ⌝ }
+fn check_enter(s: Standing, writable: FileSet, readable: FileSet) -> Check
+    ensures { λ r. ⌜ r ≡ entryCheck s writable readable ⌝ }
 {
-    let s = q.standing;
     if !parts::standings::is_absent(s) {
         return Check::Failed(Refusal::NotAbsent);
     }
@@ -100,34 +102,25 @@ fn check_enter(q: Program, writable: FileSet, readable: FileSet) -> Check
 }
 
 // 8 and 11 to 15, of a program in range; for open and for drop.
-fn check_open(q: Program, f: u8) -> Check
-    ensures { λ r. ⌜ r ≡ fileFirst f (unlessRunning (q .standing) (claimCheck q f)) ⌝ }
+fn check_open(sets: &[[u64; WORDS]; 128], p: u8, s: Standing, f: u8) -> Check
+    requires { ⌜ ((1 ≤ p) × (p ≤ 32)) × IsStore (now sets) ⌝ }
+    ensures { λ r. ⌜ r ≡ fileFirst f (unlessRunning s (claimCheckAt (now (sets .entry)) p f)) ⌝ }
 {
-    let s = q.standing;
-    file_check(f, running_check(s, claim_check(q, f)))
+    file_check(f, running_check(s, claim_check(sets, p, f)))
 }
 
 // 8, 11 to 13 and 16, of a program in range.
-fn check_close(q: Program, f: u8) -> Check
-    ensures { λ r. ⌜ r ≡ fileFirst f (unlessRunning (q .standing) (useCheck q f)) ⌝ }
+fn check_close(sets: &[[u64; WORDS]; 128], p: u8, s: Standing, f: u8) -> Check
+    requires { ⌜ ((1 ≤ p) × (p ≤ 32)) × IsStore (now sets) ⌝ }
+    ensures { λ r. ⌜ r ≡ fileFirst f (unlessRunning s (useCheckAt (now (sets .entry)) p f)) ⌝ }
 {
-    let s = q.standing;
-    file_check(f, running_check(s, use_check(q, f)))
-}
-
-// 11 to 13, of a program in range.
-fn check_leave(q: Program) -> Check
-    ensures { λ r. ⌜ r ≡ unlessRunning (q .standing) Check.Passed ⌝ }
-{
-    let s = q.standing;
-    running_check(s, Check::Passed)
+    file_check(f, running_check(s, use_check(sets, p, f)))
 }
 
 // 11, 18, of a program in range.
-fn check_cancel(q: Program) -> Check
-    ensures { λ r. ⌜ r ≡ unlessStopped (q .standing) Check.Passed ⌝ }
+fn check_cancel(s: Standing) -> Check
+    ensures { λ r. ⌜ r ≡ unlessStopped s Check.Passed ⌝ }
 {
-    let s = q.standing;
     match s {
         Standing::Absent => Check::Failed(Refusal::IsAbsent),
         Standing::Running => Check::Failed(Refusal::IsRunning),
@@ -136,16 +129,25 @@ fn check_cancel(q: Program) -> Check
     }
 }
 
-// The checks of the call with this verb, of a program in range.
-pub fn check_call(q: Program, f: u8, verb: Verb, writable: FileSet, readable: FileSet) -> Check
-    ensures { λ r. ⌜ r ≡ nearCheck q f verb writable readable ⌝ }
+// The checks of the call with this verb, of a program in range that has this standing.
+pub fn check_call(
+    sets: &[[u64; WORDS]; 128],
+    p: u8,
+    s: Standing,
+    f: u8,
+    verb: Verb,
+    writable: FileSet,
+    readable: FileSet,
+) -> Check
+    requires { ⌜ ((1 ≤ p) × (p ≤ 32)) × IsStore (now sets) ⌝ }
+    ensures { λ r. ⌜ r ≡ nearCheck (now (sets .entry)) p s f verb writable readable ⌝ }
 {
     match verb {
-        Verb::Enter => check_enter(q, writable, readable),
-        Verb::Open => check_open(q, f),
-        Verb::Close => check_close(q, f),
-        Verb::Drop => check_open(q, f),
-        Verb::Leave => check_leave(q),
-        Verb::Cancel => check_cancel(q),
+        Verb::Enter => check_enter(s, writable, readable),
+        Verb::Open => check_open(sets, p, s, f),
+        Verb::Close => check_close(sets, p, s, f),
+        Verb::Drop => check_open(sets, p, s, f),
+        Verb::Leave => running_check(s, Check::Passed),
+        Verb::Cancel => check_cancel(s),
     }
 }

@@ -1,42 +1,40 @@
-// The rules applied to a sound board: each of the six calls, with checks 8 to 16 and 18.
+// The rules applied to a sound board, which is its sets, lent, and the rest: each of the six calls, with checks 8 to 16 and 18.
 use files::FileSet;
 use files::WORDS;
-use parts::programs;
 use rules::Answer;
 use rules::Asked;
-use rules::Board;
 use rules::Check;
 use rules::Program;
 use rules::Refusal;
 use rules::Standing;
 use rules::Verb;
 use rules::Word;
-use search::Order;
 use search::Search;
-use settling::Written;
+use settling::Progress;
+use store::Rest;
 ghost use mathlib.Core.Path.{_≡_};
 ghost use mathlib.Core.Bool.{true};
 ghost use Prim.Native.Nat.{_≤_, _<_};
 ghost use lib.ListN.{length};
 ghost use Rattle.rules.specs.declared.Check.{Check};
 ghost use Rattle.laws.specs.Lists.{names, padded};
-ghost use Rattle.rules.specs.Boards.{at};
 ghost use Rattle.rules.specs.Soundness.{sound};
 ghost use Rattle.rules.specs.Checks.{enterCheck, openCheck, closeCheck, leaveCheck, cancelCheck};
 ghost use Rattle.rules.specs.Calls.{newcomer, admit, hold, holdFor, enter, wait, openFile, closeFile, dropFile, countLeave, leave};
 ghost use Rattle.rules.specs.Calls.{countCancel, withdrawn, cancel, callWith, callOf, checked, accepted, apply};
 ghost use Rattle.theory.specs.Loose.{Good};
+ghost use Rattle.parts.specs.Entries.{IsEntries, noEntries};
+ghost use Rattle.store.specs.Sets.{IsStore};
+ghost use Rattle.store.specs.Store.{standingAt, boardOf};
 ghost use Rattle.apply.specs.Replies.{ComesTo};
 
 mod checks;
 pub mod replies;
 
-// What a call comes to: the board after it with the lines written, the answer, and the order that it found on its way:
-// an open that gives the file has sought it, other calls seek none.
+// What a call comes to: the rest of the board after it, with the number of lines written, and the answer.
 pub struct Changed {
-    pub written: Written,
+    pub progress: Progress,
     pub answer: Answer,
-    pub found: Order,
 }
 
 // ---- enter
@@ -45,272 +43,354 @@ pub struct Changed {
 fn new_program(writable: FileSet, readable: FileSet, s: Standing) -> Program
     ensures { λ r. ⌜ r ≡ newcomer writable readable s ⌝ }
 {
-    let mut q = Program::ABSENT;
-    q.writable = writable;
-    q.readable = readable;
-    programs::at_standing(q, s)
+    Program {
+        writable,
+        readable,
+        writing: FileSet::EMPTY,
+        reading: FileSet::EMPTY,
+        standing: s,
+    }
 }
 
 // p runs, and the count of each waiting program goes up.
-fn put_running(b: Board, p: u8, writable: FileSet, readable: FileSet) -> Board
-    requires { ⌜ ((1 ≤ p) × (p ≤ 32)) × Good b × (enterCheck b p writable readable ≡ Check.Passed) ⌝ }
-    ensures { λ r. ⌜ r ≡ admit b p writable readable ⌝ }
+fn put_running(
+    sets: &mut [[u64; WORDS]; 128],
+    rest: Rest,
+    p: u8,
+    writable: FileSet,
+    readable: FileSet,
+) -> Rest
+    requires { ⌜ ((1 ≤ p) × (p ≤ 32)) × Good (boardOf (now sets) rest)
+        × (enterCheck (boardOf (now sets) rest) p writable readable ≡ Check.Passed) × IsStore (now sets) ⌝ }
+    ensures { λ r. ⌜ boardOf (now (sets .exit)) r ≡ admit (boardOf (now (sets .entry)) rest) p writable readable ⌝ }
+    ensures { λ _. ⌜ IsStore (now (sets .exit)) ⌝ }
 {
     let runs = new_program(writable, readable, Standing::Running);
-    let mut c = tables::boards::put(b, p, runs);
-    let passed = settling::counts::tally(c);
+    let mut c = store::sets::put(sets, rest, p, runs);
+    let passed = settling::counts::tally(sets, c);
     c.passed = passed;
     c
 }
 
 // p is held, at the end of the entry line.
-fn put_held(b: Board, p: u8, writable: FileSet, readable: FileSet) -> Board
-    requires { ⌜ ((1 ≤ p) × (p ≤ 32)) × ((b .entry ≡ padded 0 (names (b .entry))) × (length (names (b .entry)) < 32)) ⌝ }
-    ensures { λ r. ⌜ r ≡ hold b p writable readable ⌝ }
+fn put_held(
+    sets: &mut [[u64; WORDS]; 128],
+    rest: Rest,
+    p: u8,
+    writable: FileSet,
+    readable: FileSet,
+) -> Rest
+    requires { ⌜ ((1 ≤ p) × (p ≤ 32)) × ((rest .entry ≡ padded 0 (names (rest .entry))) × (length (names (rest .entry)) < 32))
+        × IsStore (now sets) ⌝ }
+    ensures { λ r. ⌜ boardOf (now (sets .exit)) r ≡ hold (boardOf (now (sets .entry)) rest) p writable readable ⌝ }
+    ensures { λ _. ⌜ IsStore (now (sets .exit)) ⌝ }
 {
     let held = new_program(writable, readable, Standing::Held);
-    let line = b.entry;
+    let line = rest.entry;
     let longer = lines::append(line, p);
-    let mut c = tables::boards::put(b, p, held);
+    let mut c = store::sets::put(sets, rest, p, held);
     c.entry = longer;
     c
 }
 
 // p is held, and the waiter w, which eight have passed, is favoured: HELD, then FAVOUR.
-fn hold_for(b: Board, p: u8, writable: FileSet, readable: FileSet, w: u8) -> Changed
-    requires { ⌜ ((1 ≤ p) × (p ≤ 32)) × Good b × (enterCheck b p writable readable ≡ Check.Passed) × ((1 ≤ w) × (w ≤ 32)) ⌝ }
-    ensures { λ r. ⌜ ComesTo r (holdFor b p writable readable w) ⌝ }
+fn hold_for(
+    sets: &mut [[u64; WORDS]; 128],
+    rest: Rest,
+    lines: &mut [[u8; 4]; 32],
+    p: u8,
+    writable: FileSet,
+    readable: FileSet,
+    w: u8,
+) -> Changed
+    requires { ⌜ ((1 ≤ p) × (p ≤ 32)) × Good (boardOf (now sets) rest)
+        × (enterCheck (boardOf (now sets) rest) p writable readable ≡ Check.Passed) × ((1 ≤ w) × (w ≤ 32)) × IsStore (now sets)
+        × (now lines ≡ noEntries) ⌝ }
+    ensures { λ r. ⌜ ComesTo (now (sets .exit)) (now (lines .exit)) r (holdFor (boardOf (now (sets .entry)) rest) p writable readable w) ⌝ }
+    ensures { λ _. ⌜ IsStore (now (sets .exit)) × IsEntries (now (lines .exit)) ⌝ }
 {
-    let c = put_held(b, p, writable, readable);
-    let held = replies::one_line(c, Word::Held, p, 0);
+    let c = put_held(sets, rest, p, writable, readable);
+    let held = replies::one_line(sets, c, lines, Word::Held, p, 0);
+    let progress = settling::favour_waiter(sets, lines, held, w);
     Changed {
-        written: settling::favour_waiter(held, w),
+        progress,
         answer: Answer::Held,
-        found: Order::NONE,
     }
 }
 
 // Enter: with somebody favoured, p is held; with nobody favoured and a waiter whose count is 8, p is held and that waiter favoured;
 // otherwise p runs.
-fn do_enter(b: Board, p: u8, writable: FileSet, readable: FileSet) -> Changed
-    requires { ⌜ ((1 ≤ p) × (p ≤ 32)) × Good b × (enterCheck b p writable readable ≡ Check.Passed) ⌝ }
-    ensures { λ r. ⌜ ComesTo r (enter b p writable readable) ⌝ }
+fn do_enter(
+    sets: &mut [[u64; WORDS]; 128],
+    rest: Rest,
+    lines: &mut [[u8; 4]; 32],
+    p: u8,
+    writable: FileSet,
+    readable: FileSet,
+) -> Changed
+    requires { ⌜ ((1 ≤ p) × (p ≤ 32)) × Good (boardOf (now sets) rest)
+        × (enterCheck (boardOf (now sets) rest) p writable readable ≡ Check.Passed) × IsStore (now sets) × (now lines ≡ noEntries) ⌝ }
+    ensures { λ r. ⌜ ComesTo (now (sets .exit)) (now (lines .exit)) r (enter (boardOf (now (sets .entry)) rest) p writable readable) ⌝ }
+    ensures { λ _. ⌜ IsStore (now (sets .exit)) × IsEntries (now (lines .exit)) ⌝ }
 {
-    let favoured = b.favoured;
+    let favoured = rest.favoured;
     if favoured != 0 {
-        let c = put_held(b, p, writable, readable);
-        return replies::answered(c, Word::Held, p, 0, Answer::Held, Order::NONE);
+        let c = put_held(sets, rest, p, writable, readable);
+        return replies::answered(sets, c, lines, Word::Held, p, 0, Answer::Held);
     }
-    let overdue = settling::counts::oldest_overdue(b);
+    let overdue = settling::counts::oldest_overdue(sets, rest);
     if overdue != 0 {
-        return hold_for(b, p, writable, readable, overdue);
+        return hold_for(sets, rest, lines, p, writable, readable, overdue);
     }
-    let c = put_running(b, p, writable, readable);
-    replies::answered(c, Word::Admit, p, 0, Answer::Admit, Order::NONE)
+    let c = put_running(sets, rest, p, writable, readable);
+    replies::answered(sets, c, lines, Word::Admit, p, 0, Answer::Admit)
 }
 
 // ---- open
 
 // p waits for f, at the end of the waiting line.
-fn put_waiting(b: Board, p: u8, f: u8) -> Board
-    requires { ⌜ ((1 ≤ p) × (p ≤ 32)) × ((b .waiting ≡ padded 0 (names (b .waiting))) × (length (names (b .waiting)) < 32)) ⌝ }
-    ensures { λ r. ⌜ r ≡ wait b p f ⌝ }
+fn put_waiting(sets: &[[u64; WORDS]; 128], rest: Rest, p: u8, f: u8) -> Rest
+    requires { ⌜ ((1 ≤ p) × (p ≤ 32)) × ((rest .waiting ≡ padded 0 (names (rest .waiting))) × (length (names (rest .waiting)) < 32))
+        × IsStore (now sets) ⌝ }
+    ensures { λ r. ⌜ boardOf (now (sets .entry)) r ≡ wait (boardOf (now (sets .entry)) rest) p f ⌝ }
 {
-    let i = (p - 1) as usize;
-    let q = b.programs[i];
-    let waits = programs::at_standing(q, Standing::Waiting(f));
-    let line = b.waiting;
+    let line = rest.waiting;
     let longer = lines::append(line, p);
-    let mut c = tables::boards::put(b, p, waits);
+    let mut c = store::seated(rest, p, Standing::Waiting(f));
     c.waiting = longer;
     c
 }
 
-// Open: WAIT if another program has f in conflicting use; UNSAFE if no order comes back with f given; otherwise GIVEN,
-// with the order that was found.
-fn do_open(b: Board, q: Program, p: u8, f: u8) -> Changed
-    requires { ⌜ ((1 ≤ p) × (p ≤ 32)) × Good b × (openCheck b p f ≡ Check.Passed) × (q ≡ at b p) ⌝ }
-    ensures { λ r. ⌜ ComesTo r (openFile b p f) ⌝ }
+// Open: WAIT if another program has f in conflicting use; UNSAFE if no order comes back with f given; otherwise GIVEN.
+fn do_open(
+    sets: &mut [[u64; WORDS]; 128],
+    rest: Rest,
+    lines: &mut [[u8; 4]; 32],
+    p: u8,
+    f: u8,
+) -> Changed
+    requires { ⌜ ((1 ≤ p) × (p ≤ 32)) × Good (boardOf (now sets) rest) × (openCheck (boardOf (now sets) rest) p f ≡ Check.Passed)
+        × IsStore (now sets) × (now lines ≡ noEntries) ⌝ }
+    ensures { λ r. ⌜ ComesTo (now (sets .exit)) (now (lines .exit)) r (openFile (boardOf (now (sets .entry)) rest) p f) ⌝ }
+    ensures { λ _. ⌜ IsStore (now (sets .exit)) × IsEntries (now (lines .exit)) ⌝ }
 {
-    let mut sets = [[0u64; WORDS]; 128];
-    store::sets::take_sets(b, &mut sets);
-    let admitted = tables::boards::admitted_set(b);
-    let uses = search::gives::uses_in(admitted, &sets);
-    if search::gives::in_use(&sets, uses, p, f) {
-        let c = put_waiting(b, p, f);
-        return replies::answered(c, Word::Wait, p, f, Answer::Wait, Order::NONE);
+    let admitted = tables::boards::admitted_seats(rest);
+    let uses = search::gives::uses_in(admitted, sets);
+    if search::gives::in_use(sets, uses, p, f) {
+        let c = put_waiting(sets, rest, p, f);
+        return replies::answered(sets, c, lines, Word::Wait, p, f, Answer::Wait);
     }
-    let order = search::gives::order_given(&mut sets, admitted, p, f);
+    let order = search::gives::order_given(sets, rest, p, f);
     let kind = order.kind;
-    let Search::Found(n) = kind else {
-        let c = put_waiting(b, p, f);
-        return replies::answered(c, Word::Unsafe, p, f, Answer::Unsafe, Order::NONE);
+    let Search::Found(_) = kind else {
+        let c = put_waiting(sets, rest, p, f);
+        return replies::answered(sets, c, lines, Word::Unsafe, p, f, Answer::Unsafe);
     };
-    let at = order.at;
-    let found = Order {
-        kind: Search::Found(n),
-        at: at,
-    };
-    let given = tables::boards::put(b, p, programs::opening(q, f));
-    replies::answered(given, Word::Given, p, f, Answer::Given, found)
+    store::sets::give(sets, p, f);
+    replies::answered(sets, rest, lines, Word::Given, p, f, Answer::Given)
 }
 
 // ---- close
 
 // Close: f is open no longer.
-fn do_close(b: Board, q: Program, p: u8, f: u8) -> Changed
-    requires { ⌜ ((1 ≤ p) × (p ≤ 32)) × Good b × (closeCheck b p f ≡ Check.Passed) × (q ≡ at b p) ⌝ }
-    ensures { λ r. ⌜ ComesTo r (closeFile b p f) ⌝ }
+fn do_close(
+    sets: &mut [[u64; WORDS]; 128],
+    rest: Rest,
+    lines: &mut [[u8; 4]; 32],
+    p: u8,
+    f: u8,
+) -> Changed
+    requires { ⌜ ((1 ≤ p) × (p ≤ 32)) × Good (boardOf (now sets) rest) × (closeCheck (boardOf (now sets) rest) p f ≡ Check.Passed)
+        × IsStore (now sets) × (now lines ≡ noEntries) ⌝ }
+    ensures { λ r. ⌜ ComesTo (now (sets .exit)) (now (lines .exit)) r (closeFile (boardOf (now (sets .entry)) rest) p f) ⌝ }
+    ensures { λ _. ⌜ IsStore (now (sets .exit)) × IsEntries (now (lines .exit)) ⌝ }
 {
-    let c = tables::boards::put(b, p, programs::closing(q, f));
-    replies::done(c, p, f)
+    store::sets::close(sets, p, f);
+    replies::done(sets, rest, lines, p, f)
 }
 
 // ---- drop
 
 // Drop: f leaves p's claim.
-fn do_drop(b: Board, q: Program, p: u8, f: u8) -> Changed
-    requires { ⌜ ((1 ≤ p) × (p ≤ 32)) × Good b × (openCheck b p f ≡ Check.Passed) × (q ≡ at b p) ⌝ }
-    ensures { λ r. ⌜ ComesTo r (dropFile b p f) ⌝ }
+fn do_drop(
+    sets: &mut [[u64; WORDS]; 128],
+    rest: Rest,
+    lines: &mut [[u8; 4]; 32],
+    p: u8,
+    f: u8,
+) -> Changed
+    requires { ⌜ ((1 ≤ p) × (p ≤ 32)) × Good (boardOf (now sets) rest) × (openCheck (boardOf (now sets) rest) p f ≡ Check.Passed)
+        × IsStore (now sets) × (now lines ≡ noEntries) ⌝ }
+    ensures { λ r. ⌜ ComesTo (now (sets .exit)) (now (lines .exit)) r (dropFile (boardOf (now (sets .entry)) rest) p f) ⌝ }
+    ensures { λ _. ⌜ IsStore (now (sets .exit)) × IsEntries (now (lines .exit)) ⌝ }
 {
-    let c = tables::boards::put(b, p, programs::dropping(q, f));
-    replies::done(c, p, f)
+    store::sets::drop(sets, p, f);
+    replies::done(sets, rest, lines, p, f)
 }
 
 // ---- leave
 
 // The leave is counted if somebody was favoured before it.
-fn counted(b: Board) -> Board
-    requires { ⌜ b .leaves ≤ 32 ⌝ }
-    ensures { λ r. ⌜ r ≡ countLeave b ⌝ }
+fn counted(sets: &[[u64; WORDS]; 128], rest: Rest) -> Rest
+    requires { ⌜ rest .leaves ≤ 32 ⌝ }
+    ensures { λ r. ⌜ boardOf (now (sets .entry)) r ≡ countLeave (boardOf (now (sets .entry)) rest) ⌝ }
 {
-    let favoured = b.favoured;
+    let favoured = rest.favoured;
     if favoured == 0 {
-        return b;
+        return rest;
     }
-    let n = b.leaves;
-    let mut c = b;
+    let n = rest.leaves;
+    let mut c = rest;
     c.leaves = n + 1;
     c
 }
 
 // Leave: all its files and claims go.
-fn do_leave(b: Board, p: u8) -> Changed
-    requires { ⌜ ((1 ≤ p) × (p ≤ 32)) × Good b × (leaveCheck b p ≡ Check.Passed) ⌝ }
-    ensures { λ r. ⌜ ComesTo r (leave b p) ⌝ }
+fn do_leave(sets: &mut [[u64; WORDS]; 128], rest: Rest, lines: &mut [[u8; 4]; 32], p: u8) -> Changed
+    requires { ⌜ ((1 ≤ p) × (p ≤ 32)) × Good (boardOf (now sets) rest) × (leaveCheck (boardOf (now sets) rest) p ≡ Check.Passed)
+        × IsStore (now sets) × (now lines ≡ noEntries) ⌝ }
+    ensures { λ r. ⌜ ComesTo (now (sets .exit)) (now (lines .exit)) r (leave (boardOf (now (sets .entry)) rest) p) ⌝ }
+    ensures { λ _. ⌜ IsStore (now (sets .exit)) × IsEntries (now (lines .exit)) ⌝ }
 {
     let gone = Program::ABSENT;
-    let c = counted(tables::boards::put(b, p, gone));
-    replies::done(c, p, 0)
+    let left = store::sets::put(sets, rest, p, gone);
+    let c = counted(sets, left);
+    replies::done(sets, c, lines, p, 0)
 }
 
 // ---- cancel
 
 // A cancelled favoured program is favoured no longer; otherwise the cancel of a waiter counts as a leave.
-fn cancel_counted(b: Board, p: u8) -> Board
-    requires { ⌜ b .leaves ≤ 32 ⌝ }
-    ensures { λ r. ⌜ r ≡ countCancel b p ⌝ }
+fn cancel_counted(sets: &[[u64; WORDS]; 128], rest: Rest, p: u8) -> Rest
+    requires { ⌜ rest .leaves ≤ 32 ⌝ }
+    ensures { λ r. ⌜ boardOf (now (sets .entry)) r ≡ countCancel (boardOf (now (sets .entry)) rest) p ⌝ }
 {
-    let favoured = b.favoured;
+    let favoured = rest.favoured;
     if favoured == p {
-        let mut c = b;
+        let mut c = rest;
         c.favoured = 0;
         c.initial = 0;
         c.leaves = 0;
         return c;
     }
-    counted(b)
+    counted(sets, rest)
 }
 
 // The program goes, out of its line, and its count is 0.
-fn withdraw(b: Board, p: u8, s: Standing) -> Board
-    requires { ⌜ ((1 ≤ p) × (p ≤ 32)) × (b .leaves ≤ 32) ⌝ }
-    ensures { λ r. ⌜ r ≡ withdrawn b p s ⌝ }
+fn withdraw(sets: &mut [[u64; WORDS]; 128], rest: Rest, p: u8, s: Standing) -> Rest
+    requires { ⌜ ((1 ≤ p) × (p ≤ 32)) × (rest .leaves ≤ 32) × IsStore (now sets) ⌝ }
+    ensures { λ r. ⌜ boardOf (now (sets .exit)) r ≡ withdrawn (boardOf (now (sets .entry)) rest) p s ⌝ }
+    ensures { λ _. ⌜ IsStore (now (sets .exit)) ⌝ }
 {
     let gone = Program::ABSENT;
     match s {
-        Standing::Absent => b,
-        Standing::Running => b,
+        Standing::Absent => rest,
+        Standing::Running => rest,
         Standing::Waiting(_) => {
-            let line = b.waiting;
+            let line = rest.waiting;
             let waiters = lines::remove(line, p);
-            let mut c = tables::boards::put(b, p, gone);
+            let mut c = store::sets::put(sets, rest, p, gone);
             c.waiting = waiters;
             let i = (p - 1) as usize;
             c.passed[i] = 0;
-            cancel_counted(c, p)
+            cancel_counted(sets, c, p)
         }
         Standing::Held => {
-            let line = b.entry;
+            let line = rest.entry;
             let held = lines::remove(line, p);
-            let mut c = tables::boards::put(b, p, gone);
+            let mut c = store::sets::put(sets, rest, p, gone);
             c.entry = held;
             c
         }
     }
 }
 
-// Cancel: the program goes with its files and claims.
-fn do_cancel(b: Board, q: Program, p: u8) -> Changed
-    requires { ⌜ ((1 ≤ p) × (p ≤ 32)) × Good b × (cancelCheck b p ≡ Check.Passed) × (q ≡ at b p) ⌝ }
-    ensures { λ r. ⌜ ComesTo r (cancel b p) ⌝ }
+// Cancel: the program, which has this standing, goes with its files and claims.
+fn do_cancel(
+    sets: &mut [[u64; WORDS]; 128],
+    rest: Rest,
+    lines: &mut [[u8; 4]; 32],
+    p: u8,
+    s: Standing,
+) -> Changed
+    requires { ⌜ ((1 ≤ p) × (p ≤ 32)) × Good (boardOf (now sets) rest) × (cancelCheck (boardOf (now sets) rest) p ≡ Check.Passed)
+        × (s ≡ standingAt rest p) × IsStore (now sets) × (now lines ≡ noEntries) ⌝ }
+    ensures { λ r. ⌜ ComesTo (now (sets .exit)) (now (lines .exit)) r (cancel (boardOf (now (sets .entry)) rest) p) ⌝ }
+    ensures { λ _. ⌜ IsStore (now (sets .exit)) × IsEntries (now (lines .exit)) ⌝ }
 {
-    let s = q.standing;
-    let c = withdraw(b, p, s);
-    replies::done(c, p, 0)
+    let c = withdraw(sets, rest, p, s);
+    replies::done(sets, c, lines, p, 0)
 }
 
 // ---- any call
 
-// The call with this verb, once its checks have passed.
+// The call with this verb, of a program with this standing, once its checks have passed.
 fn accept(
-    b: Board,
-    q: Program,
+    sets: &mut [[u64; WORDS]; 128],
+    rest: Rest,
+    lines: &mut [[u8; 4]; 32],
     p: u8,
+    s: Standing,
     f: u8,
     verb: Verb,
     writable: FileSet,
     readable: FileSet,
 ) -> Changed
-    requires { ⌜ ((1 ≤ p) × (p ≤ 32)) × Good b × (checked b (callWith verb p f writable readable) ≡ Check.Passed) × (q ≡ at b p) ⌝ }
-    ensures { λ r. ⌜ ComesTo r (accepted b (callWith verb p f writable readable)) ⌝ }
+    requires { ⌜ ((1 ≤ p) × (p ≤ 32)) × Good (boardOf (now sets) rest)
+        × (checked (boardOf (now sets) rest) (callWith verb p f writable readable) ≡ Check.Passed) × (s ≡ standingAt rest p)
+        × IsStore (now sets) × (now lines ≡ noEntries) ⌝ }
+    ensures { λ r. ⌜ ComesTo (now (sets .exit)) (now (lines .exit)) r
+        (accepted (boardOf (now (sets .entry)) rest) (callWith verb p f writable readable)) ⌝ }
+    ensures { λ _. ⌜ IsStore (now (sets .exit)) × IsEntries (now (lines .exit)) ⌝ }
 {
     match verb {
-        Verb::Enter => do_enter(b, p, writable, readable),
-        Verb::Open => do_open(b, q, p, f),
-        Verb::Close => do_close(b, q, p, f),
-        Verb::Drop => do_drop(b, q, p, f),
-        Verb::Leave => do_leave(b, p),
-        Verb::Cancel => do_cancel(b, q, p),
+        Verb::Enter => do_enter(sets, rest, lines, p, writable, readable),
+        Verb::Open => do_open(sets, rest, lines, p, f),
+        Verb::Close => do_close(sets, rest, lines, p, f),
+        Verb::Drop => do_drop(sets, rest, lines, p, f),
+        Verb::Leave => do_leave(sets, rest, lines, p),
+        Verb::Cancel => do_cancel(sets, rest, lines, p, s),
     }
 }
 
 // The call of a program in range: its checks, then the call.
-fn call_by(b: Board, p: u8, a: Asked) -> Changed
-    requires { ⌜ ((1 ≤ p) × (p ≤ 32)) × (p ≡ a .program) × Good b ⌝ }
-    ensures { λ r. ⌜ ComesTo r (apply b (callOf a)) ⌝ }
+fn call_by(
+    sets: &mut [[u64; WORDS]; 128],
+    rest: Rest,
+    lines: &mut [[u8; 4]; 32],
+    p: u8,
+    a: Asked,
+) -> Changed
+    requires { ⌜ ((1 ≤ p) × (p ≤ 32)) × (p ≡ a .program) × Good (boardOf (now sets) rest) × IsStore (now sets) × (now lines ≡ noEntries) ⌝ }
+    ensures { λ r. ⌜ ComesTo (now (sets .exit)) (now (lines .exit)) r (apply (boardOf (now (sets .entry)) rest) (callOf a)) ⌝ }
+    ensures { λ _. ⌜ IsStore (now (sets .exit)) × IsEntries (now (lines .exit)) ⌝ }
 {
     let f = checks::file_of(a.file);
     let writable = a.writable;
     let readable = a.readable;
     let verb = a.verb;
-    let i = (p - 1) as usize;
-    let q = b.programs[i];
-    let check = checks::check_call(q, f, verb, writable, readable);
+    let s = store::standing_at(rest, p);
+    let check = checks::check_call(sets, p, s, f, verb, writable, readable);
     match check {
-        Check::Passed => accept(b, q, p, f, verb, writable, readable),
-        Check::Failed(refusal) => replies::refused(b, refusal),
+        Check::Passed => accept(sets, rest, lines, p, s, f, verb, writable, readable),
+        Check::Failed(refusal) => replies::refused(sets, rest, lines, refusal),
     }
 }
 
-// The call that is asked for, on a sound board.
-pub fn call(b: Board, a: Asked) -> Changed
-    requires { ⌜ sound b ≡ true ⌝ }
-    ensures { λ r. ⌜ ComesTo r (apply b (callOf a)) ⌝ }
+// The call that is asked for, on a sound board; no line is written yet.
+pub fn call(
+    sets: &mut [[u64; WORDS]; 128],
+    rest: Rest,
+    lines: &mut [[u8; 4]; 32],
+    a: Asked,
+) -> Changed
+    requires { ⌜ (sound (boardOf (now sets) rest) ≡ true) × IsStore (now sets) × (now lines ≡ noEntries) ⌝ }
+    ensures { λ r. ⌜ ComesTo (now (sets .exit)) (now (lines .exit)) r (apply (boardOf (now (sets .entry)) rest) (callOf a)) ⌝ }
+    ensures { λ _. ⌜ IsStore (now (sets .exit)) × IsEntries (now (lines .exit)) ⌝ }
 {
     let p = checks::program_of(a.program);
     if p == 0 {
-        return replies::refused(b, Refusal::OutOfRange);
+        return replies::refused(sets, rest, lines, Refusal::OutOfRange);
     }
-    call_by(b, p, a)
+    call_by(sets, rest, lines, p, a)
 }

@@ -17,8 +17,7 @@ use Rattle.theory.specs.Programs.{mem-everyone}
 use Rattle.theory.specs.Loose.{Loose, Counts}
 use Rattle.theory.specs.Settling.{Admitted, admit-held, run-one, run-stop}
 use Rattle.lines.proofs.Laws.{names-on, names-stop, padded-length}
-use Rattle.settling.specs.declared.Written.{Written}
-use Rattle.settling.specs.Writing.{after, Fits, admitOne}
+use Rattle.settling.specs.Writing.{Written, after, Fits, admitOne}
 use Rattle.settling.proofs.Laws.{after-then, after-still, nobody-first, somebody-first}
 
 pub overdue-none : (b : Board) (n : ℕ) → Loose b → n ≡ Option·getD (overdue b) 0 → n ≡ 0 → overdue b ≡ none

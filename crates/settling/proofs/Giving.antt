@@ -24,15 +24,18 @@ use Rattle.laws.specs.Laws.{_∈_, Pairs, here, each-all}
 use Rattle.theory.specs.Programs.{Is, of-is, Sized, standing-same}
 use Rattle.theory.specs.Loose.{Loose, waiting-in}
 use Rattle.tables.specs.declared.ProgramSet.{ProgramSet}
-use Rattle.store.specs.Sets.{Sets, SetsOf, givenAt}
+use Rattle.store.specs.declared.Rest.{Rest}
+use Rattle.store.specs.Sets.{Sets, IsStore, SetsOf, givenAt}
+use Rattle.store.specs.Store.{boardOf}
+use Rattle.store.proofs.Boards.{board-at}
+use Rattle.store.proofs.Changing.{served-board}
 use Rattle.store.proofs.Given.{sets-given}
 use Rattle.tables.proofs.Given.{packed-same}
 use Rattle.search.specs.declared.Uses.{Uses}
 use Rattle.tables.specs.Boards.{admits, admittedSet}
 use Rattle.search.specs.Gives.{usesOf, usesIn}
 use Rattle.lines.proofs.Laws.{names-on, names-end}
-use Rattle.settling.specs.declared.Written.{Written}
-use Rattle.settling.specs.Writing.{Fits, Ready, NextGiven, serve, AskedOf, Asks, NextFor}
+use Rattle.settling.specs.Writing.{Written, Fits, Ready, NextGiven, serve, servedRest, AskedOf, Asks, NextFor}
 use Rattle.settling.proofs.Laws.{PassAt, pass-to, pass-range, pass-next, give-fits, give-some}
 
 -- the board with the waiter p given f
@@ -84,6 +87,22 @@ module _ (c : Board) (p f : ℕ) (z : Sized (c .programs)) (i : Is p) where
   asks-given ps asked r a x m = a x (List·Memᴰ·tail m)
       ∙ sym (ap (λ (q : Program). awaitedOf (q .standing)) (given-there x (r .2 x (List·Memᴰ·tail m) .0) (λ d. r .1 .0 x m (sym d))))
 
+-- the sets with the file given, and the rest with the waiter served, are that board
+pub served-is : (sets : Sets) (r : Rest) (p f : ℕ) → IsStore sets → length (r .seats) ≡ 32 → Is p
+    → boardOf (givenAt sets p f) (servedRest r p) ≡ givenTo (boardOf sets r) p f
+unfolding boardOf
+served-is sets r p f s n i = ap (λ (x : List Program). let c = boardOf sets r in let m : ℕ → ℕ = (λ k. cond (eqb (c .favoured) p) 0 k) in
+    uncount (setFavour (setWaiting (record {
+      programs = x;
+      waiting = c .waiting;
+      entry = c .entry;
+      favoured = c .favoured;
+      initial = c .initial;
+      leaves = c .leaves;
+      passed = c .passed;
+    }) (without p (names (c .waiting)))) (m (c .favoured)) (m (c .initial)) (m (c .leaves))) p)
+    (ap (λ (b : Board). b .programs) (served-board sets r p f (i .least) (i .most) s Standing.Running n))
+
 -- ---- the sets, with a file given
 
 sets-served : (c : Board) (p f : ℕ) (sets : Sets) → Sized (c .programs) → Is p → SetsOf c sets → SetsOf (givenTo c p f) (givenAt sets p f)
@@ -99,8 +118,10 @@ pub record At (w : Written) (l asked : List ℕ) (k : ℕ) (s : Written) (sets :
   pub asks : Asks (s .board) (names (drop k l)) asked
 
 -- all that wait are asked
-pub asks-all : (b : Board) (asked : List ℕ) → Loose b → AskedOf b asked → Asks b (names (b .waiting)) asked
-asks-all b asked k a p m = let i = k .waits .of p m .0 in let x = i .least in let y = i .most in a .1 (p - 1) (omega arith)
+pub asks-all : (sets : Sets) (r : Rest) (asked : List ℕ) → Loose (boardOf sets r) → AskedOf r asked
+    → Asks (boardOf sets r) (names (boardOf sets r .waiting)) asked
+asks-all sets r asked k a p m = let i = k .waits .of p m .0 in let x = i .least in let y = i .most in
+    a .1 (p - 1) (omega arith) ∙ sym (ap (λ (q : Program). awaitedOf (q .standing)) (board-at sets r p x y))
 
 pub asks-none : (b : Board) (l asked : List ℕ) → length l ≡ 32 → Asks b (names (drop 32 l)) asked
 asks-none b l asked n p m = absurd (List·Memᴰ·not-nil (subst (λ (ps : List ℕ). p ∈ ps) (names-end l 32 (omega arith)) m))

@@ -25,13 +25,14 @@ use Rattle.theory.specs.Programs.{Is, of-is}
 use Rattle.theory.specs.Loose.{waitsIn, Loose, Counts}
 use Rattle.theory.specs.Settling.{pass-passed}
 use Rattle.theory.specs.Sound.{loose-apart, loose-order, loose-waiter}
-use Rattle.store.specs.Sets.{Sets, inPlace, SetsOf}
+use Rattle.store.specs.declared.Rest.{Rest}
+use Rattle.store.specs.Sets.{Sets, SetsOf}
+use Rattle.store.specs.Store.{noSeat}
 use Rattle.search.specs.declared.Uses.{Uses}
 use Rattle.search.specs.Gives.{usesOf, usedIn, giveIn}
 use Rattle.search.proofs.Used.{used-by, give-by}
 use Rattle.lines.proofs.Laws.{names-on, names-end}
-use Rattle.settling.specs.declared.Written.{Written}
-use Rattle.settling.specs.Writing.{Ready, NextGiven, after, Fits, unused, AskedTo, Asks}
+use Rattle.settling.specs.Writing.{Written, Ready, NextGiven, after, Fits, unused, AskedTo, Asks}
 
 -- ---- lines after lines
 
@@ -146,9 +147,9 @@ next-none b l from k o n r e d = let z : names (drop k l) ≡ names (drop 32 l) 
 }
 
 -- one file more that is waited for
-pub asked-more : (b : Board) (i : ℕ) (asked : List ℕ) (f : ℕ) → i < 32 → length asked ≡ 32 → AskedTo b i asked
-    → f ≡ awaitedOf (inPlace b i .standing) → AskedTo b (i + 1) (set asked i f)
-asked-more b i asked f h n a e j m = by-test (eqb j i)
+pub asked-more : (r : Rest) (i : ℕ) (asked : List ℕ) (f : ℕ) → i < 32 → length asked ≡ 32 → AskedTo r i asked
+    → f ≡ awaitedOf (getD (r .seats) i noSeat .standing) → AskedTo r (i + 1) (set asked i f)
+asked-more r i asked f h n a e j m = by-test (eqb j i)
     (λ t. let z : j ≡ i = eqb-true j i t in rw z (getD-set-same asked i f 0 (omega arith) ∙ e))
     (λ t. let z : j ≢ i = eqb-false j i t in getD-set-other asked i j f 0 z ∙ a j (omega arith))
 

@@ -3,25 +3,40 @@
 use Prim.Native.Nat.{ℕ, _+_, _-_, _≤_, _<_}
 use mathlib.Core.Path.{_≡_}
 use mathlib.Core.Logic.{_≢_}
-use mathlib.Core.Bool.{Bool, true, not}
+use mathlib.Core.Bool.{Bool, true, not, cond}
+use lib.Dec.{eqb}
 use mathlib.Core.List.{List, [], _∷_}
-use lib.ListN.{length, getD, drop}
+use lib.ListN.{length, getD, set, drop}
 use lib.Seq.{sets}
 use Rattle.rules.specs.declared.Standing.{Standing}
 use Rattle.rules.specs.declared.Program.{Program}
 use Rattle.rules.specs.declared.Board.{Board}
 use Rattle.rules.specs.declared.Word.{Word}
-use Rattle.laws.specs.Lists.{names, without}
+use Rattle.rules.specs.declared.Line.{Line}
+use Rattle.laws.specs.Lists.{names, padded, without}
 use Rattle.rules.specs.Boards.{awaited, awaitedOf, setStanding, opening}
 use Rattle.rules.specs.Orders.{inUse, canGive}
 use Rattle.rules.specs.Settling.{Step, line, pass, admitHeld}
 use Rattle.laws.specs.Laws.{_∈_, NoRepeat}
 use Rattle.theory.specs.Programs.{Is}
 use Rattle.theory.specs.Loose.{Loose, waitsIn, countIn}
-use Rattle.store.specs.Sets.{Sets, inPlace, SetsOf}
+use Rattle.parts.specs.Entries.{Entries, linesIn}
+use Rattle.store.specs.declared.Rest.{Rest}
+use Rattle.store.specs.Sets.{Sets, SetsOf}
+use Rattle.store.specs.Store.{noSeat, withWaiting, withFavour, withPassed, seatedAt, boardOf}
 use Rattle.search.specs.declared.Uses.{Uses}
 use Rattle.search.specs.Gives.{usesOf}
-use Rattle.settling.specs.declared.Written.{Written}
+use Rattle.settling.specs.declared.Progress.{Progress}
+
+-- a board, and the lines written so far: the first `count` of 32 places
+pub record Written : Type 0 where
+  pub board : Board
+  pub lines : List Line
+  pub count : ℕ
+
+-- the board of these sets and the rest, with the lines that stand in the array
+abbrev pub writtenIn : Sets → Entries → Progress → Written
+writtenIn sets lines w = record { board = boardOf sets (w .rest); lines = linesIn lines; count = w .count }
 
 -- the step's board, with its lines after those of w
 abbrev pub after : Written → Step → Written
@@ -55,13 +70,19 @@ pub record NextGiven (b : Board) (l : List ℕ) (from to : ℕ) : Type 0 where
 abbrev pub serve : Program → ℕ → Program
 serve q f = setStanding (opening q f) Standing.Running
 
+-- the rest with the waiter p given its file: it runs, out of the line, its count is 0, and it is favoured no longer
+abbrev pub servedRest : Rest → ℕ → Rest
+servedRest r p = let n : ℕ → ℕ = (λ k. cond (eqb (r .favoured) p) 0 k) in
+    withPassed (withFavour (withWaiting (seatedAt r p Standing.Running) (padded 0 (without p (names (r .waiting)))))
+    (n (r .favoured)) (n (r .initial)) (n (r .leaves))) (set (r .passed) (p - 1) 0)
+
 -- the files that the first n programs wait for stand in their places
-abbrev pub AskedTo : Board → ℕ → List ℕ → Type 0
-AskedTo b n asked = (i : ℕ) → i < n → getD asked i 0 ≡ awaitedOf (inPlace b i .standing)
+abbrev pub AskedTo : Rest → ℕ → List ℕ → Type 0
+AskedTo r n asked = (i : ℕ) → i < n → getD asked i 0 ≡ awaitedOf (getD (r .seats) i noSeat .standing)
 
 -- and those of all, in 32 places
-abbrev pub AskedOf : Board → List ℕ → Type 0
-AskedOf b asked = (length asked ≡ 32) × AskedTo b 32 asked
+abbrev pub AskedOf : Rest → List ℕ → Type 0
+AskedOf r asked = (length asked ≡ 32) × AskedTo r 32 asked
 
 -- the files that these wait for stand in their places
 abbrev pub Asks : Board → List ℕ → List ℕ → Type 0

@@ -1,6 +1,7 @@
 // The counts: for each waiting program, how many were admitted since it began to wait.
-use rules::Board;
+use files::WORDS;
 use rules::Standing;
+use store::Rest;
 ghost use mathlib.Core.Path.{_≡_};
 ghost use mathlib.Core.Bool.{true, cond};
 ghost use mathlib.Core.Option.{Option·getD};
@@ -8,6 +9,7 @@ ghost use Prim.Native.Nat.{_+_, _<_};
 ghost use Rattle.laws.specs.Lists.{all, names};
 ghost use Rattle.rules.specs.Boards.{isProgram, isWaiting, tallied};
 ghost use Rattle.rules.specs.Settling.{overdue};
+ghost use Rattle.store.specs.Store.{boardOf};
 ghost use Rattle.settling.specs.Writing.{CountsFew};
 
 // The count of a program with this standing when one more is admitted.
@@ -22,27 +24,27 @@ fn one_more(s: Standing, n: u8) -> u8
 }
 
 // The counts when one more is admitted: that of each waiting program goes up by 1, and is 0 for all others.
-pub fn tally(b: Board) -> [u8; 32]
-    requires { ⌜ CountsFew (b .passed) ⌝ }
-    ensures { λ r. ⌜ r ≡ tallied b ⌝ }
+pub fn tally(sets: &[[u64; WORDS]; 128], rest: Rest) -> [u8; 32]
+    requires { ⌜ CountsFew (rest .passed) ⌝ }
+    ensures { λ r. ⌜ r ≡ tallied (boardOf (now (sets .entry)) rest) ⌝ }
 {
     let mut counts = [0u8; 32];
     let mut i: usize = 0;
     while i < 32 {
-        let q = b.programs[i];
-        let s = q.standing;
-        counts[i] = one_more(s, b.passed[i]);
+        let seat = rest.seats[i];
+        let s = seat.standing;
+        counts[i] = one_more(s, rest.passed[i]);
         i += 1;
     }
     counts
 }
 
 // The oldest waiter whose count is 8, or 0.
-pub fn oldest_overdue(b: Board) -> u8
-    requires { ⌜ all isProgram (names (b .waiting)) ≡ true ⌝ }
-    ensures { λ r. ⌜ r ≡ Option·getD (overdue b) 0 ⌝ }
+pub fn oldest_overdue(sets: &[[u64; WORDS]; 128], rest: Rest) -> u8
+    requires { ⌜ all isProgram (names (rest .waiting)) ≡ true ⌝ }
+    ensures { λ r. ⌜ r ≡ Option·getD (overdue (boardOf (now (sets .entry)) rest)) 0 ⌝ }
 {
-    let line = b.waiting;
+    let line = rest.waiting;
     let mut k: usize = 0;
     while k < 32 {
         let p = line[k];
@@ -50,7 +52,7 @@ pub fn oldest_overdue(b: Board) -> u8
             return 0;
         }
         let i = tables::boards::place_of(p);
-        if b.passed[i] == 8 {
+        if rest.passed[i] == 8 {
             return p;
         }
         k += 1;

@@ -1,55 +1,70 @@
 -- `do_enter` meets its contract. Assumes nothing.
-use mathlib.Core.Path.{ap}
+use mathlib.Core.Path.{_≡_, sym, ap, subst, _∙_}
+use mathlib.Core.Logic.{_≢_}
 use mathlib.Core.List.{[], _∷_}
-use borrow.Author.Tests.{eq-eqb, ne-eqb}
+use Prim.Native.Nat.{ℕ}
 use Rattle.rules.specs.declared.Board.{Board}
 use Rattle.rules.specs.declared.Answer.{Answer}
 use Rattle.rules.specs.declared.Word.{Word}
 use Rattle.rules.specs.Settling.{line}
 use Rattle.rules.specs.Replies.{reply}
-use Rattle.rules.specs.Calls.{enter}
+use Rattle.store.specs.Store.{boardOf}
 use Rattle.settling.proofs.Laws.{all-waiting}
 use Rattle.settling.proofs.Admitting.{overdue-none, overdue-some}
-use Rattle.apply.proofs.Laws.{comes, entry-free}
+use Rattle.apply.proofs.Laws.{entry-free, favoured-is, enter-held, enter-for, enter-runs}
 use borrow.Author.Needs.{needs}
 use Rattle.apply.proofs.do_enter.Statement.{statement}
 use Rattle.apply.proofs.do_enter.Tie as tie
 
+abbrev board : tie.Start → Board
+board s = boardOf (s .args .sets .now) (s .args .rest)
+
+-- nobody is favoured
+nobody : (i : tie.Else1) → board (i .before) .favoured ≡ 0
+nobody i = let a = i .before .args in favoured-is (a .sets .now) (a .rest) ∙ i .if1 .left
+
 put-held-requires : tie.Need-put-held-requires
-put-held-requires c κs = let s = c .before in let a = s .args in (s .pre .0, entry-free (a .b) (a .p) (a .writable) (a .readable) (s .pre .1) (s .pre .2))
+put-held-requires c κs = let s = c .before .before in let a = s .args in
+    (s .pre .0, entry-free (a .sets .now) (a .rest) (a .p) (a .writable) (a .readable) (s .pre .1) (s .pre .2), s .pre .3)
 
 returns : tie.Need-returns
-unfolding enter
-returns c = let h = c .before in let i = h .before in let a = i .before .args in
-    rw (ne-eqb (a .b .favoured) 0 (i .if1 .taken))
-    (comes (c .answered .ensures) (ap (λ (x : Board). reply x Answer.Held (line Word.Held (a .p) 0 ∷ [])) (h .put-held .ensures)))
+returns c = let h = c .before .before .before in let i = h .before .before in let s = i .before in let a = s .args in (
+  c .answered .ensures .0 ∙ ap (λ (x : Board). reply x Answer.Held (line Word.Held (a .p) 0 ∷ [])) (h .put-held .ensures .0)
+      ∙ enter-held (board s) (a .p) (a .writable) (a .readable)
+      (subst (λ (n : ℕ). n ≢ 0) (sym (favoured-is (a .sets .now) (a .rest))) (i .if1 .taken)),
+  (h .put-held .ensures .1, c .answered .ensures .1),
+)
 
 oldest-overdue-requires : tie.Need-oldest-overdue-requires
-oldest-overdue-requires c κs = let s = c .before in all-waiting (s .args .b) (s .pre .1 .loose)
+unfolding boardOf
+oldest-overdue-requires c κs = let s = c .before .before in all-waiting (board s) (s .pre .1 .loose)
 
 hold-for-requires : tie.Need-hold-for-requires
-hold-for-requires c κs = let o = c .before in let s = o .before .before in let a = s .args in (
+hold-for-requires c κs = let i = c .before .before in let o = i .before in let s = o .before .before .before in (
   s .pre .0,
   s .pre .1,
   s .pre .2,
-  overdue-some (a .b) (o .oldest-overdue .result) (s .pre .1 .loose) (o .oldest-overdue .ensures) (c .if2 .taken) .1,
+  overdue-some (board s) (o .oldest-overdue .result) (s .pre .1 .loose) (o .oldest-overdue .ensures) (i .if2 .taken) .1,
+  s .pre .3,
+  s .pre .4,
 )
 
 returns-2 : tie.Need-returns-2
-unfolding enter
-returns-2 c = let i = c .before in let o = i .before in let e = o .before in let s = e .before in let a = s .args in
-    rw (
-      eq-eqb (a .b .favoured) 0 (e .if1 .left),
-      overdue-some (a .b) (o .oldest-overdue .result) (s .pre .1 .loose) (o .oldest-overdue .ensures) (i .if2 .taken) .0,
-    ) (c .hold-for .ensures)
+returns-2 c = let i = c .before .before .before in let o = i .before in let e = o .before .before in let s = e .before in let a = s .args in (
+  c .hold-for .ensures .0
+      ∙ enter-for (board s) (a .p) (a .writable) (a .readable) (o .oldest-overdue .result) (nobody e)
+      (overdue-some (board s) (o .oldest-overdue .result) (s .pre .1 .loose) (o .oldest-overdue .ensures) (i .if2 .taken) .0),
+  c .hold-for .ensures .1,
+)
 
 returns-3 : tie.Need-returns-3
-unfolding enter
-returns-3 c = let r = c .before in let i = r .before in let o = i .before in let e = o .before in let s = e .before in let a = s .args in
-    rw (
-      eq-eqb (a .b .favoured) 0 (e .if1 .left),
-      overdue-none (a .b) (o .oldest-overdue .result) (s .pre .1 .loose) (o .oldest-overdue .ensures) (i .if2 .left),
-    ) (comes (c .answered2 .ensures) (ap (λ (x : Board). reply x Answer.Admit (line Word.Admit (a .p) 0 ∷ [])) (r .put-running .ensures)))
+returns-3 c = let r = c .before .before .before in let i = r .before .before in let o = i .before in let e = o .before .before in
+    let s = e .before in let a = s .args in (
+      c .answered2 .ensures .0 ∙ ap (λ (x : Board). reply x Answer.Admit (line Word.Admit (a .p) 0 ∷ [])) (r .put-running .ensures .0)
+          ∙ enter-runs (board s) (a .p) (a .writable) (a .readable) (nobody e)
+          (overdue-none (board s) (o .oldest-overdue .result) (s .pre .1 .loose) (o .oldest-overdue .ensures) (i .if2 .left)),
+      (r .put-running .ensures .1, c .answered2 .ensures .1),
+    )
 
 pub do-enter-spec : {M : Type 1} → statement M
 do-enter-spec =

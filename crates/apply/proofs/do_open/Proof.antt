@@ -1,123 +1,122 @@
 -- `do_open` meets its contract. Assumes nothing.
-use mathlib.Core.Path.{_≡_, refl, sym, ap, _∙_}
+use mathlib.Core.Path.{_≡_, sym, ap, subst, _∙_}
 use mathlib.Core.List.{[], _∷_}
 use Rattle.rules.specs.declared.Board.{Board}
-use Rattle.rules.specs.declared.Program.{Program}
 use Rattle.rules.specs.declared.Answer.{Answer}
 use Rattle.rules.specs.declared.Word.{Word}
-use Rattle.rules.specs.Boards.{setProgram, opening}
 use Rattle.rules.specs.Orders.{carried, withGiven, inUse}
 use Rattle.rules.specs.Settling.{line}
 use Rattle.rules.specs.Replies.{reply}
-use Rattle.rules.specs.Calls.{openFile}
+use Rattle.rules.specs.Calls.{wait}
 use Rattle.theory.specs.Sound.{loose-apart}
+use Rattle.store.specs.Sets.{Sets, IsStore, givenAt}
+use Rattle.store.specs.Store.{boardOf}
+use Rattle.store.proofs.Boards.{board-sets}
+use Rattle.store.proofs.Given.{given-store}
+use Rattle.store.proofs.Changing.{given-board}
 use Rattle.tables.specs.declared.ProgramSet.{ProgramSet}
+use Rattle.tables.specs.Boards.{admittedSet}
+use Rattle.tables.proofs.Given.{seats-admitted}
 use Rattle.search.specs.Gives.{usesIn}
 use Rattle.search.specs.Rows.{asOrder}
-use Rattle.apply.proofs.Laws.{comes, waiting-free, not-safe, is-safe, order-whole}
 use Rattle.search.proofs.Used.{used-by}
-use Rattle.search.proofs.Ordered.{given-for}
-use Rattle.store.proofs.Laws.{fresh-store}
+use Rattle.apply.proofs.Laws.{waiting-free, open-waits, open-unsafe, open-given, not-safe, is-safe}
 use borrow.Author.Needs.{needs}
 use Rattle.apply.proofs.do_open.Statement.{statement}
 use Rattle.apply.proofs.do_open.Tie as tie
 
--- the sets are taken
-abbrev taken : tie.After-in-use → tie.After-take-sets
-taken u = u .before .before .before .before .before
+abbrev board : tie.Start → Board
+board s = boardOf (s .args .sets .now) (s .args .rest)
 
 abbrev start : tie.After-in-use → tie.Start
-start u = taken u .before .before
+start u = u .before .before .before .before .before
+
+-- who is admitted
+admits-are : (k : tie.After-admitted-seats) → k .admitted-seats .result ≡ admittedSet (board (k .before))
+admits-are k = let a = k .before .args in k .admitted-seats .ensures ∙ seats-admitted (a .sets .now) (a .rest)
 
 -- whether the file is in conflicting use
-used : (u : tie.After-in-use) → u .in-use .result ≡ inUse (start u .args .b) (start u .args .p) (start u .args .f)
-used u = let s = start u in let a = s .args in let t = taken u .take-sets in
-    used-by (t .last .1 .0) _ (a .p) (a .f) _ (s .pre .0 .0) (s .pre .0 .1) (u .in-use .ensures) (a .b) (t .ensures .1)
-    (u .before .before .uses-in .ensures ∙ ap (λ (x : ProgramSet). usesIn x (t .last .1 .0)) (u .before .before .before .before .admitted-set .ensures))
-    (loose-apart (a .b) (s .pre .1 .loose))
+used : (u : tie.After-in-use) → let s = start u in u .in-use .result ≡ inUse (board s) (s .args .p) (s .args .f)
+used u = let s = start u in let a = s .args in let n = u .before .before in
+    used-by (a .sets .now) _ (a .p) (a .f) _ (s .pre .0 .0) (s .pre .0 .1) (u .in-use .ensures) (board s) (board-sets (a .sets .now) (a .rest) (s .pre .3))
+    (n .uses-in .ensures ∙ ap (λ (x : ProgramSet). usesIn x (a .sets .now)) (admits-are (n .before .before)))
+    (loose-apart (board s) (s .pre .1 .loose))
 
 abbrev tested : tie.After-order-given → tie.After-in-use
 tested o = o .before .before .before
 
 -- the order with the file given
-sought : (o : tie.After-order-given) → let a = start (tested o) .args in o .order-given .result ≡ asOrder (carried (withGiven (a .b) (a .p) (a .f)))
-sought o = let u = tested o in let s = start u in let a = s .args in let t = taken u .take-sets in
-    o .order-given .ensures .0
-    ∙ given-for (t .last .1 .0) _ (a .p) (a .f) (record { least = s .pre .0 .0; most = s .pre .0 .1 }) (a .b)
-    (s .pre .1 .loose .base .size) (t .ensures .1) (u .before .before .before .before .admitted-set .ensures)
+sought : (o : tie.After-order-given) → let s = start (tested o) in
+    o .order-given .result ≡ asOrder (carried (withGiven (board s) (s .args .p) (s .args .f)))
+sought o = o .order-given .ensures .0
+
+-- the sets are as they were
+same-sets : (o : tie.After-order-given) → o .order-given .last .0 ≡ start (tested o) .args .sets .now
+same-sets o = o .order-given .ensures .1
 
 put-waiting-requires : tie.Need-put-waiting-requires
-put-waiting-requires c κs = let s = start (c .before) in let a = s .args in
-    (s .pre .0, waiting-free (a .b) (a .p) (a .f) (s .pre .1) (s .pre .2))
+put-waiting-requires c κs = let s = start (c .before .before) in let a = s .args in
+    (s .pre .0, waiting-free (a .sets .now) (a .rest) (a .p) (a .f) (s .pre .1) (s .pre .2), s .pre .3)
 
 returns : tie.Need-returns
-unfolding openFile
-returns c = let u = c .before .before .before in let a = start u .args in
-    rw (sym (used u) ∙ c .before .before .if1 .taken)
-    (comes (c .answered .ensures) (ap (λ (x : Board). reply x Answer.Wait (line Word.Wait (a .p) (a .f) ∷ [])) (c .before .put-waiting .ensures)))
+returns c = let w = c .before .before .before in let i = w .before .before in let u = i .before in let s = start u in let a = s .args in (
+  c .answered .ensures .0 ∙ ap (λ (x : Board). reply x Answer.Wait (line Word.Wait (a .p) (a .f) ∷ [])) (w .put-waiting .ensures)
+      ∙ open-waits (board s) (a .p) (a .f) (sym (used u) ∙ i .if1 .taken),
+  (s .pre .3, c .answered .ensures .1),
+)
+
+still-store : (o : tie.After-order-given) → IsStore (o .order-given .last .0)
+still-store o = subst IsStore (sym (same-sets o)) (start (tested o) .pre .3)
 
 put-waiting-requires-2 : tie.Need-put-waiting-requires-2
-put-waiting-requires-2 c κs = let s = start (tested (c .before .before)) in let a = s .args in
-    (s .pre .0, waiting-free (a .b) (a .p) (a .f) (s .pre .1) (s .pre .2))
+put-waiting-requires-2 c κs = let o = c .before .before .before in let s = start (tested o) in let a = s .args in
+    (s .pre .0, waiting-free (a .sets .now) (a .rest) (a .p) (a .f) (s .pre .1) (s .pre .2), still-store o)
 
 returns-2 : tie.Need-returns-2
-unfolding openFile
-returns-2 c = let o = c .before .before .before .before in let u = tested o in let a = start u .args in
-    rw (
-      sym (used u) ∙ o .before .before .if1 .left,
-      not-safe (a .b) (withGiven (a .b) (a .p) (a .f)) (a .p) (a .f) (o .order-given .result) refl (sought o) (c .before .before .enum-told .given .1),
+returns-2 c = let w = c .before .before .before in let t = w .before .before in let o = t .before .before in let i = o .before .before in
+    let u = i .before in let s = start u in let a = s .args in (
+      c .answered2 .ensures .0 ∙ ap (λ (x : Board). reply x Answer.Unsafe (line Word.Unsafe (a .p) (a .f) ∷ []))
+          (w .put-waiting2 .ensures ∙ ap (λ (x : Sets). wait (boardOf x (a .rest)) (a .p) (a .f)) (same-sets o))
+          ∙ open-unsafe (board s) (a .p) (a .f) (sym (used u) ∙ i .if1 .left)
+          (not-safe (board s) (a .p) (a .f) (o .order-given .result) (sought o) (t .enum-told2 .given .1)),
+      (still-store o, c .answered2 .ensures .1),
     )
-    (comes (c .answered2 .ensures) (ap (λ (x : Board). reply x Answer.Unsafe (line Word.Unsafe (a .p) (a .f) ∷ [])) (c .before .put-waiting2 .ensures)))
 
-put-requires : tie.Need-put-requires
-put-requires c κs = start (tested (c .before .before .before .before .before)) .pre .0
-
--- the order was sought
-abbrev searched : tie.After-put → tie.After-order-given
-searched k = k .before .before .before .before .before .before
-
--- the board with the file given
-given : (k : tie.After-put) → let a = start (tested (searched k)) .args in k .put .result ≡ withGiven (a .b) (a .p) (a .f)
-unfolding withGiven
-given k = let s = start (tested (searched k)) in let a = s .args in k .put .ensures
-    ∙ ap (setProgram (a .b) (a .p)) (k .before .opening .ensures ∙ ap (λ (x : Program). opening x (a .f)) (s .pre .3))
+give-requires : tie.Need-give-requires
+give-requires c κs = let o = c .before .before .before in (start (tested o) .pre .0, still-store o)
 
 returns-3 : tie.Need-returns-3
-unfolding openFile
-returns-3 c = let o = searched (c .before) in let u = tested o in let a = start u .args in let k = c .before .before .before .before .before .kind in
-    rw (
-      sym (used u) ∙ o .before .before .if1 .left,
-      is-safe (a .b) (withGiven (a .b) (a .p) (a .f)) (a .p) (a .f) (o .order-given .result) (k .given .0 .0) refl (sought o) (k .given .1),
+unfolding withGiven
+returns-3 c = let g = c .before .before .before in let t = g .before .before in let o = t .before .before in let i = o .before .before in
+    let u = i .before in let s = start u in let a = s .args in
+    let e = g .give .ensures ∙ ap (λ (x : Sets). givenAt x (a .p) (a .f)) (same-sets o) in (
+      c .answered3 .ensures .0 ∙ ap (λ (x : Board). reply x Answer.Given (line Word.Given (a .p) (a .f) ∷ []))
+          (ap (λ (x : Sets). boardOf x (a .rest)) e
+          ∙ given-board (a .sets .now) (a .rest) (a .p) (a .f) (s .pre .0 .0) (s .pre .0 .1) (s .pre .3))
+          ∙ open-given (board s) (a .p) (a .f) (sym (used u) ∙ i .if1 .left)
+          (is-safe (board s) (a .p) (a .f) (o .order-given .result) (t .enum-told .given .0 .0) (sought o) (t .enum-told .given .1)),
+      (
+        subst IsStore (sym e) (given-store (a .sets .now) (a .p) (a .f) (s .pre .0 .0) (s .pre .0 .1) (s .pre .3)),
+        c .answered3 .ensures .1,
+      ),
     )
-    (comes (c .answered3 .ensures) (ap (λ (x : Board). reply x Answer.Given (line Word.Given (a .p) (a .f) ∷ [])) (given (c .before))))
-
-order-given-requires : tie.Need-order-given-requires
-order-given-requires c κs = let u = c .before .before in let s = start u in
-    (s .pre .0, taken u .take-sets .ensures .1 .0)
-
-answered-requires-3 : tie.Need-answered-requires-3
-answered-requires-3 c κs = let k = c .before .before .before .before .kind in let o = searched c in
-    order-whole (o .order-given .result) (k .given .0 .0) (k .given .1) ∙ sought o
-    ∙ sym (ap (λ (x : Board). asOrder (carried x)) (given c))
 
 pub do-open-spec : {M : Type 1} → statement M
 do-open-spec =
     tie.close
     (tie.spec
-    (λ c κs. fresh-store)
     (λ c κs. search needs)
     (λ c κs. search needs)
     (λ c κs. search needs)
     put-waiting-requires
     (λ c κs. search needs)
     returns
-    order-given-requires
+    (λ c κs. search needs)
     (λ c. search needs)
     (λ c. search needs)
     put-waiting-requires-2
     (λ c κs. search needs)
     returns-2
+    give-requires
     (λ c κs. search needs)
-    put-requires
-    answered-requires-3
     returns-3)

@@ -1,26 +1,26 @@
 -- `hold_for` meets its contract. Assumes nothing.
-use mathlib.Core.Path.{refl, ap}
+use mathlib.Core.Path.{ap}
 use native.Mathlib.Omega.{arith}
-use Rattle.rules.specs.Calls.{holdFor}
-use Rattle.rules.specs.Replies.{reply}
-use Rattle.settling.specs.declared.Written.{Written}
+use Rattle.store.specs.Store.{boardOf}
+use Rattle.settling.specs.Writing.{Written}
 use Rattle.apply.proofs.Laws.{entry-free, held-for-is}
 use borrow.Author.Needs.{needs}
 use Rattle.apply.proofs.hold_for.Statement.{statement}
 use Rattle.apply.proofs.hold_for.Tie as tie
 
 put-held-requires : tie.Need-put-held-requires
-put-held-requires c κs = let a = c .args in (c .pre .0, entry-free (a .b) (a .p) (a .writable) (a .readable) (c .pre .1) (c .pre .2))
+put-held-requires c κs = let s = c .before in let a = s .args in
+    (s .pre .0, entry-free (a .sets .now) (a .rest) (a .p) (a .writable) (a .readable) (s .pre .1) (s .pre .2), s .pre .4)
 
 favour-waiter-requires : tie.Need-favour-waiter-requires
-favour-waiter-requires c κs = let n = ap (λ (w : Written). w .count) (c .one-line .ensures) in (search needs, omega arith)
+favour-waiter-requires c κs = let o = c .before .before in
+    let n = ap (λ (w : Written). w .count) (o .one-line .ensures .0) in ((search needs, search needs), omega arith, o .one-line .ensures .1 .1)
 
 returns : tie.Need-returns
-unfolding holdFor reply
-returns c = let l = c .before in let h = l .before in let a = h .before .args in (
-  held-for-is (l .one-line .result) (c .favour-waiter .result) (a .b) (h .put-held .result) (a .p) (a .writable) (a .readable) (a .w)
-      (h .put-held .ensures) (l .one-line .ensures) (c .favour-waiter .ensures),
-  refl,
+returns c = let o = c .before .before .before in let h = o .before .before .before in let a = h .before .before .args in (
+  held-for-is _ _ (boardOf (a .sets .now) (a .rest)) _ (a .p) (a .writable) (a .readable) (a .w)
+      (h .put-held .ensures .0) (o .one-line .ensures .0) (c .favour-waiter .ensures .0),
+  (h .put-held .ensures .1, c .favour-waiter .ensures .1),
 )
 
 pub hold-for-spec : {M : Type 1} → statement M

@@ -1,25 +1,26 @@
 -- `put_waiting` meets its contract. Assumes nothing.
+use mathlib.Core.Path.{_≡_, sym, ap, _∙_}
+use lib.ListN.{length, length-map}
+use Rattle.rules.specs.declared.Standing.{Standing}
 use Rattle.rules.specs.Calls.{wait}
+use Rattle.store.specs.declared.Rest.{Rest}
+use Rattle.store.specs.Store.{boardOf}
+use Rattle.store.proofs.Changing.{seat-board}
+use Rattle.store.proofs.Boards.{with-waiting}
 use borrow.Author.Needs.{needs}
 use Rattle.apply.proofs.put_waiting.Statement.{statement}
 use Rattle.apply.proofs.put_waiting.Tie as tie
 
-append-requires : tie.Need-append-requires
-append-requires c κs = let s = c .before .before .before in s .pre .1
+seats-are : (t : tie.Start) → length (t .args .rest .seats) ≡ 32
+seats-are t = sym (length-map (t .args .rest .seats) _) ∙ t .good .1 .0 .1 .1 .0 .1 .0 .1
 
 returns : tie.Need-returns
-unfolding wait
-returns c = rw (c .put .ensures, c .before .append .ensures, c .before .before .before .at-standing .ensures)
+unfolding boardOf wait
+returns c = let s = c .before .before .before in let a = s .args in
+    with-waiting (a .sets .now) (c .seated .result) _
+    (ap (λ (r : Rest). boardOf (a .sets .now) r) (c .seated .ensures)
+    ∙ seat-board (a .sets .now) (a .rest) (a .p) (s .pre .0 .0) (s .pre .0 .1) (s .pre .2) (Standing.Waiting (a .f)) (seats-are s))
+    _ _ (c .before .append .ensures)
 
 pub put-waiting-spec : {M : Type 1} → statement M
-put-waiting-spec =
-    tie.close
-    (tie.spec
-    (λ c. search needs)
-    (λ c. search needs)
-    (λ c. search needs)
-    (λ c. search needs)
-    (λ c κs. search needs)
-    append-requires
-    (λ c κs. search needs)
-    returns)
+put-waiting-spec = tie.close (tie.spec (λ c κs. search needs) (λ c κs. search needs) returns)

@@ -1,40 +1,56 @@
 -- `choose_next` meets its contract. Assumes nothing.
 use mathlib.Core.Path.{_∙_}
+use Rattle.rules.specs.declared.Board.{Board}
+use Rattle.store.specs.Store.{boardOf}
+use Rattle.settling.specs.Writing.{Written, writtenIn}
 use Rattle.settling.proofs.Laws.{candidate-none, candidate-some, choose-still, run-held-is, favour-is}
 use Rattle.settling.proofs.Laws.{held-fits, favour-fits}
 use Rattle.settling.proofs.choose_next.Statement.{statement}
 use Rattle.settling.proofs.choose_next.Tie as tie
 
+-- the board with its lines at first
+abbrev first : tie.Start → Written
+first s = writtenIn (s .args .sets .now) (s .args .lines .now) (s .args .w)
+
 returns : tie.Need-returns
-returns c = choose-still (c .before .before .args .w) (c .if1 .taken)
+unfolding boardOf
+returns c = let s = c .before .before in (choose-still (first s) (c .if1 .taken), s .pre .4)
 
 oldest-unused-requires : tie.Need-oldest-unused-requires
-oldest-unused-requires c κs = c .before .before .pre .0
+oldest-unused-requires c κs = let s = c .before .before in (s .pre .0, s .pre .3)
 
 admit-held-requires : tie.Need-admit-held-requires
-admit-held-requires c κs = let s = c .before .before .before .before in let w = s .args .w in (
+unfolding boardOf
+admit-held-requires c κs = let i = c .before in let o = i .before in let e = o .before in let s = e .before .before in let w = first s in (
   s .pre .0,
   s .pre .1,
-  c .before .before .if1 .left,
-  held-fits w (c .before .before .if1 .left) (candidate-none (w .board)
-      (c .before .oldest-unused .result) (s .pre .0) (c .before .oldest-unused .ensures) (c .if2 .taken)) (s .pre .2),
+  e .if1 .left,
+  held-fits w (e .if1 .left) (candidate-none (w .board) (o .oldest-unused .result) (s .pre .0) (o .oldest-unused .ensures) (i .if2 .taken)) (s .pre .2),
+  s .pre .3,
+  s .pre .4,
 )
 
 returns-2 : tie.Need-returns-2
-returns-2 c = let s = c .before .before .before .before .before in let w = s .args .w in
-    c .admit-held .ensures ∙ run-held-is w (c .before .before .before .if1 .left) (candidate-none (w .board)
-    (c .before .before .oldest-unused .result) (s .pre .0) (c .before .before .oldest-unused .ensures) (c .before .if2 .taken))
+unfolding boardOf
+returns-2 c = let i = c .before .before in let o = i .before in let e = o .before in let s = e .before .before in let w = first s in (
+  c .admit-held .ensures .0 ∙ run-held-is w (e .if1 .left)
+      (candidate-none (w .board) (o .oldest-unused .result) (s .pre .0) (o .oldest-unused .ensures) (i .if2 .taken)),
+  c .admit-held .ensures .1,
+)
 
 favour-waiter-requires : tie.Need-favour-waiter-requires
-favour-waiter-requires c κs = let s = c .before .before .before .before in let w = s .args .w in
-    let r = candidate-some (w .board) (c .before .oldest-unused .result) (s .pre .0) (c .before .oldest-unused .ensures) (c .if2 .left) in
-    (r .1, favour-fits w (c .before .oldest-unused .result) (c .before .before .if1 .left) (r .0) (s .pre .2))
+unfolding boardOf
+favour-waiter-requires c κs = let i = c .before in let o = i .before in let e = o .before in let s = e .before .before in let w = first s in
+    let r = candidate-some (w .board) (o .oldest-unused .result) (s .pre .0) (o .oldest-unused .ensures) (i .if2 .left) in
+    (r .1, favour-fits w (o .oldest-unused .result) (e .if1 .left) (r .0) (s .pre .2), s .pre .4)
 
 returns-3 : tie.Need-returns-3
-returns-3 c = let s = c .before .before .before .before .before in let w = s .args .w in
-    let r = candidate-some (w .board) (c .before .before .oldest-unused .result) (s .pre .0)
-    (c .before .before .oldest-unused .ensures) (c .before .if2 .left) in
-    c .favour-waiter .ensures ∙ favour-is w (c .before .before .oldest-unused .result) (c .before .before .before .if1 .left) (r .0)
+unfolding boardOf
+returns-3 c = let i = c .before .before in let o = i .before in let e = o .before in let s = e .before .before in let w = first s in
+    let r = candidate-some (w .board) (o .oldest-unused .result) (s .pre .0) (o .oldest-unused .ensures) (i .if2 .left) in (
+      c .favour-waiter .ensures .0 ∙ favour-is w (o .oldest-unused .result) (e .if1 .left) (r .0),
+      c .favour-waiter .ensures .1,
+    )
 
 pub choose-next-spec : {M : Type 1} → statement M
 choose-next-spec =

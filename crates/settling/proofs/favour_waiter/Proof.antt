@@ -1,14 +1,58 @@
 -- `favour_waiter` meets its contract. Assumes nothing.
-use Rattle.rules.specs.Settling.{favour}
+use mathlib.Core.Path.{_≡_, sym, ap, _∙_}
+use Prim.Native.Nat.{ℕ}
+use mathlib.Core.List.{List}
+use lib.ListN.{length}
+use Rattle.laws.specs.Lists.{keep}
+use Rattle.rules.specs.declared.Program.{Program}
+use Rattle.rules.specs.Boards.{everyone, awaited, awaitedOf, admitted}
+use Rattle.rules.specs.declared.Word.{Word}
+use Rattle.rules.specs.Settling.{line}
+use Rattle.store.specs.Store.{boardOf}
+use Rattle.store.proofs.Boards.{board-at}
+use Rattle.tables.specs.declared.ProgramSet.{ProgramSet}
+use Rattle.tables.specs.ProgramSets.{hasProgram}
+use Rattle.tables.proofs.Given.{seats-admitted}
+use Rattle.tables.proofs.Laws.{admitted-those}
+use Rattle.settling.proofs.Storing.{one-entry, favour-done}
 use borrow.Author.Needs.{needs}
 use Rattle.settling.proofs.favour_waiter.Statement.{statement}
 use Rattle.settling.proofs.favour_waiter.Tie as tie
 
+abbrev start : tie.After-entry-of → tie.Start
+start c = c .before .before .before .before .before .before
+
+-- the file that the waiter waits for
+file : (c : tie.After-entry-of) → let a = start c .args in
+    c .before .before .before .awaited .result ≡ awaited (boardOf (a .sets .now) (a .w .rest)) (a .p)
+file c = let s = start c in let a = s .args in
+    c .before .before .before .awaited .ensures ∙ ap awaitedOf (c .before .before .before .before .standing-at .ensures)
+    ∙ sym (ap (λ (q : Program). awaitedOf (q .standing)) (board-at (a .sets .now) (a .w .rest) (a .p) (s .pre .0 .0) (s .pre .0 .1)))
+
+-- how many are admitted
+count : (c : tie.After-entry-of) → let a = start c .args in c .before .count .result ≡ length (admitted (boardOf (a .sets .now) (a .w .rest)))
+count c = let a = start c .args in c .before .count .ensures .0
+    ∙ ap (λ (x : ProgramSet). length (keep (hasProgram x) everyone))
+    (c .before .before .admitted-seats .ensures ∙ seats-admitted (a .sets .now) (a .w .rest))
+    ∙ ap (λ (l : List ℕ). length l) (admitted-those (boardOf (a .sets .now) (a .w .rest)))
+
 returns : tie.Need-returns
-unfolding favour
-returns c = rw (c .add-line .ensures, c .before .before .before .awaited .ensures, c .before .before .admitted-count .ensures .0)
+returns c = let a = start c .args in (
+  favour-done (a .sets .now) (a .lines .now) (a .w .rest) (a .w .count) (a .p) _ _ _ (c .entry-of .ensures) (file c) (count c),
+  one-entry (a .lines .now) (a .w .count) (line Word.Favour (a .p) (c .before .before .before .awaited .result)) _ (c .entry-of .ensures) (start c .pre .2),
+)
 
 pub favour-waiter-spec : {M : Type 1} → statement M
 favour-waiter-spec =
     tie.close
-    (tie.spec (λ c κs. search needs) (λ c κs. search needs) (λ c κs. search needs) (λ c. search needs) returns)
+    (tie.spec
+    (λ c κs. search needs)
+    (λ c κs. search needs)
+    (λ c κs. search needs)
+    (λ c κs. search needs)
+    (λ c κs. search needs)
+    (λ c. search needs)
+    (λ c. search needs)
+    (λ c. search needs)
+    (λ c. search needs)
+    returns)

@@ -16,7 +16,7 @@ returns-4 : tie.Need-returns-4
 returns-4 c = rw (c .before .enum-told4 .given .1) (c .check-open2 .ensures)
 
 returns-5 : tie.Need-returns-5
-returns-5 c = rw (c .before .enum-told5 .given .1) (c .check-leave .ensures)
+returns-5 c = rw (c .before .enum-told5 .given .1) (c .running-check .ensures)
 
 returns-6 : tie.Need-returns-6
 returns-6 c = rw (c .before .enum-told6 .given .1) (c .check-cancel .ensures)

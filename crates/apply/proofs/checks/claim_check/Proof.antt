@@ -6,18 +6,18 @@ use Rattle.apply.proofs.checks.claim_check.Statement.{statement}
 use Rattle.apply.proofs.checks.claim_check.Tie as tie
 
 returns : tie.Need-returns
-returns c = rw (sym (c .before .claims .ensures) ∙ not-true (c .before .claims .result) (c .if1 .taken))
+returns c = rw (sym (c .before .has-claim .ensures) ∙ not-true (c .before .has-claim .result) (c .if1 .taken))
 
 returns-2 : tie.Need-returns-2
 returns-2 c = rw (
-  sym (c .before .before .before .claims .ensures) ∙ not-false (c .before .before .before .claims .result)
+  sym (c .before .before .before .has-claim .ensures) ∙ not-false (c .before .before .before .has-claim .result)
       (c .before .before .if1 .left),
   sym (c .before .has-open .ensures) ∙ c .if2 .taken,
 )
 
 returns-3 : tie.Need-returns-3
 returns-3 c = rw (
-  sym (c .before .before .before .claims .ensures) ∙ not-false (c .before .before .before .claims .result)
+  sym (c .before .before .before .has-claim .ensures) ∙ not-false (c .before .before .before .has-claim .result)
       (c .before .before .if1 .left),
   sym (c .before .has-open .ensures) ∙ c .if2 .left,
 )

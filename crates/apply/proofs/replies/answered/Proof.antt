@@ -1,8 +1,8 @@
 -- `answered` meets its contract. Assumes nothing.
 use mathlib.Core.Path.{ap, _∙_}
 use Rattle.rules.specs.Settling.{line}
-use Rattle.rules.specs.Replies.{reply}
-use Rattle.settling.specs.declared.Written.{Written}
+use Rattle.store.specs.Store.{boardOf}
+use Rattle.settling.specs.Writing.{Written}
 use Rattle.apply.specs.Replies.{replied}
 use Rattle.apply.proofs.Laws.{wrote-reply}
 use borrow.Author.Needs.{needs}
@@ -10,10 +10,10 @@ use Rattle.apply.proofs.replies.answered.Statement.{statement}
 use Rattle.apply.proofs.replies.answered.Tie as tie
 
 returns : tie.Need-returns
-unfolding reply
-returns c = let s = c .before in let a = s .args in (
-  ap (λ (w : Written). replied w (a .answer)) (c .one-line .ensures) ∙ wrote-reply (a .b) (a .answer) (line (a .word) (a .p) (a .f)),
-  s .pre,
+returns c = let a = c .before .before .args in (
+  ap (λ (w : Written). replied w (a .answer)) (c .one-line .ensures .0)
+      ∙ wrote-reply (boardOf (a .sets .now) (a .rest)) (a .answer) (line (a .word) (a .p) (a .f)),
+  c .one-line .ensures .1 .1,
 )
 
 pub answered-spec : {M : Type 1} → statement M

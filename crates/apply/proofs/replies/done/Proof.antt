@@ -1,24 +1,21 @@
 -- `done` meets its contract. Assumes nothing.
-use mathlib.Core.Path.{refl}
 use Rattle.rules.specs.declared.Word.{Word}
 use Rattle.rules.specs.Settling.{line}
-use Rattle.rules.specs.Replies.{reply}
-use Rattle.rules.specs.Calls.{done}
+use Rattle.store.specs.Store.{boardOf}
 use Rattle.apply.proofs.Laws.{done-ready, done-is}
 use borrow.Author.Needs.{needs}
 use Rattle.apply.proofs.replies.done.Statement.{statement}
 use Rattle.apply.proofs.replies.done.Tie as tie
 
 settled-requires : tie.Need-settled-requires
-settled-requires c κs = let s = c .before in let a = s .args in done-ready (c .one-line .result) (a .b)
-    (line Word.Done (a .p) (a .f)) (c .one-line .ensures) (s .pre)
+settled-requires c κs = let o = c .before .before in let s = o .before .before .before in let a = s .args in
+    let k = done-ready _ (boardOf (a .sets .now) (a .rest)) (line Word.Done (a .p) (a .f)) (o .one-line .ensures .0) (s .pre .0) in
+    (k .0, k .1, k .2, s .pre .1, o .one-line .ensures .1 .1)
 
 returns : tie.Need-returns
-unfolding done reply
-returns c = let s = c .before .before in let a = s .args in (
-  done-is (c .before .one-line .result) (c .settled .result) (a .b) (a .p) (a .f)
-      (c .before .one-line .ensures) (c .settled .ensures) (s .pre),
-  refl,
+returns c = let o = c .before .before .before in let s = o .before .before .before in let a = s .args in (
+  done-is _ _ (boardOf (a .sets .now) (a .rest)) (a .p) (a .f) (o .one-line .ensures .0) (c .settled .ensures .0) (s .pre .0),
+  c .settled .ensures .1,
 )
 
 pub done-spec : {M : Type 1} → statement M

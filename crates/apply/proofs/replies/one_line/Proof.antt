@@ -1,13 +1,17 @@
 -- `one_line` meets its contract. Assumes nothing.
 use mathlib.Core.Path.{refl}
-use Rattle.laws.specs.Lists.{padded}
+use Rattle.rules.specs.Settling.{line}
+use Rattle.store.specs.Store.{boardOf}
+use Rattle.apply.proofs.Laws.{wrote-first, first-entries}
 use borrow.Author.Needs.{needs}
 use Rattle.apply.proofs.replies.one_line.Statement.{statement}
 use Rattle.apply.proofs.replies.one_line.Tie as tie
 
 returns : tie.Need-returns
-unfolding padded
-returns c = refl
+returns c = let s = c .before in let a = s .args in let l = line (a .word) (a .p) (a .f) in (
+  wrote-first (boardOf (a .sets .now) (a .rest)) (a .lines .now) (c .entry-of .result) l (c .entry-of .ensures) (s .pre),
+  (refl, first-entries (a .lines .now) (c .entry-of .result) l (c .entry-of .ensures) (s .pre)),
+)
 
 pub one-line-spec : {M : Type 1} → statement M
-one-line-spec = tie.close (tie.spec (λ c. search needs) returns)
+one-line-spec = tie.close (tie.spec (λ c. search needs) (λ c. search needs) returns)

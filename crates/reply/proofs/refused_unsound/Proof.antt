@@ -2,8 +2,8 @@
 use mathlib.Core.Path.{refl}
 use Rattle.laws.specs.Lists.{padded}
 use Rattle.rules.specs.Replies.{refuseUnsound}
-use Rattle.apply.proofs.replies.refused_unsound.Statement.{statement}
-use Rattle.apply.proofs.replies.refused_unsound.Tie as tie
+use Rattle.reply.proofs.refused_unsound.Statement.{statement}
+use Rattle.reply.proofs.refused_unsound.Tie as tie
 
 returns : tie.Need-returns
 unfolding refuseUnsound padded
