@@ -70,7 +70,7 @@ fn all_agree(b: Board, a: Admitted, kind: Search, t: Tried, at: [u8; 32]) -> boo
 pub fn compared(b: Board) -> Outcome {
     let a = orders::admitted_programs(b);
     let mut sets = [[0u64; WORDS]; 128];
-    let rest = store::take(b, &mut sets);
+    let rest = store::sets::take(b, &mut sets);
     let j = sound::judge(&sets, rest);
     let o = j.order;
     let at = o.at;

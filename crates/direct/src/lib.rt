@@ -24,14 +24,15 @@ fn reply_to(b: Board, a: Asked) -> Reply
     ensures { λ r. ⌜ r ≡ direct b (callOf a) ⌝ }
 {
     let mut sets = [[0u64; WORDS]; 128];
-    let rest = store::take(b, &mut sets);
+    let rest = store::sets::take(b, &mut sets);
     let j = sound::judge(&sets, rest);
     if !j.sound {
-        return apply::replies::refused_unsound(b);
+        return reply::refused_unsound(b);
     }
-    let changed = apply::call(b, a);
+    let mut lines = [[0u8; 4]; 32];
+    let changed = apply::call(&mut sets, rest, &mut lines, a);
     let order = j.order;
-    apply::replies::complete(changed, order)
+    reply::complete(&sets, &lines, changed, order)
 }
 
 // The direct call that is asked for, with the loop that its answer carries.

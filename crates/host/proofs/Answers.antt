@@ -19,7 +19,7 @@ use Rattle.rules.specs.Settling.{line}
 use Rattle.rules.specs.Replies.{refusalOf, refused, wordOf, refuse, reply, settlingLines}
 use Rattle.rules.specs.Calls.{Call, Enter, Open, Close, Drop, Leave, Cancel, programOf, fileOf, direct}
 use Rattle.theory.specs.Answers.{answer-first}
-use Rattle.apply.proofs.Laws.{refused-by}
+use Rattle.reply.proofs.Laws.{refused-by}
 use Rattle.request.specs.declared.Reading.{Reading}
 use Rattle.request.specs.declared.Request.{Request}
 use Rattle.request.specs.Requests.{requestOf, requestCall}

@@ -22,12 +22,15 @@ use Rattle.theory.specs.Sound.{sound-iff}
 use Rattle.search.specs.declared.Search.{Search}
 use Rattle.search.specs.declared.Order.{Order}
 use Rattle.search.specs.Rows.{asOrder}
-use Rattle.apply.proofs.Laws.{order-count, order-at}
+use Rattle.reply.proofs.Laws.{order-count, order-at}
 use Rattle.image.specs.Image.{imageLength, imageOf, loadedOf, refusedImage}
 use Rattle.image.specs.declared.Loaded.{Loaded}
+use Rattle.image.specs.declared.LoadedRest.{LoadedRest}
+use Rattle.image.specs.Stored.{loadedIn}
+use Rattle.store.specs.Sets.{Sets}
 use Rattle.image.proofs.RoundTrip.{accepted}
 use Rattle.linecall.specs.LineCall.{lineCall}
-use Rattle.host.specs.Host.{refusalAnswer, hostAnswer, hostImage, hostedBy, hostCall, readImage}
+use Rattle.host.specs.Host.{refusalAnswer, hostAnswer, hostImage, hostedBy, hostCall, readImage, takenIn}
 use Rattle.host.specs.Host.{placedAnswer, placedIn, orderAnswer, orderBuffer}
 
 -- ---- refusals
@@ -65,6 +68,10 @@ image-unsound image k e h s = rw (← e, h, s)
 pub image-sound : (image : List ℕ) (k : Loaded) → k ≡ loadedOf image → k .ok ≡ true → sound (k .board) ≡ true → readImage image ≡ k
 unfolding readImage
 image-sound image k e h s = rw (← e, h, s)
+
+-- an image that is taken has its board in the sets and the rest
+pub taken-ok : (sets : Sets) (r : LoadedRest) → r .ok ≡ true → loadedIn sets r ≡ takenIn sets r
+taken-ok sets r e = rw e refl
 
 -- an image that is read holds a sound board, and is of its layout
 pub image-read : (image : List ℕ) (k : Loaded) → k ≡ readImage image → k .ok ≡ true → (k ≡ loadedOf image) × (sound (k .board) ≡ true)

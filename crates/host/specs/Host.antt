@@ -11,7 +11,10 @@ use Rattle.rules.specs.Boards.{emptyBoard}
 use Rattle.rules.specs.Orders.{carried}
 use Rattle.rules.specs.Soundness.{sound}
 use Rattle.rules.specs.Replies.{refusalOf}
+use Rattle.store.specs.Sets.{Sets}
 use Rattle.image.specs.declared.Loaded.{Loaded}
+use Rattle.image.specs.declared.LoadedRest.{LoadedRest}
+use Rattle.image.specs.Stored.{loadedIn}
 use Rattle.image.specs.Image.{loadedOf, imageOf, refusedImage, imageFits, imageIn}
 use Rattle.linecall.specs.LineCall.{Outcome, lineCall}
 
@@ -24,6 +27,10 @@ soundOnly k = cond (k .ok) (cond (sound (k .board)) k refusedImage) refusedImage
 -- the board of an image; "Reading a refused image gives the empty board."
 unfoldable pub readImage : List ℕ → Loaded
 readImage image = soundOnly (loadedOf image)
+
+-- the same of an image that is taken into sets and a rest: they have its board, or it is refused
+abbrev pub takenIn : Sets → LoadedRest → Loaded
+takenIn sets r = cond (r .ok) (loadedIn sets r) refusedImage
 
 -- ---- the call of a C host
 

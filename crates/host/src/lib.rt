@@ -1,40 +1,51 @@
 // The calls of a C host.
 use files::WORDS;
 use image::Loaded;
+use image::LoadedRest;
 use rules::Board;
 use search::Search;
+use store::Rest;
 ghost use mathlib.Core.Path.{_≡_};
 ghost use Prim.Native.Nat.{_≤_};
 ghost use lib.ListN.{take};
-ghost use Rattle.host.specs.Host.{readImage, refusalAnswer, hostAnswer, hostCall, emptyAnswer, emptyImage};
+ghost use Rattle.store.specs.Sets.{IsStore};
+ghost use Rattle.store.specs.Store.{emptySets};
+ghost use Rattle.host.specs.Host.{readImage, takenIn, refusalAnswer, hostAnswer, hostCall, emptyAnswer, emptyImage};
 ghost use Rattle.host.specs.Host.{placedAnswer, placedIn, orderAnswer, orderBuffer};
 
 pub mod digraphs;
 mod writing;
 
+// The board of an image, into the sets and the rest; an image that is not of its layout, or whose board is not sound, is refused.
+fn take_image(image: &[u8], sets: &mut [[u64; WORDS]; 128]) -> LoadedRest
+    requires { ⌜ now sets ≡ emptySets ⌝ }
+    ensures { λ r. ⌜ takenIn (now (sets .exit)) r ≡ readImage (now (image .entry)) ⌝ }
+    ensures { λ _. ⌜ IsStore (now (sets .exit)) ⌝ }
+{
+    let loaded = image::load_in(image, sets);
+    let ok = loaded.ok;
+    if !ok {
+        return loaded;
+    }
+    let rest = loaded.rest;
+    let sound = sound::is_sound(sets, rest);
+    LoadedRest { ok: sound, rest }
+}
+
 // The board of an image; an image that is not of its layout, or whose board is not sound, is refused and gives the empty board.
 pub fn read_image(image: &[u8]) -> Loaded
     ensures { λ r. ⌜ r ≡ readImage (now (image .entry)) ⌝ }
 {
-    let loaded = image::load(image);
-    let ok = loaded.ok;
-    let empty = Board::EMPTY;
-    if !ok {
-        return Loaded {
-            ok: false,
-            board: empty,
-        };
-    }
-    let b = loaded.board;
     let mut sets = [[0u64; WORDS]; 128];
-    let rest = store::take(b, &mut sets);
-    if !sound::is_sound(&sets, rest) {
-        return Loaded {
-            ok: false,
-            board: empty,
-        };
+    let taken = take_image(image, &mut sets);
+    let ok = taken.ok;
+    if !ok {
+        let board = Board::EMPTY;
+        return Loaded { ok: false, board };
     }
-    loaded
+    let rest = taken.rest;
+    let board = whole::board(&sets, rest);
+    Loaded { ok: true, board }
 }
 
 // Refusal n as a C host gets it: 2^64 less its number.
@@ -70,20 +81,22 @@ pub extern "C" fn lock_board_line(
     ensures { λ r. ⌜ now (image .exit) ≡ hostCall (now (image .entry)) (now (line .entry)) (now (journal .entry)) place .image ⌝ }
     ensures { λ r. ⌜ now (journal .exit) ≡ hostCall (now (image .entry)) (now (line .entry)) (now (journal .entry)) place .journal ⌝ }
 {
-    let loaded = read_image(image);
-    let ok = loaded.ok;
+    let mut sets = [[0u64; WORDS]; 128];
+    let taken = take_image(image, &mut sets);
+    let ok = taken.ok;
     if !ok {
         return answer_for(1, place);
     }
-    let b = loaded.board;
-    let served = linecall::known::line(b, line, journal, place);
+    let rest = taken.rest;
+    let mut lines = [[0u8; 4]; 32];
+    let served = linecall::known::line(&mut sets, rest, &mut lines, line, journal, place);
     let changed = served.changed;
     let answer = changed.answer;
     let n = parts::refusals::of_answer(answer);
     if n == 0 {
-        let written = changed.written;
-        let after = written.board;
-        image::put_image(image, after);
+        let progress = changed.progress;
+        let after = progress.rest;
+        image::put_image_of(image, &sets, after);
         return served.place;
     }
     answer_for(n, served.place)
@@ -96,8 +109,9 @@ pub extern "C" fn lock_board_empty(image: &mut [u8]) -> u64
     ensures { λ r. ⌜ r ≡ emptyAnswer (now (image .entry)) ⌝ }
     ensures { λ r. ⌜ now (image .exit) ≡ emptyImage (now (image .entry)) ⌝ }
 {
-    let board = Board::EMPTY;
-    if image::put_image(image, board) {
+    let sets = [[0u64; WORDS]; 128];
+    let rest = Rest::EMPTY;
+    if image::put_image_of(image, &sets, rest) {
         return 0;
     }
     refusal_answer(1)
@@ -123,14 +137,13 @@ pub extern "C" fn lock_board_order(image: &[u8], order: &mut [u8]) -> u64
     ensures { λ r. ⌜ r ≡ orderAnswer (now (image .entry)) (now (order .entry)) ⌝ }
     ensures { λ r. ⌜ now (order .exit) ≡ orderBuffer (now (image .entry)) (now (order .entry)) ⌝ }
 {
-    let loaded = image::load(image);
+    let mut sets = [[0u64; WORDS]; 128];
+    let loaded = image::load_in(image, &mut sets);
     let ok = loaded.ok;
     if !ok {
         return refusal_answer(1);
     }
-    let b = loaded.board;
-    let mut sets = [[0u64; WORDS]; 128];
-    let rest = store::take(b, &mut sets);
+    let rest = loaded.rest;
     let j = sound::judge(&sets, rest);
     if !j.sound {
         return refusal_answer(1);

@@ -3,10 +3,9 @@ use Prim.Native.Nat.{ℕ, zero, suc, _+_, _-_, _*_, _/_, _%_, _^_, _≤_, _<_}
 use mathlib.Core.Path.{_≡_, refl, ap, sym, _∙_}
 use mathlib.Core.List.{List, [], _∷_, _++_, append-assoc, append-nil}
 use mathlib.Core.Bool.{true, false}
-use lib.ListN.{length, getD, take, drop, set, length-append, length-drop, drop-of-length-le}
-use lib.Seq.{take-at, take-all, take-add, take-take, drop-at, drop-drop, drop-cons, length-take-le, getD-drop, append-snoc, set-at}
+use lib.ListN.{length, getD, take, drop, length-append, length-drop, drop-of-length-le}
+use lib.Seq.{take-at, take-all, take-add, take-take, drop-at, drop-drop, drop-cons, length-take-le, getD-drop}
 use native.Mathlib.Omega.{arith}
-use native.Mathlib.Numerals.{add-one}
 use native.Mathlib.Nat.{mul-zero, add-sub-cancel-left}
 use Rattle.laws.specs.Tests.{and-left, and-right}
 use Rattle.columns.specs.Rows.{flat, putAt}
@@ -200,23 +199,17 @@ module _ {A : Type 0} (s : Section A) where
   row-first : (l : List ℕ) → rowAt l 0 ≡ take (s .size) l
   row-first l = rw (mul-zero (s .size))
 
-  read-more : (n : ℕ) (l : List ℕ) → readMany s (suc n) l ≡ readMany s n l ++ (s .read (rowAt l n) ∷ [])
-  unfolding readMany
-  read-more zero l = rw (row-first l)
-  read-more (suc n) l = ap (s .read (take (s .size) l) ∷_) (read-more n (drop (s .size) l) ∙ rw (row-after l n))
-
-  read-length : (n : ℕ) (l : List ℕ) → length (readMany s n l) ≡ n
+  pub read-length : (n : ℕ) (l : List ℕ) → length (readMany s n l) ≡ n
   unfolding readMany
   read-length zero l = refl
   read-length (suc n) l = ap suc (read-length n (drop (s .size) l))
 
-  -- a turn of the loop that reads
-  pub read-step : (l : List ℕ) (as′ as₀ : List A) (i : ℕ) → i < length as₀ → as′ ≡ readMany s i l ++ drop i as₀
-      → set as′ i (s .read (rowAt l i)) ≡ readMany s (i + 1) l ++ drop (i + 1) as₀
-  read-step l as′ as₀ i h e =
-      let a : A = s .read (rowAt l i) in
-      rw (e, drop-cons as₀ i a h, set-at (readMany s i l) (getD as₀ i a) (drop (suc i) as₀) a i (read-length i l), add-one i, read-more i l)
-      (sym (append-snoc (readMany s i l) a (drop (suc i) as₀)))
+  -- what is read of row i
+  pub read-at : (n i : ℕ) (l : List ℕ) (a : A) → i < n → getD (readMany s n l) i a ≡ s .read (rowAt l i)
+  unfolding readMany
+  read-at zero i l a h = absurd (omega arith)
+  read-at (suc n) zero l a h = rw (row-first l)
+  read-at (suc n) (suc i) l a h = read-at n i (drop (s .size) l) a (omega arith) ∙ rw (row-after l i)
 
   pub fit-more : (n : ℕ) (l : List ℕ) → fitMany s n l ≡ true → s .fits (rowAt l n) ≡ true → fitMany s (suc n) l ≡ true
   unfolding fitMany

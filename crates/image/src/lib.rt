@@ -1,15 +1,24 @@
 // The image of a board, section by section, written and read.
+// The sets of a board are lent and its rest goes by value; the board of the rules, whole, is read and written at the edges, by `load` and `put_image`.
 use files::FileSet;
+use files::WORDS;
+use files::words;
 use rules::Board;
-use rules::Program;
 use rules::Standing;
+use store::Rest;
+use store::Seat;
+use store::sets;
 ghost use mathlib.Core.Path.{_≡_};
 ghost use mathlib.Core.List.{_++_};
 ghost use mathlib.Core.Bool.{true};
-ghost use Prim.Native.Nat.{_+_, _*_, _≤_, _<_};
-ghost use lib.ListN.{length, drop};
+ghost use Prim.Native.Nat.{_+_, _-_, _*_, _≤_, _<_};
+ghost use lib.ListN.{length, getD, set, drop};
+ghost use Rattle.files.specs.Words.{wordCount, setOf, wordsFor};
+ghost use Rattle.store.specs.Sets.{IsStore, setIn, SetsOf, PutAt};
+ghost use Rattle.store.specs.Store.{noSeat, programWith, programsFrom, boardOf, SeatsTo, emptySets};
 ghost use Rattle.image.specs.Image.{kindOf, standingOf, kindFits, setSection, programSection, programsSection};
 ghost use Rattle.image.specs.Image.{imageSection, imageLength, imageOf, loadedOf, imageFits, imageIn};
+ghost use Rattle.image.specs.Stored.{loadedIn};
 ghost use Rattle.columns.specs.Rows.{putAt};
 
 // How many bytes a set has.
@@ -43,6 +52,12 @@ pub const IMAGE_LEN: usize = COUNTS_AT + 32;
 pub struct Loaded {
     pub ok: bool,
     pub board: Board,
+}
+
+// What reading an image into sets finds: whether it is of the layout, and the rest, that of the empty board if not.
+pub struct LoadedRest {
+    pub ok: bool,
+    pub rest: Rest,
 }
 
 // A set's bytes, lowest first.
@@ -89,37 +104,49 @@ pub fn put_at(out: &mut [u8], at: usize, src: &[u8])
     bytes::copy(src, &mut out[at..]);
 }
 
-// Writes a set from a place on.
-fn put_set(out: &mut [u8], at: usize, s: FileSet)
+// Writes the set in place k from a byte on.
+fn put_set(out: &mut [u8], at: usize, sets: &[[u64; WORDS]; 128], k: usize)
     requires { ⌜ at + setSection .size ≤ length (now out) ⌝ }
-    ensures { λ r. ⌜ now (out .exit) ≡ putAt at (setSection .write s) (now (out .entry)) ⌝ }
+    requires { ⌜ (k < 128) × IsStore (now sets) ⌝ }
+    ensures { λ r. ⌜ now (out .exit) ≡ putAt at (setSection .write (setIn (now (sets .entry)) k)) (now (out .entry)) ⌝ }
 {
+    let s = whole::set_at(sets, k);
     let bytes = set_bytes(s);
     put_at(out, at, &bytes);
 }
 
-// Writes a program's row at the front of a part; the rest keeps its contents.
-fn put_row(out: &mut [u8], p: Program)
+// Writes the row of program p, at a standing, at the front of a part; the rest keeps its contents.
+fn put_row(out: &mut [u8], sets: &[[u64; WORDS]; 128], p: u8, s: Standing)
     requires { ⌜ programSection .size ≤ length (now out) ⌝ }
-    ensures { λ r. ⌜ now (out .exit) ≡ programSection .write p ++ drop (programSection .size) (now (out .entry)) ⌝ }
+    requires { ⌜ ((1 ≤ p) × (p ≤ 32)) × IsStore (now sets) ⌝ }
+    ensures { λ r. ⌜ now (out .exit)
+        ≡ programSection .write (programWith (now (sets .entry)) (p - 1) s) ++ drop (programSection .size) (now (out .entry)) ⌝ }
 {
-    let s = p.standing;
     let standing = [kind(s), parts::standings::awaited(s)];
-    put_set(out, 0, p.writable);
-    put_set(out, READABLE_AT, p.readable);
-    put_set(out, WRITING_AT, p.writing);
-    put_set(out, READING_AT, p.reading);
+    let v = sets::writable_at(p);
+    put_set(out, 0, sets, v);
+    let q = sets::readable_at(p);
+    put_set(out, READABLE_AT, sets, q);
+    let w = sets::writing_at(p);
+    put_set(out, WRITING_AT, sets, w);
+    let r = sets::reading_at(p);
+    put_set(out, READING_AT, sets, r);
     put_at(out, STANDING_AT, &standing);
 }
 
 // Writes the programs' rows at the front of a part; the rest keeps its contents.
-fn put_rows(out: &mut [u8], programs: [Program; 32])
+fn put_rows(out: &mut [u8], sets: &[[u64; WORDS]; 128], seats: [Seat; 32])
     requires { ⌜ programsSection .size ≤ length (now out) ⌝ }
-    ensures { λ r. ⌜ now (out .exit) ≡ programsSection .write programs ++ drop (programsSection .size) (now (out .entry)) ⌝ }
+    requires { ⌜ IsStore (now sets) ⌝ }
+    ensures { λ r. ⌜ now (out .exit)
+        ≡ programsSection .write (programsFrom (now (sets .entry)) (λ i. getD seats i noSeat .standing) 32 0)
+        ++ drop (programsSection .size) (now (out .entry)) ⌝ }
 {
     let mut i: usize = 0;
     while i < 32 {
-        put_row(&mut out[ROW_LEN * i..], programs[i]);
+        let seat = seats[i];
+        let s = seat.standing;
+        put_row(&mut out[ROW_LEN * i..], sets, (i + 1) as u8, s);
         i += 1;
     }
 }
@@ -133,32 +160,44 @@ fn put_places(out: &mut [u8], at: usize, places: [u8; 32])
 }
 
 // Writes the image of a board into a buffer of its length, section by section.
-fn fill_image(out: &mut [u8], b: Board)
+fn fill_image(out: &mut [u8], sets: &[[u64; WORDS]; 128], rest: Rest)
     requires { ⌜ length (now out) ≡ imageLength ⌝ }
-    ensures { λ r. ⌜ now (out .exit) ≡ imageOf b ⌝ }
+    requires { ⌜ IsStore (now sets) ⌝ }
+    ensures { λ r. ⌜ now (out .exit) ≡ imageOf (boardOf (now (sets .entry)) rest) ⌝ }
 {
-    let programs = b.programs;
-    let waiting = b.waiting;
-    let entry = b.entry;
-    let numbers = [b.favoured, b.initial, b.leaves];
-    let passed = b.passed;
-    put_rows(out, programs);
+    let seats = rest.seats;
+    let waiting = rest.waiting;
+    let entry = rest.entry;
+    let numbers = [rest.favoured, rest.initial, rest.leaves];
+    let passed = rest.passed;
+    put_rows(out, sets, seats);
     put_places(out, WAITING_AT, waiting);
     put_places(out, ENTRY_AT, entry);
     put_at(out, NUMBERS_AT, &numbers);
     put_places(out, COUNTS_AT, passed);
 }
 
-// Writes the image of a board, sound or not, and says whether it could: a buffer of another length stays as it was.
-pub fn put_image(out: &mut [u8], b: Board) -> bool
+// Writes the image of a board, sound or not, by its sets and the rest, and says whether it could: a buffer of another length stays as it was.
+pub fn put_image_of(out: &mut [u8], sets: &[[u64; WORDS]; 128], rest: Rest) -> bool
+    requires { ⌜ IsStore (now sets) ⌝ }
     ensures { λ r. ⌜ r ≡ imageFits (now (out .entry)) ⌝ }
-    ensures { λ r. ⌜ now (out .exit) ≡ imageIn (now (out .entry)) b ⌝ }
+    ensures { λ r. ⌜ now (out .exit) ≡ imageIn (now (out .entry)) (boardOf (now (sets .entry)) rest) ⌝ }
 {
     if out.len() != IMAGE_LEN {
         return false;
     }
-    fill_image(out, b);
+    fill_image(out, sets, rest);
     true
+}
+
+// Writes the image of a board, whole.
+pub fn put_image(out: &mut [u8], b: Board) -> bool
+    ensures { λ r. ⌜ r ≡ imageFits (now (out .entry)) ⌝ }
+    ensures { λ r. ⌜ now (out .exit) ≡ imageIn (now (out .entry)) b ⌝ }
+{
+    let mut sets = [[0u64; WORDS]; 128];
+    let rest = store::sets::take(b, &mut sets);
+    put_image_of(out, &sets, rest)
 }
 
 // Two bytes, lowest first.
@@ -219,23 +258,34 @@ fn row_fits(s: &[u8]) -> bool
     kind_fits(s[STANDING_AT], s[AWAITED_AT])
 }
 
-// The program of a row.
-fn read_row(s: &[u8]) -> Program
-    requires { ⌜ length (now s) ≡ programSection .size ⌝ }
-    ensures { λ r. ⌜ r ≡ programSection .read (now (s .entry)) ⌝ }
+// Reads a set into place k.
+fn take_set(s: &[u8], sets: &mut [[u64; WORDS]; 128], k: usize)
+    requires { ⌜ length (now s) ≡ setSection .size ⌝ }
+    requires { ⌜ (k < 128) × IsStore (now sets) ⌝ }
+    ensures { λ _. ⌜ now (sets .exit) ≡ set (now (sets .entry)) k (wordsFor wordCount (setSection .read (now (s .entry)))) ⌝ }
+    ensures { λ _. ⌜ setOf (wordsFor wordCount (setSection .read (now (s .entry)))) ≡ setSection .read (now (s .entry)) ⌝ }
+    ensures { λ _. ⌜ IsStore (now (sets .exit)) ⌝ }
 {
-    let writable = read_set(&s[0..READABLE_AT]);
-    let readable = read_set(&s[READABLE_AT..WRITING_AT]);
-    let writing = read_set(&s[WRITING_AT..READING_AT]);
-    let reading = read_set(&s[READING_AT..STANDING_AT]);
-    let standing = standing_of(s[STANDING_AT], s[AWAITED_AT]);
-    Program {
-        writable,
-        readable,
-        writing,
-        reading,
-        standing,
-    }
+    let t = read_set(s);
+    words::put(&mut sets[k], t);
+}
+
+// Reads a row: its sets go into the places of program p, and its standing comes back.
+fn read_row(s: &[u8], sets: &mut [[u64; WORDS]; 128], p: u8) -> Standing
+    requires { ⌜ length (now s) ≡ programSection .size ⌝ }
+    requires { ⌜ ((1 ≤ p) × (p ≤ 32)) × IsStore (now sets) ⌝ }
+    ensures { λ r. ⌜ r ≡ programSection .read (now (s .entry)) .standing ⌝ }
+    ensures { λ _. ⌜ PutAt (programSection .read (now (s .entry))) (p - 1) (now (sets .entry)) (now (sets .exit)) ⌝ }
+{
+    let v = sets::writable_at(p);
+    take_set(&s[0..READABLE_AT], sets, v);
+    let q = sets::readable_at(p);
+    take_set(&s[READABLE_AT..WRITING_AT], sets, q);
+    let w = sets::writing_at(p);
+    take_set(&s[WRITING_AT..READING_AT], sets, w);
+    let r = sets::reading_at(p);
+    take_set(&s[READING_AT..STANDING_AT], sets, r);
+    standing_of(s[STANDING_AT], s[AWAITED_AT])
 }
 
 // Whether every row is of its layout.
@@ -254,20 +304,24 @@ fn rows_fit(s: &[u8]) -> bool
     true
 }
 
-// The programs of the rows.
-fn read_rows(s: &[u8]) -> [Program; 32]
+// Reads the rows of an image: the sets go into their places, and the seats come back.
+fn read_rows(s: &[u8], sets: &mut [[u64; WORDS]; 128]) -> [Seat; 32]
     requires { ⌜ programsSection .size ≤ length (now s) ⌝ }
-    ensures { λ r. ⌜ r ≡ programsSection .read (now (s .entry)) ⌝ }
+    requires { ⌜ IsStore (now sets) ⌝ }
+    ensures { λ r. ⌜ SeatsTo (imageSection .read (now (s .entry))) 32 r ⌝ }
+    ensures { λ _. ⌜ SetsOf (imageSection .read (now (s .entry))) (now (sets .exit)) ⌝ }
 {
-    let p = Program::ABSENT;
-    let mut ps = [p; 32];
+    let mut seats = [Seat {
+        standing: Standing::Absent,
+    }; 32];
     let mut i: usize = 0;
     while i < 32 {
         let a = ROW_LEN * i;
-        ps[i] = read_row(&s[a..a + ROW_LEN]);
+        let standing = read_row(&s[a..a + ROW_LEN], sets, (i + 1) as u8);
+        seats[i] = Seat { standing };
         i += 1;
     }
-    ps
+    seats
 }
 
 // 32 bytes as an array: a line, or the counts.
@@ -288,21 +342,23 @@ fn layout_fits(image: &[u8]) -> bool
     rows_fit(image)
 }
 
-// The board of an image, or a refusal with the empty board.
-pub fn load(image: &[u8]) -> Loaded
-    ensures { λ r. ⌜ r ≡ loadedOf (now (image .entry)) ⌝ }
+// The board of an image, by its sets and the rest, or a refusal with the empty board.
+pub fn load_in(image: &[u8], sets: &mut [[u64; WORDS]; 128]) -> LoadedRest
+    requires { ⌜ now sets ≡ emptySets ⌝ }
+    ensures { λ r. ⌜ loadedIn (now (sets .exit)) r ≡ loadedOf (now (image .entry)) ⌝ }
+    ensures { λ _. ⌜ IsStore (now (sets .exit)) ⌝ }
 {
     if image.len() != IMAGE_LEN {
-        let board = Board::EMPTY;
-        return Loaded { ok: false, board };
+        let rest = Rest::EMPTY;
+        return LoadedRest { ok: false, rest };
     }
     if layout_fits(image) {
-        let programs = read_rows(image);
+        let seats = read_rows(image, sets);
         let waiting = read_places(&image[WAITING_AT..ENTRY_AT]);
         let entry = read_places(&image[ENTRY_AT..NUMBERS_AT]);
         let passed = read_places(&image[COUNTS_AT..IMAGE_LEN]);
-        let board = Board {
-            programs,
+        let rest = Rest {
+            seats,
             waiting,
             entry,
             favoured: image[NUMBERS_AT],
@@ -310,8 +366,20 @@ pub fn load(image: &[u8]) -> Loaded
             leaves: image[NUMBERS_AT + 2],
             passed,
         };
-        return Loaded { ok: true, board };
+        return LoadedRest { ok: true, rest };
     }
-    let board = Board::EMPTY;
-    Loaded { ok: false, board }
+    let rest = Rest::EMPTY;
+    LoadedRest { ok: false, rest }
+}
+
+// The board of an image, whole.
+pub fn load(image: &[u8]) -> Loaded
+    ensures { λ r. ⌜ r ≡ loadedOf (now (image .entry)) ⌝ }
+{
+    let mut sets = [[0u64; WORDS]; 128];
+    let l = load_in(image, &mut sets);
+    let ok = l.ok;
+    let rest = l.rest;
+    let board = whole::board(&sets, rest);
+    Loaded { ok, board }
 }

@@ -1,12 +1,13 @@
 // A request line on a board that is known to be sound: check 2, the line, the direct call that it asks for,
 // and its lines in the journal.
 use apply::Changed;
+use files::WORDS;
 use request::Reading;
 use request::Request;
-use rules::Board;
 use rules::Line;
 use rules::Refusal;
 use rules::Word;
+use store::Rest;
 ghost use mathlib.Core.Path.{_≡_};
 ghost use mathlib.Core.Bool.{true};
 ghost use Prim.Native.Nat.{_+_, _*_, _≤_};
@@ -15,7 +16,11 @@ ghost use Rattle.rules.specs.Soundness.{sound};
 ghost use Rattle.rules.specs.Calls.{direct};
 ghost use Rattle.request.specs.Requests.{requestCall};
 ghost use Rattle.journal.specs.Journal.{journalLine, journalRoom, written};
-ghost use Rattle.apply.specs.Replies.{replyOf, ComesTo};
+ghost use Rattle.parts.specs.Entries.{IsEntries, noEntries};
+ghost use Rattle.store.specs.Sets.{IsStore};
+ghost use Rattle.store.specs.Store.{boardOf};
+ghost use Rattle.settling.specs.Writing.{writtenIn};
+ghost use Rattle.apply.specs.Replies.{replied, ComesTo};
 ghost use Rattle.linecall.specs.LineCall.{journalFull, FitsLine, refuseLine, linesFor, replyTo, lineCall};
 
 // What the call comes to, and the new place in the journal.
@@ -51,16 +56,24 @@ fn refuse_line(q: Request, n: u8) -> Line
 }
 
 // Writes a call's lines into the journal from the place on, and gives the new place.
-fn write_lines(journal: &mut [u8], place: usize, q: Request, c: Changed) -> usize
-    requires { ⌜ (place + journalRoom ≤ length (now journal)) × (c .written .count ≤ 32) × FitsLine q ⌝ }
-    ensures { λ p. ⌜ p ≡ place + journalLine * length (linesFor q (replyOf c)) ⌝ }
-    ensures { λ p. ⌜ now (journal .exit) ≡ written (now (journal .entry)) place (linesFor q (replyOf c)) ⌝ }
+fn write_lines(
+    sets: &[[u64; WORDS]; 128],
+    lines: &[[u8; 4]; 32],
+    journal: &mut [u8],
+    place: usize,
+    q: Request,
+    c: Changed,
+) -> usize
+    requires { ⌜ (place + journalRoom ≤ length (now journal)) × (c .progress .count ≤ 32) × FitsLine q × IsEntries (now lines) ⌝ }
+    ensures { λ p. ⌜ p ≡ place
+        + journalLine * length (linesFor q (replied (writtenIn (now (sets .entry)) (now (lines .entry)) (c .progress)) (c .answer))) ⌝ }
+    ensures { λ _. ⌜ now (journal .exit)
+        ≡ written (now (journal .entry)) place (linesFor q (replied (writtenIn (now (sets .entry)) (now (lines .entry)) (c .progress)) (c .answer))) ⌝ }
 {
     let answer = c.answer;
     let n = parts::refusals::of_answer(answer);
     if n == 0 {
-        let w = c.written;
-        let lines = w.lines;
+        let w = c.progress;
         return journal::put_lines(journal, place, lines, w.count as usize);
     }
     let l = refuse_line(q, n);
@@ -69,40 +82,61 @@ fn write_lines(journal: &mut [u8], place: usize, q: Request, c: Changed) -> usiz
 }
 
 // The direct call that a taken line asks for.
-fn call(b: Board, q: Request) -> Changed
-    requires { ⌜ sound b ≡ true ⌝ }
-    ensures { λ r. ⌜ ComesTo r (direct b (requestCall q)) ⌝ }
+fn call(
+    sets: &mut [[u64; WORDS]; 128],
+    rest: Rest,
+    lines: &mut [[u8; 4]; 32],
+    q: Request,
+) -> Changed
+    requires { ⌜ (sound (boardOf (now sets) rest) ≡ true) × IsStore (now sets) × (now lines ≡ noEntries) ⌝ }
+    ensures { λ r. ⌜ ComesTo (now (sets .exit)) (now (lines .exit)) r (direct (boardOf (now (sets .entry)) rest) (requestCall q)) ⌝ }
+    ensures { λ _. ⌜ IsStore (now (sets .exit)) × IsEntries (now (lines .exit)) ⌝ }
 {
     let asked = q.asked;
-    apply::call(b, asked)
+    apply::call(sets, rest, lines, asked)
 }
 
 // What a line comes to: its direct call, or a refusal.
-fn reply_to(b: Board, q: Request) -> Changed
-    requires { ⌜ sound b ≡ true ⌝ }
-    ensures { λ r. ⌜ ComesTo r (replyTo b q) ⌝ }
+fn reply_to(
+    sets: &mut [[u64; WORDS]; 128],
+    rest: Rest,
+    lines: &mut [[u8; 4]; 32],
+    q: Request,
+) -> Changed
+    requires { ⌜ (sound (boardOf (now sets) rest) ≡ true) × IsStore (now sets) × (now lines ≡ noEntries) ⌝ }
+    ensures { λ r. ⌜ ComesTo (now (sets .exit)) (now (lines .exit)) r (replyTo (boardOf (now (sets .entry)) rest) q) ⌝ }
+    ensures { λ _. ⌜ IsStore (now (sets .exit)) × IsEntries (now (lines .exit)) ⌝ }
 {
     let reading = q.reading;
     match reading {
-        Reading::Taken => call(b, q),
-        Reading::Refused(n) => apply::replies::refused(b, n),
+        Reading::Taken => call(sets, rest, lines, q),
+        Reading::Refused(n) => apply::replies::refused(sets, rest, lines, n),
     }
 }
 
 // The line call on a sound board, but for the order of its reply.
-pub fn line(b: Board, line: &[u8], journal: &mut [u8], place: u64) -> Served
-    requires { ⌜ sound b ≡ true ⌝ }
-    ensures { λ r. ⌜ ComesTo (r .changed) (lineCall b (now (line .entry)) (now (journal .entry)) place .reply) ⌝ }
-    ensures { λ r. ⌜ r .place ≡ lineCall b (now (line .entry)) (now (journal .entry)) place .place ⌝ }
-    ensures { λ r. ⌜ now (journal .exit) ≡ lineCall b (now (line .entry)) (now (journal .entry)) place .journal ⌝ }
+pub fn line(
+    sets: &mut [[u64; WORDS]; 128],
+    rest: Rest,
+    lines: &mut [[u8; 4]; 32],
+    line: &[u8],
+    journal: &mut [u8],
+    place: u64,
+) -> Served
+    requires { ⌜ (sound (boardOf (now sets) rest) ≡ true) × IsStore (now sets) × (now lines ≡ noEntries) ⌝ }
+    ensures { λ r. ⌜ ComesTo (now (sets .exit)) (now (lines .exit)) (r .changed)
+        (lineCall (boardOf (now (sets .entry)) rest) (now (line .entry)) (now (journal .entry)) place .reply) ⌝ }
+    ensures { λ r. ⌜ r .place ≡ lineCall (boardOf (now (sets .entry)) rest) (now (line .entry)) (now (journal .entry)) place .place ⌝ }
+    ensures { λ _. ⌜ now (journal .exit) ≡ lineCall (boardOf (now (sets .entry)) rest) (now (line .entry)) (now (journal .entry)) place .journal ⌝ }
+    ensures { λ _. ⌜ IsStore (now (sets .exit)) × IsEntries (now (lines .exit)) ⌝ }
 {
     if is_full(journal.len(), place) {
-        let changed = apply::replies::refused(b, Refusal::JournalFull);
+        let changed = apply::replies::refused(sets, rest, lines, Refusal::JournalFull);
         return Served { changed, place };
     }
     let q = request::read(line);
-    let changed = reply_to(b, q);
-    let at = write_lines(journal, place as usize, q, changed);
+    let changed = reply_to(sets, rest, lines, q);
+    let at = write_lines(sets, lines, journal, place as usize, q, changed);
     Served {
         changed,
         place: at as u64,

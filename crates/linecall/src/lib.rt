@@ -28,19 +28,20 @@ pub fn line_call(b: Board, line: &[u8], journal: &mut [u8], place: u64) -> Poste
     ensures { λ r. ⌜ mayCarry b (requestCall (requestOf (now (line .entry)))) (r .reply .answer) (named (r .carries)) ≡ true ⌝ }
 {
     let mut sets = [[0u64; WORDS]; 128];
-    let rest = store::take(b, &mut sets);
+    let rest = store::sets::take(b, &mut sets);
     let j = sound::judge(&sets, rest);
     if !j.sound {
-        let reply = apply::replies::refused_unsound(b);
+        let reply = reply::refused_unsound(b);
         return Posted {
             reply,
             place,
             carries: Loop::NONE,
         };
     }
-    let s = known::line(b, line, journal, place);
+    let mut lines = [[0u8; 4]; 32];
+    let s = known::line(&mut sets, rest, &mut lines, line, journal, place);
     let order = j.order;
-    let reply = apply::replies::complete(s.changed, order);
+    let reply = reply::complete(&sets, &lines, s.changed, order);
     let carries = digraph::answers::loop_of(b, reply);
     Posted {
         reply,

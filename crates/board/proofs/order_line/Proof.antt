@@ -23,12 +23,13 @@ returns : tie.Need-returns
 unfolding orderOf
 returns c =
     let u = c .before .before in
-    let a = worded u .before .before .before .before .args in
+    let s = worded u .before .before .before .before in
+    let a = s .args in
     let w = worded u .copy in
-    let o = u .before .before .before .carried-order in
+    let o = u .before .before .before .carried-in in
     let k = u .put-programs in (
       order-is (o .result .at) (a .out .now) (w .last .1 .0) (k .last .0) (k .result) (w .ensures .1) (k .ensures .0)
-          (omega (arith, k .ensures .1, k .kept .0, w .kept .1 .0))
+          (omega (arith, k .ensures .1, k .kept .0, w .kept .1 .0, s .pre .0))
           ∙ ap (λ (x : Order). orderLine (x .at)) (o .ensures),
       omega (arith, k .ensures .1),
     )

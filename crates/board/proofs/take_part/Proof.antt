@@ -7,6 +7,8 @@ use mathlib.Core.Bool.{true}
 use native.Mathlib.Omega.{arith}
 use lib.ListN.{length, take, length-take}
 use Rattle.rules.specs.Soundness.{sound}
+use Rattle.store.specs.Sets.{IsStore}
+use Rattle.store.specs.Store.{boardOf}
 use Rattle.board.specs.Input.{bufferLength, lastPlace, held, fed}
 use Rattle.board.proofs.Laws.{part-begins, part-ends, part-line}
 use Rattle.request.specs.Verbs.{cutLine}
@@ -15,13 +17,14 @@ use Rattle.board.proofs.take_part.Statement.{statement}
 use Rattle.board.proofs.take_part.Tie as tie
 
 abbrev Inv-loop : tie.InvT-loop
-Inv-loop part kept₀ journal₀ s₀ at₀ kept journal s at =
+Inv-loop sets₀ part kept₀ journal₀ s₀ at₀ sets kept journal s at =
     (at ≤ length part) × (s .kept ≤ cutLine) × (s .out .place ≤ lastPlace) × (length kept ≡ cutLine) × (length journal ≡ bufferLength)
-    × (held (s .board) (take (s .kept) kept) (take (s .out .place) journal) ≡ fed (held (s₀ .board) (take (s₀ .kept) kept₀) []) (take at part))
-    × (sound (s .board) ≡ true) × (s .out .failed ≡ s₀ .out .failed)
+    × (held (boardOf sets (s .rest)) (take (s .kept) kept) (take (s .out .place) journal)
+    ≡ fed (held (boardOf sets₀ (s₀ .rest)) (take (s₀ .kept) kept₀) []) (take at part))
+    × (sound (boardOf sets (s .rest)) ≡ true) × (s .out .failed ≡ s₀ .out .failed) × IsStore sets
 
 abbrev μ-loop : tie.MeasureT-loop
-μ-loop part kept₀ journal₀ s₀ at₀ kept journal s at = length part - at
+μ-loop sets₀ part kept₀ journal₀ s₀ at₀ sets kept journal s at = length part - at
 
 loop-holds : tie.Need-loop-holds Inv-loop μ-loop
 loop-holds c =
@@ -33,9 +36,11 @@ loop-holds c =
       omega (arith, p .1 .0),
       p .0 .2,
       p .1 .1,
-      part-begins (a .start .board) (take (a .start .kept) (a .kept .now)) (a .journal .now) (a .part .now) (a .start .out .place) (p .1 .0),
+      part-begins (boardOf (a .sets .now) (a .start .rest)) (take (a .start .kept) (a .kept .now)) (a .journal .now) (a .part .now)
+          (a .start .out .place) (p .1 .0),
       p .0 .0,
       refl,
+      p .1 .3,
     )
 
 abbrev start : tie.At-loop Inv-loop μ-loop → tie.Start Inv-loop μ-loop
@@ -56,49 +61,59 @@ returns c =
     let p = s .args .part .now in
     let j = take (l .s .out .place) (l .journal) in
     let z : e .result ≡ length p = t .if1 .taken in (
-      ap (λ (x : List ℕ). held (l .s .board) x j) (k .keep .ensures .0)
-          ∙ part-ends _ (l .s .board) (take (l .s .kept) (l .kept)) j p (l .at) (e .result)
+      ap (λ (x : List ℕ). held (boardOf (l .sets) (l .s .rest)) x j) (k .keep .ensures .0)
+          ∙ part-ends _ (boardOf (l .sets) (l .s .rest)) (take (l .s .kept) (l .kept)) j p (l .at) (e .result)
           (omega (arith, length-take (l .s .kept) (l .kept))) (e .ensures .0) (l .inv .5) z,
       (
-        (l .inv .6, k .keep .ensures .1, omega (arith, l .inv .2), l .inv .7),
+        (l .inv .6, k .keep .ensures .1, omega (arith, l .inv .2), l .inv .7, l .inv .8),
         (omega (arith, z, s .pre .1 .2), omega (arith, z), (λ h. absurd (omega (arith, z, h)))),
       ),
     )
 
 -- where the served line ends
 abbrev end : tie.After-end-line Inv-loop μ-loop → tie.After-line-end Inv-loop μ-loop
-end k = k .before .before .before .before .before
+end k = k .before .before .before .before .before .before
 
 -- it ends before the part does
 ends-within : (k : tie.After-end-line Inv-loop μ-loop) → end k .line-end .result < length (start (turn (end k)) .args .part .now)
 ends-within k =
     let e = end k .line-end in
-    let ne : e .result ≢ length (start (turn (end k)) .args .part .now) = k .before .before .before .before .if1 .left in
+    let ne : e .result ≢ length (start (turn (end k)) .args .part .now) = k .before .before .before .before .before .if1 .left in
     let h = e .ensures .1 in
     omega arith
 
 -- a line was served
 line-taken : (k : tie.After-end-line Inv-loop μ-loop) → let a = start (turn (end k)) .args in let r = k .end-line .result in
-    held (r .board) (take (r .kept) (k .end-line .last .1 .1 .0)) (take (r .out .place) (k .end-line .last .1 .1 .1 .0))
-    ≡ fed (held (a .start .board) (take (a .start .kept) (a .kept .now)) []) (take (end k .line-end .result + 1) (a .part .now))
+    held (boardOf (k .end-line .last .0) (r .rest)) (take (r .kept) (k .end-line .last .1 .1 .1 .0)) (take (r .out .place) (k .end-line .last .1 .1 .1 .1 .0))
+    ≡ fed (held (boardOf (a .sets .now) (a .start .rest)) (take (a .start .kept) (a .kept .now)) []) (take (end k .line-end .result + 1) (a .part .now))
 line-taken k =
     let e = end k .line-end in
     let l = turn (end k) .loop in
     let p = start (turn (end k)) .args .part .now in
     let r = k .end-line .result in
-    let j = take (r .out .place) (k .end-line .last .1 .1 .1 .0) in
-    ap (λ (n : ℕ). held (r .board) (take n (k .end-line .last .1 .1 .0)) j) (k .end-line .ensures .1 .1)
+    let j = take (r .out .place) (k .end-line .last .1 .1 .1 .1 .0) in
+    ap (λ (n : ℕ). held (boardOf (k .end-line .last .0) (r .rest)) (take n (k .end-line .last .1 .1 .1 .0)) j) (k .end-line .ensures .1 .1)
     ∙ k .end-line .ensures .0
-    ∙ part-line _ (l .s .board) (take (l .s .kept) (l .kept)) (take (l .s .out .place) (l .journal)) p (l .at) (e .result)
+    ∙ part-line _ (boardOf (l .sets) (l .s .rest)) (take (l .s .kept) (l .kept)) (take (l .s .out .place) (l .journal)) p (l .at) (e .result)
     (omega (arith, length-take (l .s .kept) (l .kept))) (e .ensures .0) (l .inv .5) (ends-within k)
+
+-- the length of a part is a number of 64 bits
+fits : (s : tie.Start Inv-loop μ-loop) → length (s .args .part .now) < 18446744073709551616
+fits s = omega arith
+
+add-at : tie.Need-add-at Inv-loop μ-loop
+add-at c =
+    let k = c .before .before .before .before in
+    let h : end k .line-end .result + 1 < 18446744073709551616 = omega (arith, ends-within k, fits (start (turn (end k)))) in
+    record { fits = h }
 
 same-length-3 : tie.Need-same-length-3 Inv-loop μ-loop
 same-length-3 c = let k = c .before .before .before .before .before .before in let l = turn (end k) in
-    k .end-line .kept .1 .1 .0 ∙ l .loop .inv .3 ∙ sym (start l .pre .0 .2)
+    k .end-line .kept .1 .1 .1 .0 ∙ l .loop .inv .3 ∙ sym (start l .pre .0 .2)
 
 same-length-4 : tie.Need-same-length-4 Inv-loop μ-loop
 same-length-4 c = let k = c .before .before .before .before .before .before in let l = turn (end k) in
-    k .end-line .kept .1 .1 .1 .0 ∙ l .loop .inv .4 ∙ sym (start l .pre .1 .1)
+    k .end-line .kept .1 .1 .1 .1 .0 ∙ l .loop .inv .4 ∙ sym (start l .pre .1 .1)
 
 -- the journal has no room for another call
 returns-2 : tie.Need-returns-2 Inv-loop μ-loop
@@ -109,7 +124,7 @@ returns-2 c =
     let h = ends-within u in (
       line-taken u,
       (
-        (k .ensures .1 .0, omega (arith, k .ensures .1 .1), omega (arith, k .ensures .1 .2, l .inv .2), k .ensures .1 .3 ∙ l .inv .7),
+        (k .ensures .1 .0, omega (arith, k .ensures .1 .1), omega (arith, k .ensures .1 .2, l .inv .2), k .ensures .1 .3 ∙ l .inv .7, k .ensures .1 .4),
         (omega arith, omega arith, (λ _. omega (arith, c .if2 .taken))),
       ),
     )
@@ -123,11 +138,12 @@ loop-again c =
       omega arith,
       omega (arith, k .ensures .1 .1),
       omega (arith, c .if2 .left),
-      k .kept .1 .1 .0 ∙ l .inv .3,
-      k .kept .1 .1 .1 .0 ∙ l .inv .4,
+      k .kept .1 .1 .1 .0 ∙ l .inv .3,
+      k .kept .1 .1 .1 .1 .0 ∙ l .inv .4,
       line-taken u,
       k .ensures .1 .0,
       k .ensures .1 .3 ∙ l .inv .7,
+      k .ensures .1 .4,
     )
 
 -- the part ends with a line
@@ -136,7 +152,7 @@ returns-3 c =
     let l = c .before .loop in (
       l .inv .5,
       (
-        (l .inv .6, l .inv .1, omega (arith, l .inv .2), l .inv .7),
+        (l .inv .6, l .inv .1, omega (arith, l .inv .2), l .inv .7, l .inv .8),
         (omega (arith, start (c .before) .pre .1 .2), omega arith, (λ h. absurd (omega (arith, h)))),
       ),
     )
@@ -160,7 +176,7 @@ take-part-spec =
     (λ c. search needs)
     (λ c. search needs)
     (λ c κs. search needs)
-    (λ c. search needs)
+    add-at
     same-length-3
     same-length-4
     returns-2

@@ -2,11 +2,13 @@
 use borrow.Author.Needs.{needs}
 use mathlib.Core.Path.{_≡_, refl, _∙_}
 use mathlib.Core.List.{_++_}
-use Prim.Native.Nat.{_-_, _*_, _≤_}
+use Prim.Native.Nat.{_+_, _-_, _*_, _≤_}
 use native.Mathlib.Omega.{arith}
 use lib.ListN.{length, take, drop}
 use lib.Seq.{take-all}
 use Rattle.columns.specs.Rows.{flat}
+use Rattle.rules.specs.Boards.{noProgram}
+use Rattle.whole.proofs.Laws.{made, made-size, made-in}
 use Rattle.image.specs.Image.{programSection}
 use Rattle.image.proofs.Laws.{put-row-part}
 use Rattle.image.proofs.RoundTrip.{row-length}
@@ -14,15 +16,18 @@ use Rattle.image.proofs.put_rows.Statement.{statement}
 use Rattle.image.proofs.put_rows.Tie as tie
 
 abbrev Inv-loop : tie.InvT-loop
-Inv-loop out₀ programs i₀ out i =
-    (i ≤ 32) × (length out ≡ length out₀) × (out ≡ flat (programSection .write) (take i programs) ++ drop (programSection .size * i) out₀)
+Inv-loop out₀ sets seats i₀ out i =
+    (i ≤ 32) × (length out ≡ length out₀) × (out ≡ flat (programSection .write) (take i (made sets seats)) ++ drop (programSection .size * i) out₀)
 
 abbrev μ-loop : tie.MeasureT-loop
-μ-loop out₀ programs i₀ out i = 32 - i
+μ-loop out₀ sets seats i₀ out i = 32 - i
 
 loop-holds : tie.Need-loop-holds Inv-loop μ-loop
 unfolding flat
 loop-holds c = (omega arith, refl, refl)
+
+put-row-requires : tie.Need-put-row-requires Inv-loop μ-loop
+put-row-requires c κs = (search needs, ((search needs, search needs), c .before .before .before .before .before .pre .1))
 
 loop-again : tie.Need-loop-again Inv-loop μ-loop
 loop-again c =
@@ -30,11 +35,13 @@ loop-again c =
     let t = p .before .before .before .before in
     let l = t .loop in
     let a = t .before .before .args in
-    let n : length (a .t2) ≡ 32 = search needs in (
+    let m = made (a .sets .now) (a .t3) in
+    let z : l .i + 1 - 1 ≡ l .i = omega arith in (
       omega arith,
       omega arith,
-      put-row-part (programSection .write) (programSection .size) row-length (a .out .now) (l .out) _ (a .t2) _ (l .i)
-          (omega (arith, n)) (l .inv .2) (p .put-row .ensures),
+      put-row-part (programSection .write) (programSection .size) row-length (a .out .now) (l .out) (p .put-row .last .0) m noProgram (l .i)
+          (omega (arith, made-size (a .sets .now) (a .t3))) (l .inv .2)
+          (rw (made-in (a .sets .now) (a .t3) (l .i) (search needs)) (rw z at (p .put-row .ensures))),
     )
 
 same-length : tie.Need-same-length Inv-loop μ-loop
@@ -43,9 +50,9 @@ same-length c = c .before .loop .inv .1
 returns : tie.Need-returns Inv-loop μ-loop
 returns c =
     let a = c .before .before .before .args in
-    let n : length (a .t2) ≡ 32 = search needs in
     let e : c .before .loop .i ≡ 32 = omega arith in
-    (rw e at (c .before .loop .inv .2)) ∙ rw (take-all 32 (a .t2) (omega (arith, n)))
+    let n = made-size (a .sets .now) (a .t3) in
+    (rw e at (c .before .loop .inv .2)) ∙ rw (take-all 32 (made (a .sets .now) (a .t3)) (omega (arith, n)))
 
 pub put-rows-spec : {M : Type 1} → statement M
 put-rows-spec =
@@ -60,7 +67,9 @@ put-rows-spec =
     (λ c. search needs)
     (λ c. search needs)
     (λ c. search needs)
-    (λ c κs. search needs)
+    (λ c. search needs)
+    (λ c. search needs)
+    put-row-requires
     (λ c. search needs)
     (λ c. search needs)
     loop-again

@@ -1,40 +1,57 @@
 -- `read_rows` meets its contract. Assumes nothing.
 use borrow.Author.Needs.{needs}
-use mathlib.Core.Path.{_≡_, refl, _∙_}
-use mathlib.Core.List.{_++_, append-nil}
-use Prim.Native.Nat.{_-_, _≤_}
+use mathlib.Core.Path.{_≡_, sym, ap, _∙_}
+use Prim.Native.Nat.{_+_, _-_, _≤_, _<_}
 use native.Mathlib.Omega.{arith}
 use native.Mathlib.Nat.{add-sub-cancel-left}
-use lib.ListN.{drop, length-take, length-drop}
-use Rattle.image.specs.Sections.{readMany}
-use Rattle.image.specs.Image.{programSection}
-use Rattle.image.proofs.Sections.{read-step, row-part}
+use lib.ListN.{length, length-take, length-drop}
+use Rattle.rules.specs.declared.Program.{Program}
+use Rattle.store.specs.Sets.{IsStore, SetsTo, PutAt, inPlace}
+use Rattle.store.specs.Store.{SeatsTo}
+use Rattle.store.proofs.Laws.{sets-more}
+use Rattle.store.proofs.Boards.{seats-more}
+use Rattle.image.specs.Image.{programSection, imageSection}
+use Rattle.image.proofs.Sections.{row-part}
+use Rattle.image.proofs.Stored.{row-in}
 use Rattle.image.proofs.read_rows.Statement.{statement}
 use Rattle.image.proofs.read_rows.Tie as tie
 
 abbrev Inv-loop : tie.InvT-loop
-Inv-loop s ps₀ i₀ ps i = (i ≤ 32) × (ps ≡ readMany programSection i s ++ drop i ps₀)
+Inv-loop s sets₀ seats₀ i₀ sets seats i =
+    (i ≤ 32) × (length seats ≡ 32) × IsStore sets × SetsTo (imageSection .read s) i sets × SeatsTo (imageSection .read s) i seats
 
 abbrev μ-loop : tie.MeasureT-loop
-μ-loop s ps₀ i₀ ps i = 32 - i
+μ-loop s sets₀ seats₀ i₀ sets seats i = 32 - i
 
 loop-holds : tie.Need-loop-holds Inv-loop μ-loop
-unfolding readMany
-loop-holds c = (omega arith, refl)
+loop-holds c = (search needs, search needs, c .before .pre .1, λ k m. absurd (omega arith), λ k m. absurd (omega arith))
 
 read-row-requires : tie.Need-read-row-requires Inv-loop μ-loop
-read-row-requires c κs = simp (add-sub-cancel-left, length-take, length-drop) (omega arith)
+read-row-requires c κs = let l = c .before .before .before .loop in
+    (simp (add-sub-cancel-left, length-take, length-drop) (omega arith), ((search needs, search needs), l .inv .2))
 
 loop-again : tie.Need-loop-again Inv-loop μ-loop
 loop-again c =
-    let s = c .before .before .before .before .before .args .s .now in
-    let l = c .before .before .before .loop in
-    (omega arith, rw (c .read-row .ensures, row-part programSection s (l .i)) (read-step programSection s (l .ps) _ (l .i) (omega arith) (l .inv .1)))
+    let r = c .before .before .before .before in
+    let l = r .loop in
+    let s = r .before .before .args .s .now in
+    let b = imageSection .read s in
+    let h : l .i < 32 = search needs in
+    let z : l .i + 1 - 1 ≡ l .i = omega arith in
+    let row = row-part programSection s (l .i) in
+    let put : PutAt (inPlace b (l .i)) (l .i) (l .sets) (c .read-row .last .1 .0)
+    = rw (row-in s (l .i) h) (rw (z, row) at (c .read-row .ensures .1)) in
+    let e : c .read-row .result ≡ inPlace b (l .i) .standing
+    = c .read-row .ensures .0 ∙ ap (λ (q : Program). q .standing) (ap (programSection .read) row ∙ sym (row-in s (l .i) h)) in (
+      search needs,
+      search needs,
+      put .is-store,
+      sets-more b (l .i) (l .sets) (c .read-row .last .1 .0) h put (l .inv .3),
+      rw e (seats-more b (l .i) (l .seats) (omega (arith, l .inv .1)) (l .inv .4)),
+    )
 
 returns : tie.Need-returns Inv-loop μ-loop
-returns c =
-    let e : c .before .loop .i ≡ 32 = omega arith in
-    (rw e at (c .before .loop .inv .1)) ∙ append-nil _
+returns c = let l = c .before .loop in (λ k m. l .inv .4 k (omega arith), (l .inv .2, λ k m. l .inv .3 k (omega arith)))
 
 pub read-rows-spec : {M : Type 1} → statement M
 read-rows-spec =
@@ -43,15 +60,17 @@ read-rows-spec =
     Inv-loop
     μ-loop
     loop-holds
-    (λ c. omega arith)
-    (λ c. omega arith)
-    (λ c. omega arith)
+    (λ c. search needs)
+    (λ c. search needs)
+    (λ c. search needs)
+    (λ c. search needs)
+    (λ c. search needs)
     (λ c. search needs)
     (λ c. search needs)
     read-row-requires
-    (λ c. omega arith)
-    (λ c. omega arith)
-    (λ c. omega arith)
-    (λ c. omega arith)
+    (λ c. search needs)
+    (λ c. search needs)
+    (λ c. search needs)
+    (λ c. search needs)
     loop-again
     returns)

@@ -1,19 +1,18 @@
 -- `line_call` meets its contract. Assumes nothing.
-use mathlib.Core.Path.{_≡_, ap, sym, _∙_}
-use mathlib.Core.Bool.{true}
+use mathlib.Core.Path.{_≡_, refl, ap, sym, _∙_}
 use borrow.Author.Tests.{not-true, not-false}
 use Rattle.rules.specs.declared.Board.{Board}
 use Rattle.rules.specs.declared.Reply.{Reply}
 use Rattle.rules.specs.Orders.{carried}
 use Rattle.rules.specs.Replies.{refused}
 use Rattle.rules.specs.Soundness.{sound}
+use Rattle.store.specs.Store.{boardOf}
 use Rattle.store.proofs.Laws.{fresh-store}
 use Rattle.search.specs.Rows.{asOrder}
-use Rattle.apply.proofs.Laws.{found-is}
-use Rattle.linecall.proofs.Laws.{call-unsound}
 use Rattle.request.specs.Requests.{requestOf, requestCall}
+use Rattle.linecall.specs.LineCall.{Outcome, lineCall}
 use Rattle.linecall.proofs.Carries.{line-carries, unsound-carries}
-use Rattle.linecall.proofs.Laws.{refused-same}
+use Rattle.linecall.proofs.Laws.{call-unsound, refused-same}
 use borrow.Author.Needs.{needs}
 use Rattle.linecall.proofs.line_call.Statement.{statement}
 use Rattle.linecall.proofs.line_call.Tie as tie
@@ -27,23 +26,25 @@ judge-requires c κs = c .before .take .ensures .0 .0
 abbrev begin : tie.After-judge → tie.Start
 begin j = j .before .before .before .before .before .before
 
--- what the test says of the board
-judged : (j : tie.After-judge) → let b = begin j .args .b in
-    (j .judge .result .sound ≡ sound b) × (j .judge .result .order ≡ asOrder (carried b))
-judged j = let e = j .before .before .take .ensures .1 in
-    (j .judge .ensures .0 ∙ ap sound e, j .judge .ensures .1 ∙ ap (λ (x : Board). asOrder (carried x)) e)
+-- the board by its sets and the rest
+abbrev board : tie.After-judge → Board
+board j = let t = j .before .before .take in boardOf (t .last .1 .0) (t .result)
 
-abbrev start : tie.Else1 → tie.Start
-start c = begin (c .before .before)
+same-board : (j : tie.After-judge) → board j ≡ begin j .args .b
+same-board j = j .before .before .take .ensures .1
 
--- the board is sound
-sure : (c : tie.Else1) → sound (start c .args .b) ≡ true
-sure c = let j = c .before .before in sym (judged j .0) ∙ not-false (j .judge .result .sound) (c .if1 .left)
+-- what the line call gives
+abbrev outcome : Board → tie.Start → Outcome
+outcome b s = let a = s .args in lineCall b (a .line .now) (a .journal .now) (a .place)
+
+-- where the line call is known
+abbrev judged : tie.After-line → tie.After-judge
+judged l = l .before .before .before .before .before .before
 
 returns : tie.Need-returns
 returns c = let i = c .before in let j = i .before .before in let a = begin j .args in
-    let e = call-unsound (a .b) (a .line .now) (a .journal .now) (a .place) (sym (judged j .0)
-    ∙ not-true (j .judge .result .sound) (i .if1 .taken)) in (
+    let e = call-unsound (a .b) (a .line .now) (a .journal .now) (a .place)
+    (sym (j .judge .ensures .0 ∙ ap sound (same-board j)) ∙ not-true (j .judge .result .sound) (i .if1 .taken)) in (
       rw e (c .refused-unsound .ensures),
       (
         rw e,
@@ -56,24 +57,27 @@ returns c = let i = c .before in let j = i .before .before in let a = begin j .a
     )
 
 line-requires : tie.Need-line-requires
-line-requires c κs = sure (c .before)
+line-requires c κs = let i = c .before .before .before in let j = i .before .before in
+    (sym (j .judge .ensures .0) ∙ not-false (j .judge .result .sound) (i .if1 .left), j .before .before .take .ensures .0 .0, refl)
 
 complete-requires : tie.Need-complete-requires
-complete-requires c κs = let l = c .before .before .before in let i = l .before .before in let a = start i .args in let k = l .line .ensures .0 in (
+complete-requires c κs = let l = c .before .before .before .before .before in let j = judged l in let a = begin j .args in let k = l .line .ensures in (
   λ h. let n = sym (ap (λ (x : Reply). refused (x .answer)) (k .0)) ∙ h in
-      judged (i .before .before) .1 ∙ sym (ap (λ (x : Board). asOrder (carried x)) (ap (λ (x : Reply). x .board) (k .0)
-      ∙ refused-same (a .b) (a .line .now) (a .journal .now) (a .place) n)),
-  found-is (l .line .result .changed) k,
+      j .judge .ensures .1 ∙ sym (ap (λ (x : Board). asOrder (carried x)) (ap (λ (x : Reply). x .board) (k .0)
+      ∙ refused-same (board j) (a .line .now) (a .journal .now) (a .place) n)),
+  k .1 .1 .1 .0,
+  k .1 .1 .1 .1,
 )
 
 returns-2 : tie.Need-returns-2
-returns-2 c = let f = c .before in let l = f .before .before .before .before in let k = l .line .ensures in let a = start (l .before .before) .args in
-    let q = f .complete .ensures ∙ k .0 .0 in (
+returns-2 c = let f = c .before in let l = f .before .before .before .before .before .before in let k = l .line .ensures in let j = judged l in
+    let s = begin j in let a = s .args in let e = same-board j in
+    let q = f .complete .ensures ∙ k .0 ∙ ap (λ (x : Board). outcome x s .reply) e in (
       q,
       (
-        k .1 .0,
+        k .1 .0 ∙ ap (λ (x : Board). outcome x s .place) e,
         (
-          k .1 .1,
+          k .1 .1 .0 ∙ ap (λ (x : Board). outcome x s .journal) e,
           line-carries (a .b) (a .line .now) (a .journal .now) (a .place) (f .complete .result) (c .loop-of .result) q (c .loop-of .ensures),
         ),
       ),

@@ -1,4 +1,7 @@
 -- `reply_to` meets its contract. Assumes nothing.
+use mathlib.Core.Path.{sym, subst}
+use Rattle.parts.specs.Entries.{IsEntries}
+use Rattle.parts.proofs.Lined.{fresh-entries}
 use Rattle.linecall.specs.LineCall.{replyTo}
 use borrow.Author.Needs.{needs}
 use Rattle.linecall.proofs.known.reply_to.Statement.{statement}
@@ -7,12 +10,12 @@ use Rattle.linecall.proofs.known.reply_to.Tie as tie
 returns : tie.Need-returns
 unfolding replyTo
 returns c =
-    rw (c .before .enum-told .given .1) (c .call .ensures)
+    rw (c .before .before .before .enum-told .given .1) (c .call .ensures)
 
 returns-2 : tie.Need-returns-2
 unfolding replyTo
-returns-2 c =
-    rw (c .before .before .reading .given .1) (c .refused .ensures)
+returns-2 c = let k = c .before .before .before .before in let s = k .before .before in
+    (rw (k .reading .given .1) (c .refused .ensures), (s .pre .1, subst IsEntries (sym (s .pre .2)) fresh-entries))
 
 pub reply-to-spec : {M : Type 1} → statement M
 reply-to-spec =
