@@ -9,7 +9,7 @@
 extern "C" {
 #endif
 
-#define LOCK_BOARD_VERSION "1.6.2" /* the image's form belongs to it; see CHANGELOG.md */
+#define LOCK_BOARD_VERSION "1.6.3" /* the image's form belongs to it; see CHANGELOG.md */
 
 #define LOCK_BOARD_IMAGE_LEN     1187 /* bytes of a board's image */
 #define LOCK_BOARD_JOURNAL_ROOM  512  /* bytes of journal that a call asks for from its place on */
