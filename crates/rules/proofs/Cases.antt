@@ -17,14 +17,16 @@ use Rattle.rules.specs.declared.Reply.{Reply}
 use Rattle.laws.specs.Lists.{any, all, keep, first, padded, rising, listed, distinct, without, same, names}
 use Rattle.rules.specs.Modes.{touching}
 use Rattle.rules.specs.Boards.{emptyBoard, everyone, admitted, tallied, opening, closing, dropping}
-use Rattle.rules.specs.Orders.{heldBack, carriedFrom, carried, withGiven, inUse, safe, canGive}
-use Rattle.rules.specs.Soundness.{setsSound, standingSound, programSound, noConflict, lineSound, waiterSound, noneFavoured}
-use Rattle.rules.specs.Soundness.{someFavoured, countSound, sound}
-use Rattle.rules.specs.Settling.{line, unfavour, resume, tryGive, pass, candidate, favour, overdue, admitHeld, runHeld, choose, settle}
+use Rattle.rules.specs.Orders.{taken, heldBack, carriedFrom, carried, withGiven, inUse, safe, canGive}
+use Rattle.rules.specs.Soundness.{mayHave, itemSound, usesDiffer, awaitedInUse, setsSound, standingSound, programSound, noConflict}
+use Rattle.rules.specs.Soundness.{lineSound, waiterSound, noneFavoured, someFavoured, countSound, sound}
+use Rattle.rules.specs.Settling.{line, lineOf, unfavour, resume, tryGive, pass, handTo, handOn, candidate, favour, overdue, admitHeld}
+use Rattle.rules.specs.Settling.{runHeld, choose, settle}
 use Rattle.rules.specs.Replies.{reply, refuse, wordOf, linesOf, orderOf}
-use Rattle.rules.specs.Checks.{enterCheck, openCheck, closeCheck, leaveCheck, cancelCheck}
+use Rattle.rules.specs.Checks.{enterCheck, openCheck, closeCheck, leaveCheck, cancelCheck, fetchCheck, returnCheck}
 use Rattle.rules.specs.Calls.{admit, hold, holdFor, enter, wait, openFile, done, closeFile, dropFile, countLeave, leave, countCancel, cancel}
-use Rattle.rules.specs.Calls.{Call, Enter, Open, Close, Drop, Leave, Cancel, programOf, fileOf, apply}
+use Rattle.rules.specs.Calls.{waitItem, fetch, finish, returnItem}
+use Rattle.rules.specs.Calls.{Call, Enter, Open, Close, Drop, Leave, Cancel, Fetch, Return, programOf, fileOf, itemOf, apply}
 use Rattle.rules.specs.Worked.{workedFrom, worked}
 use Rattle.rules.proofs.Tables.{set}
 
@@ -55,6 +57,7 @@ pub outcome : List Call → Case
 unfolding any all keep first padded rising listed distinct without same names
     everyone admitted tallied touching opening closing dropping
     heldBack carriedFrom carried withGiven inUse safe canGive
+    taken handTo handOn fetchCheck returnCheck waitItem fetch finish returnItem
     unfavour resume tryGive pass candidate favour overdue admitHeld runHeld choose settle
     reply refuse enterCheck openCheck closeCheck leaveCheck cancelCheck
     admit hold holdFor enter wait openFile done closeFile dropFile countLeave leave countCancel cancel apply
@@ -69,7 +72,7 @@ outcome-is cs = refl
 
 -- the call c is answered with a: the answer's line, then these lines of settling
 yes : Call → Answer → List Line → Told
-yes c a ls = record { call = c; answer = a; lines = line (wordOf a) (programOf c) (fileOf c) ∷ ls }
+yes c a ls = record { call = c; answer = a; lines = lineOf (wordOf a) (programOf c) (fileOf c) (itemOf c) ∷ ls }
 
 -- the call c is refused, and has no lines
 no : Call → Refusal → Told
@@ -78,11 +81,11 @@ no c r = record { call = c; answer = Answer.Refuse r; lines = [] }
 -- p enters with these files in V, or in Q, and is admitted
 writer : ℕ → List ℕ → Told
 unfolding yes set
-writer p v = yes (Enter p (set v) noFiles) Answer.Admit []
+writer p v = yes (Enter p (set v) noFiles noFiles) Answer.Admit []
 
 reader : ℕ → List ℕ → Told
 unfolding yes set
-reader p q = yes (Enter p noFiles (set q)) Answer.Admit []
+reader p q = yes (Enter p noFiles (set q) noFiles) Answer.Admit []
 
 -- p is given f
 gets : ℕ → ℕ → Told
@@ -105,7 +108,7 @@ b : Case
 unfolding nobody yes set gets
 b =
     record {
-      told = yes (Enter 1 (set (1 ∷ 2 ∷ [])) (set (3 ∷ []))) Answer.Admit [] ∷ gets 1 1 ∷ gets 1 2 ∷ gets 1 3 ∷ [];
+      told = yes (Enter 1 (set (1 ∷ 2 ∷ [])) (set (3 ∷ [])) noFiles) Answer.Admit [] ∷ gets 1 1 ∷ gets 1 2 ∷ gets 1 3 ∷ [];
       order = 1 ∷ [];
       favoured = nobody;
     }
@@ -150,7 +153,7 @@ g : Case
 unfolding nobody no set
 g =
     record {
-      told = no (Enter 1 (set (1 ∷ 2 ∷ [])) (set (2 ∷ 3 ∷ []))) Refusal.ClaimsMeet ∷ no (Open 1 2) Refusal.IsAbsent ∷ [];
+      told = no (Enter 1 (set (1 ∷ 2 ∷ [])) (set (2 ∷ 3 ∷ [])) noFiles) Refusal.ClaimsMeet ∷ no (Open 1 2) Refusal.IsAbsent ∷ [];
       order = [];
       favoured = nobody;
     }
@@ -177,7 +180,7 @@ j =
           ∷ gets 1 3
           ∷ yes (Open 2 2) Answer.Unsafe []
           ∷ yes (Close 1 3) Answer.Done (line Word.Favour 2 2 ∷ [])
-          ∷ yes (Enter 3 noFiles (set (2 ∷ []))) Answer.Held []
+          ∷ yes (Enter 3 noFiles (set (2 ∷ [])) noFiles) Answer.Held []
           ∷ yes (Leave 1) Answer.Done (line Word.Given 2 2 ∷ line Word.Admit 3 0 ∷ [])
           ∷ [];
       order = 2 ∷ 3 ∷ [];
@@ -216,7 +219,7 @@ l =
           ∷ yes (Open 2 2) Answer.Unsafe []
           ∷ yes (Open 4 3) Answer.Unsafe []
           ∷ yes (Close 1 5) Answer.Done (line Word.Favour 2 2 ∷ [])
-          ∷ yes (Enter 3 noFiles (set (9 ∷ []))) Answer.Held []
+          ∷ yes (Enter 3 noFiles (set (9 ∷ [])) noFiles) Answer.Held []
           ∷ yes (Leave 1) Answer.Done (line Word.Given 2 2 ∷ line Word.Favour 4 3 ∷ [])
           ∷ no (Open 3 9) Refusal.IsHeld
           ∷ [];
@@ -238,7 +241,7 @@ m =
           ∷ yes (Open 2 2) Answer.Unsafe []
           ∷ yes (Close 1 3) Answer.Done (line Word.Favour 2 2 ∷ [])
           ∷ yes (Leave 3) Answer.Done []
-          ∷ yes (Enter 3 noFiles (set (9 ∷ []))) Answer.Held []
+          ∷ yes (Enter 3 noFiles (set (9 ∷ [])) noFiles) Answer.Held []
           ∷ [];
       order = 1 ∷ 2 ∷ [];
       favoured = 2 ∷ 3 ∷ 1 ∷ [];
@@ -301,8 +304,8 @@ q =
     record {
       told =
           writer 1 (1 ∷ [])
-          ∷ no (Enter 0 (set (1 ∷ [])) (set (1 ∷ []))) Refusal.OutOfRange
-          ∷ no (Enter 33 noFiles noFiles) Refusal.OutOfRange
+          ∷ no (Enter 0 (set (1 ∷ [])) (set (1 ∷ [])) noFiles) Refusal.OutOfRange
+          ∷ no (Enter 33 noFiles noFiles noFiles) Refusal.OutOfRange
           ∷ no (Open 0 1) Refusal.OutOfRange
           ∷ no (Open 1 0) Refusal.OutOfRange
           ∷ no (Close 1 65) Refusal.OutOfRange
@@ -321,7 +324,7 @@ r =
       told =
           writer 1 (1 ∷ [])
           ∷ writer 2 (1 ∷ [])
-          ∷ no (Enter 1 (set (1 ∷ [])) (set (1 ∷ []))) Refusal.NotAbsent
+          ∷ no (Enter 1 (set (1 ∷ [])) (set (1 ∷ [])) noFiles) Refusal.NotAbsent
           ∷ gets 1 1
           ∷ yes (Open 2 1) Answer.Wait []
           ∷ no (Open 2 2) Refusal.IsWaiting
@@ -382,8 +385,8 @@ u =
           ∷ gets 1 3
           ∷ yes (Open 2 2) Answer.Unsafe []
           ∷ yes (Close 1 3) Answer.Done (line Word.Favour 2 2 ∷ [])
-          ∷ yes (Enter 4 noFiles (set (2 ∷ []))) Answer.Held []
-          ∷ yes (Enter 3 (set (5 ∷ [])) noFiles) Answer.Held []
+          ∷ yes (Enter 4 noFiles (set (2 ∷ [])) noFiles) Answer.Held []
+          ∷ yes (Enter 3 (set (5 ∷ [])) noFiles noFiles) Answer.Held []
           ∷ yes (Leave 1) Answer.Done (line Word.Given 2 2 ∷ line Word.Admit 4 0 ∷ line Word.Admit 3 0 ∷ [])
           ∷ [];
       order = 2 ∷ 3 ∷ 4 ∷ [];
@@ -402,7 +405,7 @@ favoured2 more =
     ∷ gets 1 3
     ∷ yes (Open 2 2) Answer.Unsafe []
     ∷ yes (Close 1 3) Answer.Done (line Word.Favour 2 2 ∷ [])
-    ∷ yes (Enter 3 noFiles (set (2 ∷ []))) Answer.Held []
+    ∷ yes (Enter 3 noFiles (set (2 ∷ [])) noFiles) Answer.Held []
     ∷ more
 
 -- (v) the favoured program is cancelled, and nobody else waits: nobody is favoured any more, and settling lets the held one run
@@ -466,7 +469,7 @@ y =
           ∷ yes (Open 2 2) Answer.Unsafe []
           ∷ yes (Open 4 2) Answer.Unsafe []
           ∷ yes (Close 1 3) Answer.Done (line Word.Favour 2 2 ∷ [])
-          ∷ yes (Enter 3 noFiles (set (2 ∷ []))) Answer.Held []
+          ∷ yes (Enter 3 noFiles (set (2 ∷ [])) noFiles) Answer.Held []
           ∷ yes (Cancel 2) Answer.Done (line Word.Favour 4 2 ∷ [])
           ∷ [];
       order = 1 ∷ 4 ∷ [];
@@ -491,7 +494,7 @@ z =
           ∷ yes (Open 4 3) Answer.Wait []
           ∷ yes (Open 6 5) Answer.Wait []
           ∷ yes (Cancel 4) Answer.Done (line Word.Given 6 5 ∷ line Word.Favour 2 2 ∷ [])
-          ∷ yes (Enter 4 (set (3 ∷ [])) noFiles) Answer.Held []
+          ∷ yes (Enter 4 (set (3 ∷ [])) noFiles noFiles) Answer.Held []
           ∷ [];
       order = 1 ∷ 2 ∷ 6 ∷ [];
       favoured = 2 ∷ 3 ∷ 0 ∷ [];
@@ -518,7 +521,7 @@ aa =
           ∷ reader 10 (1 ∷ [])
           ∷ gets 10 1
           ∷ yes (Close 2 1) Answer.Done []
-          ∷ yes (Enter 11 noFiles (set (1 ∷ []))) Answer.Held (line Word.Favour 1 1 ∷ [])
+          ∷ yes (Enter 11 noFiles (set (1 ∷ [])) noFiles) Answer.Held (line Word.Favour 1 1 ∷ [])
           ∷ yes (Leave 2) Answer.Done []
           ∷ yes (Leave 3) Answer.Done []
           ∷ yes (Leave 4) Answer.Done []
@@ -557,9 +560,9 @@ bb =
           ∷ gets 1 13
           ∷ yes (Open 2 12) Answer.Unsafe []
           ∷ yes (Close 1 13) Answer.Done (line Word.Favour 2 12 ∷ [])
-          ∷ yes (Enter 11 noFiles noFiles) Answer.Held []
-          ∷ yes (Enter 12 noFiles noFiles) Answer.Held []
-          ∷ yes (Enter 13 noFiles noFiles) Answer.Held []
+          ∷ yes (Enter 11 noFiles noFiles noFiles) Answer.Held []
+          ∷ yes (Enter 12 noFiles noFiles noFiles) Answer.Held []
+          ∷ yes (Enter 13 noFiles noFiles noFiles) Answer.Held []
           ∷ yes (Leave 1) Answer.Done
           (line Word.Given 2 12 ∷ line Word.Admit 11 0 ∷ line Word.Admit 12 0 ∷ line Word.Favour 3 1 ∷ [])
           ∷ yes (Leave 5) Answer.Done []
@@ -589,7 +592,7 @@ cc =
           ∷ reader 9 []
           ∷ reader 10 []
           ∷ reader 11 []
-          ∷ yes (Enter 12 noFiles noFiles) Answer.Held (line Word.Favour 2 1 ∷ [])
+          ∷ yes (Enter 12 noFiles noFiles noFiles) Answer.Held (line Word.Favour 2 1 ∷ [])
           ∷ yes (Leave 3) Answer.Done (line Word.Given 2 1 ∷ line Word.Favour 1 1 ∷ [])
           ∷ [];
       order = 2 ∷ 1 ∷ 4 ∷ 5 ∷ 6 ∷ 7 ∷ 8 ∷ 9 ∷ 10 ∷ 11 ∷ [];
@@ -620,7 +623,7 @@ dd =
           ∷ reader 10 []
           ∷ reader 11 []
           ∷ reader 12 []
-          ∷ yes (Enter 13 noFiles noFiles) Answer.Held (line Word.Favour 1 1 ∷ [])
+          ∷ yes (Enter 13 noFiles noFiles noFiles) Answer.Held (line Word.Favour 1 1 ∷ [])
           ∷ [];
       order = 2 ∷ 1 ∷ 3 ∷ 4 ∷ 5 ∷ 6 ∷ 7 ∷ 8 ∷ 9 ∷ 10 ∷ 11 ∷ 12 ∷ [];
       favoured = 1 ∷ 12 ∷ 0 ∷ [];
@@ -670,18 +673,178 @@ ff =
           ∷ reader 13 []
           ∷ reader 14 []
           ∷ yes (Leave 14) Answer.Done (line Word.Favour 2 2 ∷ [])
-          ∷ yes (Enter 14 noFiles noFiles) Answer.Held []
+          ∷ yes (Enter 14 noFiles noFiles noFiles) Answer.Held []
           ∷ yes (Leave 1) Answer.Done (line Word.Given 2 2 ∷ line Word.Favour 6 6 ∷ [])
           ∷ [];
       order = 2 ∷ 4 ∷ 3 ∷ 5 ∷ 6 ∷ 7 ∷ 8 ∷ 9 ∷ 10 ∷ 11 ∷ 12 ∷ 13 ∷ [];
       favoured = 6 ∷ 12 ∷ 0 ∷ [];
     }
 
+-- ---- CR 7
+
+-- (gg) records: given, waited for, handed on to the oldest, a waiter cancelled; 13, 18, 19, 20, 21
+gg : Case
+unfolding yes no set
+gg =
+    record {
+      told =
+          yes (Enter 1 noFiles noFiles (set (5 ∷ []))) Answer.Admit []
+          ∷ yes (Enter 2 noFiles noFiles (set (5 ∷ []))) Answer.Admit []
+          ∷ yes (Enter 3 noFiles noFiles (set (5 ∷ []))) Answer.Admit []
+          ∷ yes (Open 1 5) Answer.Given []
+          ∷ yes (Open 2 5) Answer.Given []
+          ∷ yes (Open 3 5) Answer.Given []
+          ∷ no (Fetch 1 5 0) Refusal.BadRecord
+          ∷ no (Fetch 1 6 7) Refusal.NoRecord
+          ∷ no (Return 1) Refusal.NoRecord
+          ∷ yes (Fetch 1 5 7) Answer.Given []
+          ∷ yes (Fetch 2 5 7) Answer.Wait []
+          ∷ yes (Fetch 3 5 7) Answer.Wait []
+          ∷ no (Fetch 1 5 8) Refusal.HasRecord
+          ∷ no (Close 1 5) Refusal.HasRecord
+          ∷ no (Return 2) Refusal.IsWaiting
+          ∷ no (Cancel 1) Refusal.IsRunning
+          ∷ yes (Return 1) Answer.Done (lineOf Word.Given 2 5 7 ∷ [])
+          ∷ yes (Cancel 3) Answer.Done []
+          ∷ yes (Return 2) Answer.Done []
+          ∷ [];
+      order = 1 ∷ 2 ∷ [];
+      favoured = 0 ∷ 0 ∷ 0 ∷ [];
+    }
+
+-- (hh) inquiry against reading and writing; 10; a leave returns the record
+hh : Case
+unfolding yes no set
+hh =
+    record {
+      told =
+          no (Enter 1 (set (1 ∷ [])) noFiles (set (1 ∷ []))) Refusal.ClaimsMeet
+          ∷ yes (Enter 1 noFiles noFiles (set (1 ∷ []))) Answer.Admit []
+          ∷ yes (Enter 2 noFiles (set (1 ∷ [])) noFiles) Answer.Admit []
+          ∷ yes (Enter 3 (set (1 ∷ [])) noFiles noFiles) Answer.Admit []
+          ∷ yes (Open 1 1) Answer.Given []
+          ∷ yes (Open 2 1) Answer.Wait []
+          ∷ yes (Open 3 1) Answer.Wait []
+          ∷ yes (Fetch 1 1 65535) Answer.Given []
+          ∷ no (Fetch 1 1 65536) Refusal.BadRecord
+          ∷ no (Drop 1 1) Refusal.HasRecord
+          ∷ yes (Leave 1) Answer.Done (lineOf Word.Given 2 1 0 ∷ [])
+          ∷ [];
+      order = 2 ∷ 3 ∷ [];
+      favoured = 0 ∷ 0 ∷ 0 ∷ [];
+    }
+
+-- (ii) a return settles: the waiter for want of an order is favoured
+ii : Case
+unfolding yes no set
+ii =
+    record {
+      told =
+          yes (Enter 1 (set (1 ∷ 2 ∷ 3 ∷ [])) noFiles noFiles) Answer.Admit []
+          ∷ yes (Enter 2 (set (1 ∷ 2 ∷ [])) noFiles noFiles) Answer.Admit []
+          ∷ yes (Enter 3 noFiles noFiles (set (9 ∷ []))) Answer.Admit []
+          ∷ yes (Open 1 1) Answer.Given []
+          ∷ yes (Open 3 9) Answer.Given []
+          ∷ yes (Fetch 3 9 1) Answer.Given []
+          ∷ yes (Open 2 2) Answer.Unsafe []
+          ∷ yes (Return 3) Answer.Done (lineOf Word.Favour 2 2 0 ∷ [])
+          ∷ yes (Enter 4 noFiles noFiles noFiles) Answer.Held []
+          ∷ yes (Leave 1) Answer.Done (lineOf Word.Given 2 2 0 ∷ lineOf Word.Admit 4 0 0 ∷ [])
+          ∷ [];
+      order = 2 ∷ 3 ∷ 4 ∷ [];
+      favoured = 0 ∷ 0 ∷ 0 ∷ [];
+    }
+
+-- (jj) a leave hands on the record, and then the board settles
+jj : Case
+unfolding yes no set
+jj =
+    record {
+      told =
+          yes (Enter 1 (set (6 ∷ [])) noFiles (set (5 ∷ []))) Answer.Admit []
+          ∷ yes (Enter 2 noFiles noFiles (set (5 ∷ []))) Answer.Admit []
+          ∷ yes (Enter 3 (set (6 ∷ [])) noFiles noFiles) Answer.Admit []
+          ∷ yes (Open 1 5) Answer.Given []
+          ∷ yes (Open 2 5) Answer.Given []
+          ∷ yes (Open 1 6) Answer.Given []
+          ∷ yes (Open 3 6) Answer.Wait []
+          ∷ yes (Fetch 1 5 2) Answer.Given []
+          ∷ yes (Fetch 2 5 2) Answer.Wait []
+          ∷ yes (Leave 1) Answer.Done (lineOf Word.Given 2 5 2 ∷ lineOf Word.Given 3 6 0 ∷ [])
+          ∷ [];
+      order = 2 ∷ 3 ∷ [];
+      favoured = 0 ∷ 0 ∷ 0 ∷ [];
+    }
+
+-- (kk) a wait for a record is counted, and favoured after 8 admissions; it gets the record, and the held one runs
+kk : Case
+unfolding yes no set
+kk =
+    record {
+      told =
+          yes (Enter 1 noFiles noFiles (set (5 ∷ []))) Answer.Admit []
+          ∷ yes (Enter 2 noFiles noFiles (set (5 ∷ []))) Answer.Admit []
+          ∷ yes (Open 1 5) Answer.Given []
+          ∷ yes (Open 2 5) Answer.Given []
+          ∷ yes (Fetch 1 5 3) Answer.Given []
+          ∷ yes (Fetch 2 5 3) Answer.Wait []
+          ∷ yes (Enter 3 noFiles noFiles noFiles) Answer.Admit []
+          ∷ yes (Leave 3) Answer.Done []
+          ∷ yes (Enter 3 noFiles noFiles noFiles) Answer.Admit []
+          ∷ yes (Leave 3) Answer.Done []
+          ∷ yes (Enter 3 noFiles noFiles noFiles) Answer.Admit []
+          ∷ yes (Leave 3) Answer.Done []
+          ∷ yes (Enter 3 noFiles noFiles noFiles) Answer.Admit []
+          ∷ yes (Leave 3) Answer.Done []
+          ∷ yes (Enter 3 noFiles noFiles noFiles) Answer.Admit []
+          ∷ yes (Leave 3) Answer.Done []
+          ∷ yes (Enter 3 noFiles noFiles noFiles) Answer.Admit []
+          ∷ yes (Leave 3) Answer.Done []
+          ∷ yes (Enter 3 noFiles noFiles noFiles) Answer.Admit []
+          ∷ yes (Leave 3) Answer.Done []
+          ∷ yes (Enter 3 noFiles noFiles noFiles) Answer.Admit []
+          ∷ yes (Leave 3) Answer.Done []
+          ∷ yes (Enter 3 noFiles noFiles noFiles) Answer.Held (lineOf Word.Favour 2 5 3 ∷ [])
+          ∷ yes (Return 1) Answer.Done (lineOf Word.Given 2 5 3 ∷ lineOf Word.Admit 3 0 0 ∷ [])
+          ∷ [];
+      order = 1 ∷ 2 ∷ 3 ∷ [];
+      favoured = 0 ∷ 0 ∷ 0 ∷ [];
+    }
+
+-- (ll) two records of one file are awaited: what is returned goes to the oldest waiter for it, and nobody else's wait ends
+ll : Case
+unfolding yes set
+ll =
+    record {
+      told =
+          yes (Enter 1 noFiles noFiles (set (5 ∷ []))) Answer.Admit []
+          ∷ yes (Enter 2 noFiles noFiles (set (5 ∷ []))) Answer.Admit []
+          ∷ yes (Enter 3 noFiles noFiles (set (5 ∷ []))) Answer.Admit []
+          ∷ yes (Enter 4 noFiles noFiles (set (5 ∷ 6 ∷ []))) Answer.Admit []
+          ∷ yes (Open 1 5) Answer.Given []
+          ∷ yes (Open 2 5) Answer.Given []
+          ∷ yes (Open 3 5) Answer.Given []
+          ∷ yes (Open 4 5) Answer.Given []
+          ∷ yes (Open 4 6) Answer.Given []
+          ∷ yes (Fetch 1 5 1) Answer.Given []
+          ∷ yes (Fetch 4 6 1) Answer.Given []
+          ∷ yes (Return 4) Answer.Done []
+          ∷ yes (Fetch 2 5 2) Answer.Given []
+          ∷ yes (Fetch 3 5 1) Answer.Wait []
+          ∷ yes (Fetch 4 5 2) Answer.Wait []
+          ∷ yes (Return 2) Answer.Done (lineOf Word.Given 4 5 2 ∷ [])
+          ∷ yes (Fetch 2 5 1) Answer.Wait []
+          ∷ yes (Return 1) Answer.Done (lineOf Word.Given 3 5 1 ∷ [])
+          ∷ [];
+      order = 1 ∷ 2 ∷ 3 ∷ 4 ∷ [];
+      favoured = 0 ∷ 0 ∷ 0 ∷ [];
+    }
+
 pub table : List Case
-unfolding a b c d e f g h i j k l m n o p q r s t u v w x y z aa bb cc dd ee ff
+unfolding a b c d e f g h i j k l m n o p q r s t u v w x y z aa bb cc dd ee ff gg hh ii jj kk ll
 table =
     a ∷ b ∷ c ∷ d ∷ e ∷ f ∷ g ∷ h ∷ i ∷ j ∷ k ∷ l ∷ m ∷ n ∷ o ∷ p ∷ q ∷ r ∷ s ∷ t ∷ u ∷ v ∷ w ∷ x ∷ y ∷ z
-    ∷ aa ∷ bb ∷ cc ∷ dd ∷ ee ∷ ff ∷ []
+    ∷ aa ∷ bb ∷ cc ∷ dd ∷ ee ∷ ff ∷ gg ∷ hh ∷ ii ∷ jj ∷ kk ∷ ll ∷ []
 
 -- the calls of a case
 pub calls : Case → List Call
@@ -697,7 +860,9 @@ ee-sound : sound (worked (calls ee)) ≡ true
 unfolding any all keep first padded rising listed distinct without same names
     everyone admitted tallied touching opening closing dropping
     heldBack carriedFrom carried withGiven inUse safe canGive
-    setsSound standingSound programSound noConflict lineSound waiterSound noneFavoured someFavoured countSound sound
+    setsSound standingSound mayHave itemSound programSound noConflict lineSound waiterSound usesDiffer awaitedInUse
+    noneFavoured someFavoured countSound sound
+    taken handTo handOn fetchCheck returnCheck waitItem fetch finish returnItem
     unfavour resume tryGive pass candidate favour overdue admitHeld runHeld choose settle
     reply refuse enterCheck openCheck closeCheck leaveCheck cancelCheck
     admit hold holdFor enter wait openFile done closeFile dropFile countLeave leave countCancel cancel apply

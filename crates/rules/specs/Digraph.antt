@@ -10,7 +10,7 @@ use Rattle.rules.specs.declared.Answer.{Answer}
 use Rattle.laws.specs.Lists.{distinct}
 use Rattle.rules.specs.Boards.{isProgram, isAdmitted, at, admitted, claims}
 use Rattle.rules.specs.Orders.{holdsBack, withGiven}
-use Rattle.rules.specs.Calls.{Call, Enter, Open, Close, Drop, Leave, Cancel}
+use Rattle.rules.specs.Calls.{Call, Enter, Open, Close, Drop, Leave, Cancel, Fetch, Return}
 
 -- ---- the matrix
 
@@ -56,12 +56,14 @@ isLoopWith b p f l = isIn b p && claims (at b p) f && isLoop (step (withGiven b 
 
 -- a loop with the file given that an open asks for
 abbrev pub loopFor : Board → Call → List ℕ → Bool
-loopFor b (Enter p v q) l = false
+loopFor b (Enter p v q j) l = false
 loopFor b (Open p f) l = isLoopWith b p f l
 loopFor b (Close p f) l = false
 loopFor b (Drop p f) l = false
 loopFor b (Leave p) l = false
 loopFor b (Cancel p) l = false
+loopFor b (Fetch p f r) l = false
+loopFor b (Return p) l = false
 
 abbrev pub isUnsafe : Answer → Bool
 isUnsafe Answer.Admit = false

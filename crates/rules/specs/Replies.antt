@@ -17,7 +17,7 @@ use Rattle.rules.specs.Settling.{line}
 
 -- ---- numbers and words
 
--- the number of each refusal: 01's ("Where each check is made"), and 18 for a cancel of a running program
+-- the number of each refusal: 01's ("Where each check is made"), 18 for a cancel of a running program, and CR 7's 19 to 21
 abbrev pub number : Refusal → ℕ
 number Refusal.NotSound = 1
 number Refusal.JournalFull = 2
@@ -36,6 +36,9 @@ number Refusal.NotClaimed = 14
 number Refusal.IsOpen = 15
 number Refusal.NotOpen = 16
 number Refusal.IsRunning = 18
+number Refusal.BadRecord = 19
+number Refusal.NoRecord = 20
+number Refusal.HasRecord = 21
 
 -- the number of a refusal, and 0 for any other answer
 abbrev pub refusalOf : Answer → ℕ

@@ -1,7 +1,7 @@
 -- "A sound board", clause by clause.
 -- Assumes nothing.
 use Prim.Native.Nat.{ℕ, _+_}
-use mathlib.Core.Bool.{Bool, true, not, cond, _&&_, _||_}
+use mathlib.Core.Bool.{Bool, true, false, not, cond, _&&_, _||_}
 use mathlib.Core.List.{List}
 use lib.Dec.{eqb, leb}
 use lib.ListN.{length}
@@ -9,16 +9,16 @@ use Rattle.rules.specs.declared.Standing.{Standing}
 use Rattle.rules.specs.declared.Program.{Program}
 use Rattle.rules.specs.declared.Board.{Board}
 use Rattle.laws.specs.Lists.{any, all, found, listed, distinct, same, names, padded}
-use Rattle.files.specs.Sets.{within, isEmpty}
+use Rattle.files.specs.Sets.{member, within, isEmpty}
 use Rattle.rules.specs.Modes.{eachMode, claimOf, openOf, claimsMeet}
-use Rattle.rules.specs.Boards.{isProgram, everyone, at, awaited, passedBy, admitted, isWaiting, isHeld, claims, hasOpen}
+use Rattle.rules.specs.Boards.{isProgram, everyone, at, awaited, passedBy, admitted, isWaiting, isHeld, claims, hasOpen, uses, wants}
 use Rattle.rules.specs.Orders.{conflict, carried, canGive}
 
 -- ---- each program
 
--- W is within V, R within Q, V and Q share nothing
+-- W is within V, R within Q, I within J; no two of V, Q and J share a file
 unfoldable pub setsSound : Program → Bool
-setsSound q = eachMode (λ m. within (openOf m q) (claimOf m q)) && not (claimsMeet (q .writable) (q .readable))
+setsSound q = eachMode (λ m. within (openOf m q) (claimOf m q)) && not (claimsMeet (q .writable) (q .readable) (q .inquirable))
 
 -- absent programs have empty sets, held ones nothing open
 unfoldable pub standingSound : Standing → Program → Bool
@@ -27,9 +27,20 @@ standingSound Standing.Running q = true
 standingSound (Standing.Waiting f) q = true
 standingSound Standing.Held q = eachMode (λ m. isEmpty (openOf m q))
 
+-- who may have a record: it runs, or waits for the record's file
+unfoldable pub mayHave : Standing → Program → Bool
+mayHave Standing.Absent q = false
+mayHave Standing.Running q = true
+mayHave (Standing.Waiting f) q = eqb f (q .file)
+mayHave Standing.Held q = false
+
+-- "both have their file in I", and a program without a record has no file of one
+unfoldable pub itemSound : Program → Bool
+itemSound q = cond (eqb (q .item) 0) (eqb (q .file) 0) (member (q .inquiring) (q .file) && mayHave (q .standing) q)
+
 -- what is said of a program by itself
 unfoldable pub programSound : Program → Bool
-programSound q = setsSound q && standingSound (q .standing) q
+programSound q = setsSound q && standingSound (q .standing) q && itemSound q
 
 -- ---- the board
 
@@ -45,9 +56,20 @@ lineSound l t =
     && distinct (names l)
     && same l (padded 0 (names l))
 
--- the waiter's file is claimed, not open by it, and can't be given now
+-- the waiter's file is claimed, not open by it, and can't be given now; "covers file waits only"
 unfoldable pub waiterSound : Board → ℕ → ℕ → Bool
-waiterSound b p f = claims (at b p) f && not (hasOpen (at b p) f) && not (canGive b p f)
+waiterSound b p f = not (eqb (at b p .item) 0) || (claims (at b p) f && not (hasOpen (at b p) f) && not (canGive b p f))
+
+-- "records in use differ": j doesn't use the record that i uses
+unfoldable pub usesDiffer : Board → Bool
+usesDiffer b =
+    all (λ i. not (uses (at b i) (at b i .file) (at b i .item))
+    || all (λ j. eqb i j || not (uses (at b j) (at b i .file) (at b i .item))) everyone) everyone
+
+-- "an awaited record is in use"
+unfoldable pub awaitedInUse : Board → Bool
+awaitedInUse b =
+    all (λ p. not (wants (at b p) (at b p .file) (at b p .item)) || any (λ i. uses (at b i) (at b p .file) (at b p .item)) everyone) everyone
 
 -- nobody favoured: nobody held, and both numbers 0
 unfoldable pub noneFavoured : Board → Bool
@@ -65,7 +87,7 @@ someFavoured b =
 unfoldable pub countSound : Board → ℕ → Bool
 countSound b p = leb (passedBy b p) 8 && (isWaiting (at b p .standing) || eqb (passedBy b p) 0)
 
--- sets as above; no conflict; a completion order exists; the two lines; the waiters; the favoured program; the counts
+-- sets as above; no conflict; a completion order exists; the two lines; the waiters; the favoured program; the counts; the records
 unfoldable pub sound : Board → Bool
 sound b =
     all (λ p. programSound (at b p)) everyone
@@ -76,3 +98,5 @@ sound b =
     && all (λ p. waiterSound b p (awaited b p)) (names (b .waiting))
     && cond (eqb (b .favoured) 0) (noneFavoured b) (someFavoured b)
     && all (countSound b) everyone
+    && usesDiffer b
+    && awaitedInUse b

@@ -9,9 +9,13 @@ impl Program {
     pub const ABSENT: Program = Program {
         writable: FileSet { bits: 0 },
         readable: FileSet { bits: 0 },
+        inquirable: FileSet { bits: 0 },
         writing: FileSet { bits: 0 },
         reading: FileSet { bits: 0 },
+        inquiring: FileSet { bits: 0 },
         standing: Standing::Absent,
+        file: 0,
+        item: 0,
     };
 }
 

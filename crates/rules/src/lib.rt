@@ -11,13 +11,18 @@ pub enum Standing {
     Held,
 }
 
-// 01's V and Q, the write and the read claim, and W and R, the files open for writing and for reading.
+// V, Q and J, the claims for writing, reading and inquiry; W, R and I, the files open in these ways.
+// item is a record's number and file its file: the record in use if the program runs, the awaited one if it waits; 0 for none.
 pub struct Program {
     pub writable: FileSet,
     pub readable: FileSet,
+    pub inquirable: FileSet,
     pub writing: FileSet,
     pub reading: FileSet,
+    pub inquiring: FileSet,
     pub standing: Standing,
+    pub file: u8,
+    pub item: u16,
 }
 
 // Program p stands at index p - 1. The waiting line and the entry line are oldest first, and then 0.
@@ -34,7 +39,7 @@ pub struct Board {
     pub passed: [u8; 32],
 }
 
-// The six calls.
+// The eight calls.
 pub enum Verb {
     Enter,
     Open,
@@ -42,18 +47,22 @@ pub enum Verb {
     Drop,
     Leave,
     Cancel,
+    Fetch,
+    Return,
 }
 
-// What a call asks. The file counts for open, close and drop only, the claims (V and Q) for enter only.
+// What a call asks. The file counts for open, close, drop and fetch only, the record for fetch only, the claims (V, Q and J) for enter only.
 pub struct Asked {
     pub verb: Verb,
     pub program: u64,
     pub file: u64,
+    pub item: u64,
     pub writable: FileSet,
     pub readable: FileSet,
+    pub inquirable: FileSet,
 }
 
-// Why a call is refused, in the order of their numbers: 01's 1 to 16, and 18 for a cancel of a running program.
+// Why a call is refused, in the order of their numbers: 01's 1 to 16, 18 for a cancel of a running program, and 19 to 21 for records.
 pub enum Refusal {
     NotSound,
     JournalFull,
@@ -72,6 +81,9 @@ pub enum Refusal {
     IsOpen,
     NotOpen,
     IsRunning,
+    BadRecord,
+    NoRecord,
+    HasRecord,
 }
 
 // Whether the checks of a call refuse it.
@@ -103,12 +115,13 @@ pub enum Word {
     Refuse,
 }
 
-// A journal line; 0 where there is no file or no refusal.
+// A journal line; 0 where there is no file, no refusal or no record.
 pub struct Line {
     pub word: Word,
     pub program: u8,
     pub file: u8,
     pub refusal: u8,
+    pub item: u16,
 }
 
 // What a direct call gives back: the board after it, the answer, its lines (the first `count` of 32 places)

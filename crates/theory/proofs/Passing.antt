@@ -8,10 +8,10 @@ use Rattle.laws.specs.Lists.{any, all, keep, first, padded, rising, without, na
 use Rattle.rules.specs.Modes.{touching}
 use Rattle.rules.specs.Boards.{everyone, admitted, tallied, opening, closing}
 use Rattle.rules.specs.Orders.{heldBack, carriedFrom, carried, withGiven, inUse, safe, canGive}
-use Rattle.rules.specs.Settling.{unfavour, resume, tryGive, pass, candidate, favour, overdue, admitHeld, runHeld, choose, settle}
+use Rattle.rules.specs.Settling.{unfavour, resume, tryGive, pass, handTo, handOn, candidate, favour, overdue, admitHeld, runHeld, choose, settle}
 use Rattle.rules.specs.Replies.{reply, refuse, admits}
 use Rattle.rules.specs.Checks.{enterCheck, openCheck, closeCheck, leaveCheck}
-use Rattle.rules.specs.Calls.{admit, hold, holdFor, enter, wait, openFile, done, closeFile, countLeave, leave, apply}
+use Rattle.rules.specs.Calls.{admit, hold, holdFor, enter, wait, openFile, finish, done, closeFile, countLeave, leave, apply}
 use Rattle.rules.specs.Calls.{Call, Enter, Open, Close, Leave}
 use Rattle.rules.specs.Worked.{workedFrom, worked}
 use Rattle.rules.proofs.Tables.{set}
@@ -21,12 +21,12 @@ use Rattle.theory.specs.Passing.{admissionsIn, othersAfter}
 -- a program that may read file 1 enters
 reads : ℕ → Call
 unfolding set
-reads p = Enter p noFiles (set (1 ∷ []))
+reads p = Enter p noFiles (set (1 ∷ [])) noFiles
 
 -- 2 reads file 1, and 1, which may write it, begins to wait
 start : List Call
 unfolding reads set
-start = reads 2 ∷ Enter 1 (set (1 ∷ [])) noFiles ∷ Open 2 1 ∷ Open 1 1 ∷ []
+start = reads 2 ∷ Enter 1 (set (1 ∷ [])) noFiles noFiles ∷ Open 2 1 ∷ Open 1 1 ∷ []
 
 -- eight readers pass it, the ninth is held; all but 10 and 11 leave
 during : List Call
@@ -39,9 +39,9 @@ unfolding start during reads set admits admissionsIn
     any all keep first padded rising without names
     everyone admitted tallied touching opening closing
     heldBack carriedFrom carried withGiven inUse safe canGive
-    unfavour resume tryGive pass candidate favour overdue admitHeld runHeld choose settle
+    unfavour resume tryGive pass handTo handOn candidate favour overdue admitHeld runHeld choose settle
     reply refuse enterCheck openCheck closeCheck leaveCheck
-    admit hold holdFor enter wait openFile done closeFile countLeave leave apply
+    admit hold holdFor enter wait openFile finish done closeFile countLeave leave apply
     workedFrom worked
 passed-by-eight = refl
 
@@ -51,8 +51,8 @@ unfolding during start reads set leavesIn
     any all keep first padded rising without names
     everyone admitted tallied touching opening closing
     heldBack carriedFrom carried withGiven inUse safe canGive
-    unfavour resume tryGive pass candidate favour overdue admitHeld runHeld choose settle
+    unfavour resume tryGive pass handTo handOn candidate favour overdue admitHeld runHeld choose settle
     reply refuse enterCheck openCheck closeCheck leaveCheck
-    admit hold holdFor enter wait openFile done closeFile countLeave leave apply
+    admit hold holdFor enter wait openFile finish done closeFile countLeave leave apply
     workedFrom worked
 nine-leave = refl

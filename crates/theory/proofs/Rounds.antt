@@ -12,10 +12,10 @@ use Rattle.laws.specs.Lists.{any, all, keep, first, padded, rising, without, na
 use Rattle.rules.specs.Modes.{touching}
 use Rattle.rules.specs.Boards.{emptyBoard, everyone, admitted, tallied, opening, closing, dropping}
 use Rattle.rules.specs.Orders.{heldBack, carriedFrom, carried, withGiven, inUse, safe, canGive}
-use Rattle.rules.specs.Settling.{line, unfavour, resume, tryGive, pass, candidate, favour, overdue, admitHeld, runHeld, choose, settle}
+use Rattle.rules.specs.Settling.{line, unfavour, resume, tryGive, pass, handTo, handOn, candidate, favour, overdue, admitHeld, runHeld, choose, settle}
 use Rattle.rules.specs.Replies.{reply, refuse, linesOf, orderOf}
 use Rattle.rules.specs.Checks.{enterCheck, openCheck, closeCheck, leaveCheck, cancelCheck}
-use Rattle.rules.specs.Calls.{admit, hold, holdFor, enter, wait, openFile, done, closeFile, dropFile, countLeave, leave, countCancel, cancel, apply}
+use Rattle.rules.specs.Calls.{admit, hold, holdFor, enter, wait, openFile, finish, done, closeFile, dropFile, countLeave, leave, countCancel, cancel, apply}
 use Rattle.rules.specs.Calls.{Call, Enter, Open, Close, Leave, Cancel}
 use Rattle.rules.proofs.Tables.{set}
 use Rattle.theory.specs.Rounds.{Latest, start, after, toOpen, finishing, round, rounds, held, programsOn}
@@ -31,9 +31,9 @@ toldFrom : Board → List Call → List Told
 unfolding any all keep first padded rising without names
     everyone admitted tallied touching opening closing dropping
     heldBack carriedFrom carried withGiven inUse safe canGive
-    unfavour resume tryGive pass candidate favour overdue admitHeld runHeld choose settle
+    unfavour resume tryGive pass handTo handOn candidate favour overdue admitHeld runHeld choose settle
     reply refuse enterCheck openCheck closeCheck leaveCheck cancelCheck
-    admit hold holdFor enter wait openFile done closeFile dropFile countLeave leave countCancel cancel apply
+    admit hold holdFor enter wait openFile finish done closeFile dropFile countLeave leave countCancel cancel apply
 toldFrom b [] = []
 toldFrom b (c ∷ cs) =
     let r = apply b c in
@@ -46,11 +46,11 @@ calls = map (λ (t : Told). t .call)
 
 enters : ℕ → List ℕ → List ℕ → List ℕ → Told
 unfolding set
-enters p v q o = record { call = Enter p (set v) (set q); answer = Answer.Admit; lines = line Word.Admit p 0 ∷ []; order = o }
+enters p v q o = record { call = Enter p (set v) (set q) (set []); answer = Answer.Admit; lines = line Word.Admit p 0 ∷ []; order = o }
 
 is-held : ℕ → List ℕ → List ℕ → List ℕ → Told
 unfolding set
-is-held p v q o = record { call = Enter p (set v) (set q); answer = Answer.Held; lines = line Word.Held p 0 ∷ []; order = o }
+is-held p v q o = record { call = Enter p (set v) (set q) (set []); answer = Answer.Held; lines = line Word.Held p 0 ∷ []; order = o }
 
 gets : ℕ → ℕ → List ℕ → Told
 gets p f o = record { call = Open p f; answer = Answer.Given; lines = line Word.Given p f ∷ []; order = o }

@@ -7,10 +7,10 @@ use mathlib.Core.Logic.{_≢_, _⊎_, inl, inr, ⊎-elim}
 use mathlib.Core.Bool.{Bool, true, false, not, cond, _&&_}
 use mathlib.Core.Option.{none, some}
 use mathlib.Core.List.{List, [], _∷_, _++_, List·Memᴰ·not-nil, List·Memᴰ·append-cases, List·Memᴰ·eq-of-singleton}
-use lib.Dec.{eqb}
+use lib.Dec.{eqb, leb}
 use lib.ListN.{length, take, drop, replicate, length-append}
-use borrow.Author.Tests.{eqb-true, eqb-false, eq-eqb, ne-eqb}
-use Rattle.laws.specs.Tests.{by-test, by-option, never, and-left, and-both, not-of}
+use borrow.Author.Tests.{eqb-true, eqb-false, eq-eqb, ne-eqb, leb-true}
+use Rattle.laws.specs.Tests.{by-test, by-option, never, and-left, and-right, and-both, no-true, not-true, true-not, not-of}
 use Rattle.files.proofs.Laws.{member-file}
 use Rattle.files.specs.declared.FileSet.{FileSet}
 use Rattle.files.specs.Sets.{isFile, member}
@@ -26,26 +26,33 @@ use Rattle.rules.specs.declared.Reply.{Reply}
 use Rattle.laws.specs.Lists.{without, names, padded}
 use Rattle.rules.specs.Modes.{claimOf, claimsMeet}
 use Rattle.rules.specs.Boards.{noProgram, isAbsent, isHeld, isWaiting, isAdmitted, isProgram, awaitedOf, everyone, at, awaited, claims}
-use Rattle.rules.specs.Boards.{hasOpen, passedBy, setProgram, setWaiting, setFavour, setStanding, uncount, tally, closing, dropping}
-use Rattle.rules.specs.Orders.{withGiven, inUse, safe, canGive}
-use Rattle.rules.specs.Settling.{line, Step, andThen, favour, overdue, settle}
+use Rattle.rules.specs.Boards.{hasOpen, opening, uses, setItem}
+use Rattle.rules.specs.Boards.{passedBy, setProgram, setWaiting, setFavour, setStanding, uncount, tally, closing, dropping}
+use Rattle.rules.specs.Orders.{withGiven, inUse, safe, canGive, taken}
+use Rattle.rules.specs.Settling.{line, lineOf, handOn, Step, andThen, favour, overdue, settle}
 use Rattle.rules.specs.Replies.{blank, linesOf, isAdmit, admits, reply, refuse}
-use Rattle.rules.specs.Checks.{refuseIf, unlessRunning, unlessStopped, enterCheck, openCheck, closeCheck, leaveCheck, cancelCheck}
+use Rattle.rules.specs.Checks.{refuseIf, unlessRunning, unlessUsing, unlessStopped, enterCheck, openCheck, closeCheck, leaveCheck, cancelCheck}
+use Rattle.rules.specs.Checks.{isRecord, fetchCheck, returnCheck}
 use Rattle.rules.specs.Calls.{newcomer, admit, hold, holdFor}
 use Rattle.rules.specs.Calls.{enter, wait, openFile, done, closeFile, dropFile, countLeave, leave, Call, Enter, Open, Close, Drop}
+use Rattle.rules.specs.Calls.{waitAs, waitItem, fetch, finish, returnItem, Fetch, Return}
 use Rattle.rules.specs.Calls.{Leave, Cancel, countCancel, withdrawn, cancel, checked, accepted, unless, apply}
 use Rattle.laws.specs.Laws.{_∈_, Pairs, NoRepeat, by-mem, here, first-some, Pairs-append, no-longer, length-rising, length-without}
+use Rattle.laws.specs.Laws.{any-some, some-any}
 use Rattle.theory.specs.Modes.{by-mode}
 use Rattle.theory.specs.Programs.{Is, is-of, of-is, mem-everyone, Progs, Sized, prog, put, put-same, put-other, put-case, give, can}
-use Rattle.theory.specs.Programs.{canGive-is, isIn, ins, mem-ins, ins-once, ins-same, ins-out, ins-give}
+use Rattle.theory.specs.Programs.{canGive-is, everyone-is, SameSets, standing-same, item-same, same-then, same-turn, within-same, own-same}
+use Rattle.theory.specs.Programs.{opening-standing, opening-item, isIn, ins, mem-ins, ins-once, ins-same, ins-out, ins-give}
+use Rattle.theory.specs.Records.{Uses, uses-of, of-uses, ItemOwn, none-item, out-item, Records, records-quiet, records-release}
+use Rattle.theory.specs.Records.{records-fetched, records-waited}
 use Rattle.theory.specs.Loose.{stands, waitsIn, heldAt, absent-is, held-is, waiting-file, Asked, LooseIn, Loose, Stuck, Free}
 use Rattle.theory.specs.Loose.{countIn, Counted, Counts, Good, test-put, test-other, test-same}
 use Rattle.theory.specs.Loose.{loose-close, loose-drop, loose-leave, loose-withdraw, loose-unhold, loose-open, stuck-open, loose-wait}
-use Rattle.theory.specs.Loose.{stuck-wait, loose-enter}
+use Rattle.theory.specs.Loose.{Awaits, Asks, same-file, waiting-in, loose-shrink, stuck-same, loose-enter}
 use Rattle.theory.specs.Loose.{stuck-enter, loose-hold, stuck-hold}
 use Rattle.theory.specs.Counts.{counted-keep, uncount-other, counted-stop, tallied-waits, counted-tally, length-in}
 use Rattle.theory.specs.Settling.{Favour, NoFavour, Newly, newly-more, quiet-more, Chosen, chosen-some, Ended, Settled}
-use Rattle.theory.specs.Settling.{settle-settled}
+use Rattle.theory.specs.Settling.{waiterLine, settle-settled, hand-settled}
 
 -- ── The lines of a reply ──
 
@@ -73,9 +80,9 @@ pub record FavourMore (b c : Board) (k : ℕ) : Type 0 where
   pub number : c .initial ≡ b .initial
   pub left : b .favoured ≢ 0 → c .leaves ≡ k + b .leaves
 
--- The favoured program was given its file by a line of settling, and runs.
+-- The favoured program was given its file or its record by a line after the first, and runs.
 pub record EndedIn (b : Board) (s : Step) : Type 0 where
-  pub line-there : line Word.Given (b .favoured) (awaited b (b .favoured)) ∈ drop 1 (s .lines)
+  pub line-there : waiterLine Word.Given (b .favoured) (at b (b .favoured)) ∈ drop 1 (s .lines)
   pub runs : stands (s .board .programs) (b .favoured) ≡ Standing.Running
 
 -- The favoured program was cancelled, and no longer waits.
@@ -89,7 +96,7 @@ pub record Stepped (b : Board) (k o x : ℕ) (s : Step) : Type 0 where
   pub many : length (s .lines) ≤ 32
   pub fav : ((p : ℕ) × Newly s p) ⊎ (((s .board .favoured ≡ 0) ⊎ FavourMore b (s .board) k) × NoFavour (s .lines))
   pub ended : b .favoured ≢ 0 → FavourMore b (s .board) k ⊎ (EndedIn b s ⊎ Withdrew b x s)
-  pub file-stays : b .favoured ≢ 0 → s .board .favoured ≡ b .favoured → awaited (s .board) (b .favoured) ≡ awaited b (b .favoured)
+  pub file-stays : b .favoured ≢ 0 → s .board .favoured ≡ b .favoured → at (s .board) (b .favoured) ≡ at b (b .favoured)
   -- the count of who waits now goes up by the ADMIT lines
   pub count : (y : ℕ) → Is y → waitsIn (s .board .programs) y ≡ true
       → countIn (s .board .passed) y ≡ countIn (b .passed) y + admits (s .lines)
@@ -101,7 +108,7 @@ pub record Stepped (b : Board) (k o x : ℕ) (s : Step) : Type 0 where
 -- One line that is no FAVOUR, and the favouring as before.
 plain : (b c : Board) (ls : List Line) → Good c → length ls ≤ 32 → NoFavour ls → c .favoured ≡ b .favoured
     → c .initial ≡ b .initial → c .leaves ≡ b .leaves
-    → (b .favoured ≢ 0 → awaited c (b .favoured) ≡ awaited b (b .favoured))
+    → (b .favoured ≢ 0 → at c (b .favoured) ≡ at b (b .favoured))
     → ((i : ℕ) → Is i → waitsIn (c .programs) i ≡ true → countIn (c .passed) i ≡ countIn (b .passed) i + admits ls)
     → length (ins (c .programs)) ≡ length (ins (b .programs)) + admits ls → Stepped b 0 0 0 (record { board = c; lines = ls })
 plain b c ls g m n x y z a t u = record {
@@ -137,26 +144,27 @@ running-passed (Standing.Waiting f) k e = failed-passed Refusal.IsWaiting e
 running-passed Standing.Running k e = (refl, e)
 
 -- What the checks of each call leave.
-pub record EnterMay (b : Board) (p : ℕ) (v q : FileSet) : Type 0 where
+pub record EnterMay (b : Board) (p : ℕ) (v q j : FileSet) : Type 0 where
   pub is : Is p
   pub absent : stands (b .programs) p ≡ Standing.Absent
-  pub claims-apart : claimsMeet v q ≡ false
+  pub claims-apart : claimsMeet v q j ≡ false
 
 pub record OpenMay (b : Board) (p f : ℕ) : Type 0 where
   pub is : Is p
   pub runs : stands (b .programs) p ≡ Standing.Running
+  pub no-item : prog (b .programs) p .item ≡ 0
   pub asked : Asked (prog (b .programs) p) f
 
 pub record RunsMay (b : Board) (p : ℕ) : Type 0 where
   pub is : Is p
   pub runs : stands (b .programs) p ≡ Standing.Running
 
-pub enter-may : (b : Board) (p : ℕ) (v q : FileSet) → enterCheck b p v q ≡ Check.Passed → EnterMay b p v q
+pub enter-may : (b : Board) (p : ℕ) (v q j : FileSet) → enterCheck b p v q j ≡ Check.Passed → EnterMay b p v q j
 unfolding enterCheck
-enter-may b p v q e =
+enter-may b p v q j e =
     let (a, e₁) = if-passed (not (isProgram p)) Refusal.OutOfRange _ e in
     let (s, e₂) = if-passed (not (isAbsent (at b p .standing))) Refusal.NotAbsent _ e₁ in
-    let (m, _) = if-passed (claimsMeet v q) Refusal.ClaimsMeet Check.Passed e₂ in
+    let (m, _) = if-passed (claimsMeet v q j) Refusal.ClaimsMeet Check.Passed e₂ in
     record {
       is = is-of p (not-of (isProgram p) a);
       absent = absent-is (at b p .standing)
@@ -173,11 +181,13 @@ unfolding openCheck
 open-may b p f e =
     let (a, e₁) = if-passed (not (isProgram p && isFile f)) Refusal.OutOfRange _ e in
     let (s, e₂) = running-passed (at b p .standing) _ e₁ in
-    let (c, e₃) = if-passed (not (claims (at b p) f)) Refusal.NotClaimed _ e₂ in
+    let (z, e₂₂) = if-passed (not (eqb (at b p .item) 0)) Refusal.HasRecord _ e₂ in
+    let (c, e₃) = if-passed (not (claims (at b p) f)) Refusal.NotClaimed _ e₂₂ in
     let (o, _) = if-passed (hasOpen (at b p) f) Refusal.IsOpen Check.Passed e₃ in
     record {
       is = is-of p (and-left (isProgram p) (isFile f) (not-of (isProgram p && isFile f) a));
       runs = s;
+      no-item = eqb-true (at b p .item) 0 (not-of (eqb (at b p .item) 0) z);
       asked = record {
         claimed = not-of (claims (at b p) f) c;
         shut = o;
@@ -194,6 +204,9 @@ if-so t r k e = rw e
 if-runs : (s : Standing) (k : Check) → s ≡ Standing.Running → unlessRunning s k ≡ k
 if-runs s k e = ap (λ t. unlessRunning t k) e
 
+if-no-item : (r : ℕ) (k : Check) → r ≡ 0 → unlessUsing r k ≡ k
+if-no-item r k e = if-so (eqb r 0) Refusal.HasRecord k (eq-eqb r 0 e)
+
 pub may-open : (b : Board) (p f : ℕ) → OpenMay b p f → openCheck b p f ≡ Check.Passed
 unfolding openCheck
 may-open b p f m =
@@ -201,15 +214,58 @@ may-open b p f m =
     let c = m .asked .claimed in
     if-so (isProgram p && isFile f) Refusal.OutOfRange _ (and-both (isProgram p) (isFile f) (of-is p (m .is)) (claims-file x f c))
     ∙ if-runs (x .standing) _ (m .runs)
+    ∙ if-no-item (x .item) _ (m .no-item)
     ∙ if-so (claims x f) Refusal.NotClaimed _ c
     ∙ if-not (hasOpen x f) Refusal.IsOpen Check.Passed (m .asked .shut)
 
-pub close-may : (b : Board) (p f : ℕ) → closeCheck b p f ≡ Check.Passed → RunsMay b p
+-- A running program without a record.
+pub record CloseMay (b : Board) (p : ℕ) : Type 0 where
+  pub is : Is p
+  pub runs : stands (b .programs) p ≡ Standing.Running
+  pub no-item : prog (b .programs) p .item ≡ 0
+
+pub close-may : (b : Board) (p f : ℕ) → closeCheck b p f ≡ Check.Passed → CloseMay b p
 unfolding closeCheck
 close-may b p f e =
     let (a, e₁) = if-passed (not (isProgram p && isFile f)) Refusal.OutOfRange _ e in
+    let (s, e₂) = running-passed (at b p .standing) _ e₁ in
+    let (z, _) = if-passed (not (eqb (at b p .item) 0)) Refusal.HasRecord _ e₂ in
+    record {
+      is = is-of p (and-left (isProgram p) (isFile f) (not-of (isProgram p && isFile f) a));
+      runs = s;
+      no-item = eqb-true (at b p .item) 0 (not-of (eqb (at b p .item) 0) z);
+    }
+
+pub record FetchMay (b : Board) (p f r : ℕ) : Type 0 where
+  pub is : Is p
+  pub runs : stands (b .programs) p ≡ Standing.Running
+  pub no-item : prog (b .programs) p .item ≡ 0
+  pub some-record : r ≢ 0
+  pub open-so : member (prog (b .programs) p .inquiring) f ≡ true
+
+pub fetch-may : (b : Board) (p f r : ℕ) → fetchCheck b p f r ≡ Check.Passed → FetchMay b p f r
+unfolding fetchCheck
+fetch-may b p f r e =
+    let (a, e₁) = if-passed (not (isProgram p && isFile f)) Refusal.OutOfRange _ e in
+    let (n, e₂) = if-passed (not (isRecord r)) Refusal.BadRecord _ e₁ in
+    let (s, e₃) = running-passed (at b p .standing) _ e₂ in
+    let (z, e₄) = if-passed (not (eqb (at b p .item) 0)) Refusal.HasRecord _ e₃ in
+    let (o, _) = if-passed (not (member (at b p .inquiring) f)) Refusal.NoRecord Check.Passed e₄ in
+    let m = leb-true 1 r (and-left (leb 1 r) (leb r 65535) (not-of (isRecord r) n)) in
+    record {
+      is = is-of p (and-left (isProgram p) (isFile f) (not-of (isProgram p && isFile f) a));
+      runs = s;
+      no-item = eqb-true (at b p .item) 0 (not-of (eqb (at b p .item) 0) z);
+      some-record = λ d. omega arith;
+      open-so = not-of (member (at b p .inquiring) f) o;
+    }
+
+pub return-may : (b : Board) (p : ℕ) → returnCheck b p ≡ Check.Passed → RunsMay b p
+unfolding returnCheck
+return-may b p e =
+    let (a, e₁) = if-passed (not (isProgram p)) Refusal.OutOfRange _ e in
     let (s, _) = running-passed (at b p .standing) _ e₁ in
-    record { is = is-of p (and-left (isProgram p) (isFile f) (not-of (isProgram p && isFile f) a)); runs = s }
+    record { is = is-of p (not-of (isProgram p) a); runs = s }
 
 pub leave-may : (b : Board) (p : ℕ) → leaveCheck b p ≡ Check.Passed → RunsMay b p
 unfolding leaveCheck
@@ -277,106 +333,95 @@ done-not-favour e = let z : _≡_ {A = ℕ} 0 1 = cc in omega arith
 abbrev pub CountsFrom : Board → Board → Type 0
 CountsFrom b c = (y : ℕ) → Is y → waitsIn (c .programs) y ≡ true → countIn (c .passed) y ≡ countIn (b .passed) y
 
--- Settling's counts, after a line that admits nobody.
-done-count : (b c : Board) (d : Line) → isAdmit (d .word) ≡ false → Loose c → Counts c → CountsFrom b c → (y : ℕ) → Is y
-    → waitsIn (settle c .board .programs) y ≡ true
-    → countIn (settle c .board .passed) y ≡ countIn (b .passed) y + admits (d ∷ settle c .lines)
-unfolding admits
-done-count b c d n l t v y i w =
-    let r = settle-settled c l t in
-    let (g, u) = waiting-file (stands (settle c .board .programs) y) w in
-    let x = r .count y i w in let z = v y i (ap isWaiting (r .waited y g i u)) in
-    let e : _≡_ {A = ℕ} (cond (isAdmit (d .word)) 1 0) 0 = rw n in omega arith
-
-done-sum : (b c : Board) (k : ℕ) (d : Line) → isAdmit (d .word) ≡ false → Loose c → Counts c
-    → k + length (ins (c .programs)) ≡ length (ins (b .programs))
-    → k + length (ins (settle c .board .programs)) ≡ length (ins (b .programs)) + admits (d ∷ settle c .lines)
-unfolding admits
-done-sum b c k d n l t su =
-    let x = settle-settled c l t .sum in
-    let e : _≡_ {A = ℕ} (cond (isAdmit (d .word)) 1 0) 0 = rw n in omega arith
-
-done-stepped : (b c : Board) {x : ℕ} (p f k o : ℕ) → Loose c → Counts c → CountsFrom b c
+done-stepped : (b c : Board) (t : Step) {x : ℕ} (p f k o : ℕ) → Settled c t → Loose c → CountsFrom b c
     → o + length (ins (c .programs)) ≡ length (ins (b .programs)) → Is p → waitsIn (c .programs) p ≡ false
     → heldAt (c .programs) p ≡ false → FavourMore b c k
-    → (b .favoured ≢ 0 → awaited c (b .favoured) ≡ awaited b (b .favoured))
-    → Stepped b k o x (record { board = settle c .board; lines = line Word.Done p f ∷ settle c .lines })
-done-stepped b c p f k o l t v su i w h x a = record {
+    → (b .favoured ≢ 0 → at c (b .favoured) ≡ at b (b .favoured))
+    → Stepped b k o x (record { board = t .board; lines = line Word.Done p f ∷ t .lines })
+unfolding admits
+done-stepped b c t p f k o r l v su i w h x a = record {
   good = r .good;
   many = let m = r .many in let n = crowd c p l i w h in omega arith;
   fav = ⊎-elim
-      (λ q. inl (q .0, newly-more (line Word.Done p f ∷ []) (settle c) (q .0) (one (line Word.Done p f) done-not-favour) (q .1)))
+      (λ q. inl (q .0, newly-more (line Word.Done p f ∷ []) t (q .0) (one (line Word.Done p f) done-not-favour) (q .1)))
       (λ q. inr (
         ⊎-elim inl (λ u. inr (more u)) (q .0),
-        quiet-more (line Word.Done p f ∷ []) (settle c .lines) (one (line Word.Done p f) done-not-favour) (q .1),
+        quiet-more (line Word.Done p f ∷ []) (t .lines) (one (line Word.Done p f) done-not-favour) (q .1),
       ))
       (r .fav);
   ended = λ n. ⊎-elim (λ q. inl (more q))
-      (λ (q : Ended c (settle c)). inr (inl (record {
-        line-there = subst (λ j. j ∈ settle c .lines)
-            (ap₂ (line Word.Given) (x .who) (ap (awaited c) (x .who) ∙ a n)) (q .line-there);
-        runs =
-            ap (stands (settle c .board .programs)) (sym (x .who)) ∙ q .runs;
+      (λ (q : Ended c t). inr (inl (record {
+        line-there = subst (λ j. j ∈ t .lines) (ap (λ h. waiterLine Word.Given h (at c h)) (x .who)
+            ∙ ap (waiterLine Word.Given (b .favoured)) (a n)) (q .line-there);
+        runs = ap (stands (t .board .programs)) (sym (x .who)) ∙ q .runs;
       })))
       (r .ended (λ d. n (sym (x .who) ∙ d)));
-  file-stays = λ n d. ap awaitedOf (kept n d) ∙ a n;
-  count = done-count b c (line Word.Done p f) refl l t v;
-  sum = done-sum b c o (line Word.Done p f) refl l t su;
+  file-stays = λ n d. let (j, u) = r .good .loose .fav-waits (λ e. n (sym d ∙ e)) in
+      r .waited (b .favoured) (subst Is d j) (ap (waitsIn (t .board .programs)) (sym d) ∙ u) ∙ a n;
+  count = λ y i j. let z = r .count y i j in let q = v y i (ap (λ (u : Program). isWaiting (u .standing)) (sym (r .waited y i j)) ∙ j) in
+      omega arith;
+  sum = let z = r .sum in omega arith;
 }
   where
-    r : Settled c (settle c)
-    r = settle-settled c l t
-
-    more : Favour c (settle c .board) → FavourMore b (settle c .board) k
+    more : Favour c (t .board) → FavourMore b (t .board) k
     more q = record { who = q .who ∙ x .who; number = q .number ∙ x .number; left = λ n. q .left ∙ x .left n }
-
-    kept : b .favoured ≢ 0 → settle c .board .favoured ≡ b .favoured → stands (settle c .board .programs)
-        (b .favoured) ≡ stands (c .programs) (b .favoured)
-    kept n d = let (j, v) = r .good .loose .fav-waits (λ e. n (sym d ∙ e)) in let (g, u) =
-        waiting-file (stands (settle c .board .programs) (settle c .board .favoured)) v in
-        let t : stands (settle c .board .programs) (b .favoured) ≡ Standing.Waiting g =
-        ap (stands (settle c .board .programs)) (sym d) ∙ u in t ∙ sym (r .waited (b .favoured) g (subst Is d j) t)
 
 -- ── Each call ──
 
 -- How the favoured program awaits its file where another program is put anew.
 file-put : (b : Board) (p : ℕ) (x : Program) → Loose b → Is p → waitsIn (b .programs) p ≡ false → b .favoured ≢ 0
-    → awaited (setProgram b p x) (b .favoured) ≡ awaited b (b .favoured)
-file-put b p x k c w n = let (i, u) = k .fav-waits n in ap (λ (q : Program). awaitedOf (q .standing))
-    (put-other (b .programs) p (b .favoured) x c i (λ d. never u (ap (waitsIn (b .programs)) d ∙ w)))
+    → at (setProgram b p x) (b .favoured) ≡ at b (b .favoured)
+file-put b p x k c w n = let (i, u) = k .fav-waits n in
+    put-other (b .programs) p (b .favoured) x c i (λ d. never u (ap (waitsIn (b .programs)) d ∙ w))
+
+-- p has no record in use, and gets none.
+put-records : (b : Board) (p : ℕ) (x : Program) → Good b → Is p → ((f r : ℕ) → Uses (prog (b .programs) p) f r → ⊥) → x .item ≡ 0
+    → x .file ≡ 0 → Records (put (b .programs) p x) 0 0
+put-records b p x g c n z e = let s = put-same (b .programs) p x (g .loose .base .size) c in
+    let i = ap (λ (q : Program). q .item) s ∙ z in
+    records-quiet (b .programs) (put (b .programs) p x) p c (λ i j m. put-other (b .programs) p i x c j m)
+    (none-item (prog (put (b .programs) p x) p) i (ap (λ (q : Program). q .file) s ∙ e)) i n (g .counts .records)
+
+-- A program that isn't admitted has none in use.
+out-uses : (b : Board) (p : ℕ) → Good b → Is p → isIn (b .programs) p ≡ false → (f r : ℕ) → Uses (prog (b .programs) p) f r → ⊥
+out-uses b p g c a f r u = u .1 (out-item (prog (b .programs) p) a (g .counts .records .own p c))
 
 free-put : (b : Board) (p : ℕ) (x : Program) → Good b → Is p → isHeld (x .standing) ≡ false → Free (put (b .programs) p x) (b .favoured)
 free-put b p x g c h e i j = put-case (λ q. isHeld (q .standing) ≡ false) (b .programs) p x (g .loose .base .size) c i j
     (λ _. h) (λ _. g .free e i j)
 
-enter-run : (b : Board) (p : ℕ) (v q : FileSet) → b .favoured ≡ 0 → overdue b ≡ none
-    → enter b p v q ≡ reply (admit b p v q) Answer.Admit (line Word.Admit p 0 ∷ [])
+enter-run : (b : Board) (p : ℕ) (v q j : FileSet) → b .favoured ≡ 0 → overdue b ≡ none
+    → enter b p v q j ≡ reply (admit b p v q j) Answer.Admit (line Word.Admit p 0 ∷ [])
 unfolding enter
-enter-run b p v q e u = rw (eq-eqb (b .favoured) 0 e, u)
+enter-run b p v q j e u = rw (eq-eqb (b .favoured) 0 e, u)
 
-enter-favour : (b : Board) (p : ℕ) (v q : FileSet) (w : ℕ) → b .favoured ≡ 0 → overdue b ≡ some w → enter b p v q ≡ holdFor b p v q w
+enter-favour : (b : Board) (p : ℕ) (v q j : FileSet) (w : ℕ) → b .favoured ≡ 0 → overdue b ≡ some w → enter b p v q j ≡ holdFor b p v q j w
 unfolding enter
-enter-favour b p v q w e u = rw (eq-eqb (b .favoured) 0 e, u)
+enter-favour b p v q j w e u = rw (eq-eqb (b .favoured) 0 e, u)
 
-enter-hold : (b : Board) (p : ℕ) (v q : FileSet) → b .favoured ≢ 0
-    → enter b p v q ≡ reply (hold b p v q) Answer.Held (line Word.Held p 0 ∷ [])
+enter-hold : (b : Board) (p : ℕ) (v q j : FileSet) → b .favoured ≢ 0
+    → enter b p v q j ≡ reply (hold b p v q j) Answer.Held (line Word.Held p 0 ∷ [])
 unfolding enter
-enter-hold b p v q n = rw (ne-eqb (b .favoured) 0 n)
+enter-hold b p v q j n = rw (ne-eqb (b .favoured) 0 n)
 
 -- A step of a reply that is given by its board, its answer and its lines.
 stepped-reply : (b c : Board) {o x : ℕ} (k : ℕ) (a : Answer) (ls : List Line) → Stepped b k o x (record { board = c; lines = ls })
     → Stepped b k o x (stepOf (reply c a ls))
 stepped-reply b c {o} {x} k a ls s = subst (Stepped b k o x) (sym (reply-step c a ls)) s
 
-admit-stepped : (b : Board) (p : ℕ) (v q : FileSet) → Good b → EnterMay b p v q → b .favoured ≡ 0 → overdue b ≡ none
-    → Stepped b 0 0 0 (record { board = admit b p v q; lines = line Word.Admit p 0 ∷ [] })
+admit-stepped : (b : Board) (p : ℕ) (v q j : FileSet) → Good b → EnterMay b p v q j → b .favoured ≡ 0 → overdue b ≡ none
+    → Stepped b 0 0 0 (record { board = admit b p v q j; lines = line Word.Admit p 0 ∷ [] })
 unfolding admit admits
-admit-stepped b p v q g m e u = plain b (tally c) _
+admit-stepped b p v q j g m e u = plain b (tally c) _
     (record {
       loose = subst (λ w. LooseIn (put P p x) (b .waiting) (b .entry) w (b .initial) (b .leaves)) (sym e)
-          (loose-enter P (b .waiting) (b .entry) (b .initial) (b .leaves) p v q (m .is) (m .absent) (m .claims-apart)
+          (loose-enter P (b .waiting) (b .entry) (b .initial) (b .leaves) p v q j (m .is) (m .absent) (m .claims-apart)
           (subst (λ w. LooseIn P (b .waiting) (b .entry) w (b .initial) (b .leaves)) e k));
-      counts = counted-tally b c u (k .waits) refl (test-put isWaiting P p x z (m .is) (sym (ap isWaiting (m .absent)))) (g .counts);
+      counts = record {
+        counted = counted-tally b c u (k .waits) refl (test-put isWaiting P p x z (m .is) (sym (ap isWaiting (m .absent)))) (g .counts
+            .counted);
+        records = put-records b p x g (m .is) (out-uses b p g (m .is) (ap isAdmitted (m .absent))) refl refl;
+      };
       stuck = stuck-enter P p x (k .base) (m .is) (m .absent) refl (g .stuck);
       free = free-put b p x g (m .is) refl;
     }) (omega arith) (one (line Word.Admit p 0) (λ d. let z : _≡_ {A = ℕ} 0 1 = cc in omega arith)) refl refl refl
@@ -388,7 +433,7 @@ admit-stepped b p v q g m e u = plain b (tally c) _
     P = b .programs
 
     x : Program
-    x = newcomer v q Standing.Running
+    x = newcomer v q j Standing.Running
 
     c : Board
     c = setProgram b p x
@@ -410,20 +455,25 @@ pub record Holding (b c : Board) (p : ℕ) : Type 0 where
   pub h-number : c .initial ≡ b .initial
   pub h-left : c .leaves ≡ b .leaves
   pub h-waiting : c .waiting ≡ b .waiting
-  pub h-file : b .favoured ≢ 0 → awaited c (b .favoured) ≡ awaited b (b .favoured)
+  pub h-passed : (y : ℕ) → countIn (c .passed) y ≡ countIn (b .passed) y
+  pub h-file : b .favoured ≢ 0 → at c (b .favoured) ≡ at b (b .favoured)
 
-hold-holding : (b : Board) (p : ℕ) (v q : FileSet) → Good b → EnterMay b p v q → Holding b (hold b p v q) p
+hold-holding : (b : Board) (p : ℕ) (v q j : FileSet) → Good b → EnterMay b p v q j → Holding b (hold b p v q j) p
 unfolding hold
-hold-holding b p v q g m = record {
-  h-loose = loose-hold P (b .waiting) (b .entry) (b .favoured) (b .initial) (b .leaves) p v q (m .is) (m .absent) (m .claims-apart) k;
+hold-holding b p v q j g m = record {
+  h-loose = loose-hold P (b .waiting) (b .entry) (b .favoured) (b .initial) (b .leaves) p v q j (m .is) (m .absent) (m .claims-apart) k;
   h-stuck = stuck-hold P p x (k .base) (m .is) (m .absent) refl (g .stuck);
-  h-counts = counted-keep (b .passed) P (put P p x) (λ i j w. same i j ∙ w) (g .counts);
+  h-counts = record {
+    counted = counted-keep (b .passed) P (put P p x) (λ i h w. same i h ∙ w) (g .counts .counted);
+    records = put-records b p x g (m .is) (out-uses b p g (m .is) (ap isAdmitted (m .absent))) refl refl;
+  };
   h-same = λ y i w. refl;
   h-ins = ap length (ins-same P p x (k .base .size) (m .is) (sym (ap isAdmitted (m .absent))));
   h-who = refl;
   h-number = refl;
   h-left = refl;
   h-waiting = refl;
+  h-passed = λ y. refl;
   h-file = file-put b p x k (m .is) (ap isWaiting (m .absent));
 }
   where
@@ -431,7 +481,7 @@ hold-holding b p v q g m = record {
     P = b .programs
 
     x : Program
-    x = newcomer v q Standing.Held
+    x = newcomer v q j Standing.Held
 
     k : Loose b
     k = g .loose
@@ -462,37 +512,38 @@ favour-stepped b c p s e h r len w = record {
   fav = inl (w .0, newly-more (line Word.Held p 0 ∷ []) s (w .0) (one (line Word.Held p 0) held-not-favour) (w .1));
   ended = λ n. absurd (n e);
   file-stays = λ n. absurd (n e);
-  count = λ y i j. let (g, u) = waiting-file (stands (s .board .programs) y) j in
-      let x = r .count y i j in let z = h .h-same y i (ap isWaiting (r .waited y g i u)) in omega arith;
+  count = λ y i j. let x = r .count y i j in
+      let z = h .h-same y i (ap (λ (q : Program). isWaiting (q .standing)) (sym (r .waited y i j)) ∙ j) in omega arith;
   sum = let x = r .sum in let z = h .h-ins in omega arith;
 }
 
-holdFor-stepped : (b : Board) (p : ℕ) (v q : FileSet) (w : ℕ) → Good b → EnterMay b p v q → b .favoured ≡ 0 → overdue b ≡ some w
-    → Stepped b 0 0 0 (stepOf (holdFor b p v q w))
+holdFor-stepped : (b : Board) (p : ℕ) (v q j : FileSet) (w : ℕ) → Good b → EnterMay b p v q j → b .favoured ≡ 0 → overdue b ≡ some w
+    → Stepped b 0 0 0 (stepOf (holdFor b p v q j w))
 unfolding holdFor overdue favour
-holdFor-stepped b p v q w g m e u = stepped-reply b (favour c w .board) 0 Answer.Held (line Word.Held p 0 ∷ favour c w .lines)
+holdFor-stepped b p v q j w g m e u = stepped-reply b (favour c w .board) 0 Answer.Held (line Word.Held p 0 ∷ favour c w .lines)
     (favour-stepped b c p (favour c w) e h r (omega arith)
-    (⊎-elim (λ x. x .1) (λ x. absurd (x .1 (line Word.Favour w (awaited c w)) here refl)) (r .fav)))
+    (⊎-elim (λ x. x .1) (λ x. absurd (x .1 (waiterLine Word.Favour w (at c w)) here refl)) (r .fav)))
   where
     c : Board
-    c = hold b p v q
+    c = hold b p v q j
 
     h : Holding b c p
-    h = hold-holding b p v q g m
+    h = hold-holding b p v q j g m
 
     r : Chosen c (favour c w)
-    r = chosen-some c w (h .h-loose) (h .h-stuck) (h .h-counts) (h .h-who ∙ e) (subst (λ l. w ∈ names l) (sym (h .h-waiting))
-        (first-some (λ y. eqb (passedBy b y) 8) (names (b .waiting)) w u .0))
+    r = let (f, d) = first-some (λ y. eqb (passedBy b y) 8) (names (b .waiting)) w u in
+        chosen-some c w (h .h-loose) (h .h-stuck) (h .h-counts) (h .h-who ∙ e) (subst (λ l. w ∈ names l) (sym (h .h-waiting)) f)
+        (inr (h .h-passed w ∙ eqb-true (passedBy b w) 8 d))
 
-enter-stepped : (b : Board) (p : ℕ) (v q : FileSet) → Good b → EnterMay b p v q → Stepped b 0 0 0 (stepOf (enter b p v q))
-enter-stepped b p v q g m = by-test (eqb (b .favoured) 0)
+enter-stepped : (b : Board) (p : ℕ) (v q j : FileSet) → Good b → EnterMay b p v q j → Stepped b 0 0 0 (stepOf (enter b p v q j))
+enter-stepped b p v q j g m = by-test (eqb (b .favoured) 0)
     (λ t. let e = eqb-true (b .favoured) 0 t in by-option (overdue b)
-    (λ u. subst (λ r. Stepped b 0 0 0 (stepOf r)) (sym (enter-run b p v q e u)) (stepped-reply b (admit b p v q) 0 Answer.Admit
-    (line Word.Admit p 0 ∷ []) (admit-stepped b p v q g m e u)))
-    (λ w u. subst (λ r. Stepped b 0 0 0 (stepOf r)) (sym (enter-favour b p v q w e u)) (holdFor-stepped b p v q w g m e u)))
+    (λ u. subst (λ r. Stepped b 0 0 0 (stepOf r)) (sym (enter-run b p v q j e u)) (stepped-reply b (admit b p v q j) 0 Answer.Admit
+    (line Word.Admit p 0 ∷ []) (admit-stepped b p v q j g m e u)))
+    (λ w u. subst (λ r. Stepped b 0 0 0 (stepOf r)) (sym (enter-favour b p v q j w e u)) (holdFor-stepped b p v q j w g m e u)))
     (λ t. let n = eqb-false (b .favoured) 0 t in
-    subst (λ r. Stepped b 0 0 0 (stepOf r)) (sym (enter-hold b p v q n)) (stepped-reply b (hold b p v q) 0 Answer.Held
-    (line Word.Held p 0 ∷ []) (hold-stepped b (hold b p v q) p n (hold-holding b p v q g m))))
+    subst (λ r. Stepped b 0 0 0 (stepOf r)) (sym (enter-hold b p v q j n)) (stepped-reply b (hold b p v q j) 0 Answer.Held
+    (line Word.Held p 0 ∷ []) (hold-stepped b (hold b p v q j) p n (hold-holding b p v q j g m))))
 
 -- An open waits with an answer and its word, or is given.
 open-wait : (b : Board) (p f : ℕ) → inUse b p f ≡ true → openFile b p f ≡ reply (wait b p f) Answer.Wait (line Word.Wait p f ∷ [])
@@ -509,33 +560,41 @@ pub open-given : (b : Board) (p f : ℕ) → inUse b p f ≡ false → safe b p 
 unfolding openFile
 open-given b p f u v = rw (u, v)
 
--- The board with p waiting.
-wait-good : (b : Board) (p f : ℕ) → Good b → OpenMay b p f → can (b .programs) p f ≡ false → Good (wait b p f)
+-- A running program begins to wait, as x.
+wait-plain : (b : Board) (p : ℕ) (x : Program) (l : Line) → Good b → Is p → stands (b .programs) p ≡ Standing.Running
+    → isWaiting (x .standing) ≡ true → SameSets (at b p) x → Asks x → ((g : ℕ) → Awaits x g → can (b .programs) p g ≡ false)
+    → Records (put (b .programs) p x) 0 0 → (l .word ≡ Word.Favour → ⊥) → isAdmit (l .word) ≡ false
+    → Stepped b 0 0 0 (record { board = waitAs b p x; lines = l ∷ [] })
+unfolding admits
+wait-plain b p x l g c r w d asks u rec n a = plain b (waitAs b p x) _ (record {
+  loose = loose-wait (b .programs) (b .waiting) (b .entry) (b .favoured) (b .initial) (b .leaves) p x c r w d asks (g .loose);
+  counts = record {
+    counted = counted-keep (b .passed) (b .programs) (put (b .programs) p x) (λ i j v. put-case (λ q. isWaiting (q .standing) ≡ true)
+        (b .programs) p x (g .loose .base .size) c i j (λ _. w) (λ _. v)) (g .counts .counted);
+    records = rec;
+  };
+  stuck = stuck-same (b .programs) p x (g .loose .base .size) c r adm d u (g .stuck);
+  free = free-put b p x g c (let (f, e) = waiting-file (x .standing) w in ap isHeld e);
+}) (omega arith) (one l n) refl refl refl (file-put b p x (g .loose) c (ap isWaiting r))
+    (λ i j v. omega (arith, none-more)) (let z = ap length (ins-same (b .programs) p x (g .loose .base .size) c (adm ∙ sym (ap isAdmitted r)))
+    in omega (arith, none-more))
+  where
+    adm : isAdmitted (x .standing) ≡ true
+    adm = waiting-in (x .standing) w
+
+    none-more : _≡_ {A = ℕ} (cond (isAdmit (l .word)) 1 0) 0
+    none-more = rw a
+
+open-waits : (b : Board) (p f : ℕ) (w : Word) → Good b → OpenMay b p f → can (b .programs) p f ≡ false
+    → (w ≡ Word.Favour → ⊥) → isAdmit w ≡ false → Stepped b 0 0 0 (record { board = wait b p f; lines = line w p f ∷ [] })
 unfolding wait
-wait-good b p f g m u = record {
-  loose = loose-wait (b .programs) (b .waiting) (b .entry) (b .favoured) (b .initial) (b .leaves) p f (m .is) (m .runs)
-      (m .asked) (g .loose);
-  counts = counted-keep (b .passed) (b .programs) (put (b .programs) p x) (λ i j w. put-case (λ q. isWaiting (q .standing) ≡ true)
-      (b .programs) p x (g .loose .base .size) (m .is) i j (λ _. refl) (λ _. w)) (g .counts);
-  stuck = stuck-wait (b .programs) p f (g .loose .base .size) (m .is) (m .runs) u (g .stuck);
-  free = free-put b p x g (m .is) refl;
-}
+open-waits b p f w g m u = wait-plain b p x (line w p f) g (m .is) (m .runs) refl (standing-same (at b p) (Standing.Waiting f))
+    (λ h e. subst (Asked x) (same-file f h (e .0)) (record { claimed = m .asked .claimed; shut = m .asked .shut }))
+    (λ h e. ap (can (b .programs) p) (sym (same-file f h (e .0))) ∙ u)
+    (put-records b p x g (m .is) (λ f r v. v .1 (m .no-item)) (m .no-item) (g .counts .records .own p (m .is) .no-item (m .no-item)))
   where
     x : Program
     x = setStanding (at b p) (Standing.Waiting f)
-
-wait-plain : (b : Board) (p f : ℕ) (w : Word) → Good b → OpenMay b p f → can (b .programs) p f ≡ false
-    → (w ≡ Word.Favour → ⊥) → isAdmit w ≡ false → Stepped b 0 0 0 (record { board = wait b p f; lines = line w p f ∷ [] })
-unfolding wait admits
-wait-plain b p f w g m u n a = plain b (wait b p f) _ (wait-good b p f g m u) (omega arith)
-    (one (line w p f) n) refl refl refl (file-put b p (setStanding (at b p) (Standing.Waiting f)) (g .loose) (m .is)
-    (ap isWaiting (m .runs)))
-    (λ i j v. omega (arith, none-more)) (let x = ap length (ins-same (b .programs) p (setStanding (at b p) (Standing.Waiting f))
-    (g .loose .base .size)
-    (m .is) (sym (ap isAdmitted (m .runs)))) in omega (arith, none-more))
-  where
-    none-more : _≡_ {A = ℕ} (cond (isAdmit w) 1 0) 0
-    none-more = rw a
 
 open-plain : (b : Board) (p f : ℕ) → Good b → OpenMay b p f → can (b .programs) p f ≡ true
     → Stepped b 0 0 0 (record { board = withGiven b p f; lines = line Word.Given p f ∷ [] })
@@ -544,15 +603,139 @@ open-plain b p f g m u = plain b (withGiven b p f) _
     (record {
       loose = loose-open (b .programs) (b .waiting) (b .entry) (b .favoured) (b .initial) (b .leaves) p f (m .is)
           (m .runs) (m .asked .claimed) u (g .loose);
-      counts = counted-keep (b .passed) (b .programs) (give (b .programs) p f) (λ i j w. test-put isWaiting (b .programs) p
-          (Rattle.rules.specs.Boards.opening (at b p) f) (g .loose .base .size) (m .is)
-          (ap isWaiting (Rattle.theory.specs.Programs.opening-standing (at b p) f)) i j ∙ w) (g .counts);
+      counts = record {
+        counted = counted-keep (b .passed) (b .programs) (put (b .programs) p x) (λ i j w. test-put isWaiting (b .programs) p x
+            (g .loose .base .size) (m .is) (ap isWaiting o) i j ∙ w) (g .counts .counted);
+        records = put-records b p x g (m .is) (λ f r v. v .1 (m .no-item)) (q .0 ∙ m .no-item)
+            (q .1 ∙ g .counts .records .own p (m .is) .no-item (m .no-item));
+      };
       stuck = stuck-open (b .programs) p f (g .loose .base .size) (m .is) (m .runs) (g .stuck);
-      free = free-put b p (Rattle.rules.specs.Boards.opening (at b p) f) g (m .is)
-          (ap isHeld (Rattle.theory.specs.Programs.opening-standing (at b p) f ∙ m .runs));
+      free = free-put b p x g (m .is) (ap isHeld (o ∙ m .runs));
     }) (omega arith) (one (line Word.Given p f) (λ d. let z : _≡_ {A = ℕ} 0 1 = cc in omega arith)) refl refl refl
-    (file-put b p (Rattle.rules.specs.Boards.opening (at b p) f) (g .loose) (m .is) (ap isWaiting (m .runs)))
+    (file-put b p x (g .loose) (m .is) (ap isWaiting (m .runs)))
     (λ i j w. omega arith) (let x = ap length (ins-give (b .programs) p f (g .loose .base .size) (m .is)) in omega arith)
+  where
+    x : Program
+    x = opening (at b p) f
+
+    o : x .standing ≡ at b p .standing
+    o = opening-standing (at b p) f
+
+    q : (x .item ≡ at b p .item) × (x .file ≡ at b p .file)
+    q = opening-item (at b p) f
+
+-- ── Fetch ──
+
+fetch-wait : (b : Board) (p f r : ℕ) → taken b p f r ≡ true
+    → fetch b p f r ≡ reply (waitItem b p f r) Answer.Wait (lineOf Word.Wait p f r ∷ [])
+unfolding fetch
+fetch-wait b p f r u = rw u
+
+fetch-given : (b : Board) (p f r : ℕ) → taken b p f r ≡ false
+    → fetch b p f r ≡ reply (setProgram b p (setItem (at b p) f r)) Answer.Given (lineOf Word.Given p f r ∷ [])
+unfolding fetch
+fetch-given b p f r u = rw u
+
+pub taken-by : (b : Board) (p f r : ℕ) → taken b p f r ≡ true → (i : ℕ) × Is i × (i ≢ p) × Uses (at b i) f r
+unfolding taken
+taken-by b p f r e = let (i, m, u) = any-some (λ i. not (eqb i p) && uses (at b i) f r) everyone e in (
+  i,
+  everyone-is i m,
+  eqb-false i p (not-true (eqb i p) (and-left (not (eqb i p)) (uses (at b i) f r) u)),
+  uses-of (at b i) f r (and-right (not (eqb i p)) (uses (at b i) f r) u),
+)
+
+pub by-taken : (b : Board) (p f r i : ℕ) → Is i → i ≢ p → Uses (at b i) f r → taken b p f r ≡ true
+unfolding taken
+by-taken b p f r i c n u = some-any (λ i. not (eqb i p) && uses (at b i) f r) everyone i (mem-everyone i c)
+    (and-both (not (eqb i p)) (uses (at b i) f r) (true-not (eqb i p) (ne-eqb i p n)) (of-uses (at b i) f r u))
+
+fetch-waits : (b : Board) (p f r : ℕ) → Good b → FetchMay b p f r → taken b p f r ≡ true
+    → Stepped b 0 0 0 (record { board = waitItem b p f r; lines = lineOf Word.Wait p f r ∷ [] })
+unfolding waitItem
+fetch-waits b p f r g m u = wait-plain b p x (lineOf Word.Wait p f r) g (m .is) (m .runs) refl
+    (same-then _ _ _ (standing-same (at b p) (Standing.Waiting f)) (item-same (setStanding (at b p) (Standing.Waiting f)) f r))
+    (λ h e. absurd (m .some-record (e .1))) (λ h e. absurd (m .some-record (e .1)))
+    (let (j, i, n, v) = taken-by b p f r u in records-waited (b .programs) (put (b .programs) p x) p (m .is)
+    (λ i j m. put-other (b .programs) p i x c j m) (subst ItemOwn (sym s) (record {
+      no-item = λ d. absurd (m .some-record d);
+      in-i = λ _. m .open-so;
+      stands-so = λ _. inr refl;
+    })) f r (m .no-item) (ap (λ (q : Program). q .file) s) (ap (λ (q : Program). q .item) s) (ap (λ (q : Program). isWaiting (q .standing)) s)
+    j i n v (g .counts .records))
+    (λ d. let z : _≡_ {A = ℕ} 0 1 = cc in omega arith) refl
+  where
+    c : Is p
+    c = m .is
+
+    x : Program
+    x = setItem (setStanding (at b p) (Standing.Waiting f)) f r
+
+    s : prog (put (b .programs) p x) p ≡ x
+    s = put-same (b .programs) p x (g .loose .base .size) c
+
+-- A running program is put anew, running, with its sets: its record changes.
+module _ (b : Board) (p f r : ℕ) (g : Good b) (c : Is p) (run : stands (b .programs) p ≡ Standing.Running) where
+  item-program : Program
+  item-program = setItem (at b p) f r
+
+  item-sets : SameSets (at b p) (setItem (at b p) f r)
+  item-sets = item-same (at b p) f r
+
+  pub item-loose : Loose (setProgram b p (setItem (at b p) f r))
+  item-loose = loose-shrink (b .programs) (b .waiting) (b .entry) (b .favoured) (b .initial) (b .leaves) p (setItem (at b p) f r) c run run
+      (within-same _ _ (same-turn _ _ item-sets)) (own-same _ _ item-sets (ap isAdmitted run) (g .loose .base .own p c)) (g .loose)
+
+  item-waits : (i : ℕ) → Is i → waitsIn (put (b .programs) p (setItem (at b p) f r)) i ≡ waitsIn (b .programs) i
+  item-waits = test-put isWaiting (b .programs) p (setItem (at b p) f r) (g .loose .base .size) c refl
+
+  pub item-counted : Counted (b .passed) (put (b .programs) p (setItem (at b p) f r))
+  item-counted = counted-keep (b .passed) (b .programs) (put (b .programs) p (setItem (at b p) f r)) (λ i j w. item-waits i j ∙ w)
+      (g .counts .counted)
+
+  item-in : length (ins (put (b .programs) p (setItem (at b p) f r))) ≡ length (ins (b .programs))
+  item-in = ap length (ins-same (b .programs) p (setItem (at b p) f r) (g .loose .base .size) c refl)
+
+  pub item-put : prog (put (b .programs) p (setItem (at b p) f r)) p ≡ setItem (at b p) f r
+  item-put = put-same (b .programs) p (setItem (at b p) f r) (g .loose .base .size) c
+
+fetch-gets : (b : Board) (p f r : ℕ) → Good b → FetchMay b p f r → taken b p f r ≡ false
+    → Stepped b 0 0 0 (record { board = setProgram b p (setItem (at b p) f r); lines = lineOf Word.Given p f r ∷ [] })
+unfolding admits
+fetch-gets b p f r g m u = plain b (setProgram b p x) _ (record {
+  loose = item-loose b p f r g c (m .runs);
+  counts = record {
+    counted = item-counted b p f r g c (m .runs);
+    records = records-fetched (b .programs) (put (b .programs) p x) p c (λ i j m. put-other (b .programs) p i x c j m)
+        (subst ItemOwn (sym s) (record {
+          no-item = λ d. absurd (m .some-record d);
+          in-i = λ _. m .open-so;
+          stands-so = λ _. inl (m .runs);
+        })) f r (m .no-item) (ap (λ (q : Program). q .file) s) (ap (λ (q : Program). q .item) s)
+        (ap (λ (q : Program). q .standing) s ∙ m .runs) (λ i j n v. never (by-taken b p f r i j n v) u) (g .counts .records);
+  };
+  stuck = stuck-same (b .programs) p x (g .loose .base .size) c (m .runs) (ap isAdmitted (m .runs)) (item-same (at b p) f r)
+      (λ h e. never {t = false} (sym (ap isWaiting (m .runs)) ∙ ap isWaiting (e .0)) refl) (g .stuck);
+  free = free-put b p x g c (ap isHeld (m .runs));
+}) (omega arith) (one (lineOf Word.Given p f r) (λ d. let z : _≡_ {A = ℕ} 0 1 = cc in omega arith)) refl refl refl
+    (file-put b p x (g .loose) c (ap isWaiting (m .runs))) (λ i j w. omega arith)
+    (let z = item-in b p f r g c (m .runs) in omega arith)
+  where
+    c : Is p
+    c = m .is
+
+    x : Program
+    x = setItem (at b p) f r
+
+    s : prog (put (b .programs) p x) p ≡ x
+    s = item-put b p f r g c (m .runs)
+
+fetch-stepped : (b : Board) (p f r : ℕ) → Good b → FetchMay b p f r → Stepped b 0 0 0 (stepOf (fetch b p f r))
+fetch-stepped b p f r g m = by-test (taken b p f r)
+    (λ t. subst (λ q. Stepped b 0 0 0 (stepOf q)) (sym (fetch-wait b p f r t)) (stepped-reply b (waitItem b p f r) 0 Answer.Wait
+    (lineOf Word.Wait p f r ∷ []) (fetch-waits b p f r g m t)))
+    (λ t. subst (λ q. Stepped b 0 0 0 (stepOf q)) (sym (fetch-given b p f r t)) (stepped-reply b (setProgram b p (setItem (at b p) f r)) 0
+    Answer.Given (lineOf Word.Given p f r ∷ []) (fetch-gets b p f r g m t)))
 
 -- Whether the file can be given, by the two tests of an open.
 pub can-tests : (b : Board) (p f : ℕ) → can (b .programs) p f ≡ not (inUse b p f) && safe b p f
@@ -562,33 +745,38 @@ can-tests b p f = sym (canGive-is b p f)
 open-stepped : (b : Board) (p f : ℕ) → Good b → OpenMay b p f → Stepped b 0 0 0 (stepOf (openFile b p f))
 open-stepped b p f g m = by-test (inUse b p f)
     (λ t. subst (λ r. Stepped b 0 0 0 (stepOf r)) (sym (open-wait b p f t)) (stepped-reply b (wait b p f) 0 Answer.Wait
-    (line Word.Wait p f ∷ []) (wait-plain b p f Word.Wait g m (can-tests b p f ∙ rw t)
+    (line Word.Wait p f ∷ []) (open-waits b p f Word.Wait g m (can-tests b p f ∙ rw t)
     (λ d. let z : _≡_ {A = ℕ} 0 1 = cc in omega arith) refl)))
     (λ t. by-test (safe b p f)
     (λ u. subst (λ r. Stepped b 0 0 0 (stepOf r)) (sym (open-given b p f t u))
     (stepped-reply b (withGiven b p f) 0 Answer.Given (line Word.Given p f ∷ []) (open-plain b p f g m (can-tests b p f ∙ rw (t, u)))))
     (λ u. subst (λ r. Stepped b 0 0 0 (stepOf r)) (sym (open-unsafe b p f t u)) (stepped-reply b (wait b p f) 0 Answer.Unsafe
-    (line Word.Unsafe p f ∷ []) (wait-plain b p f Word.Unsafe g m (can-tests b p f ∙ rw (t, u))
+    (line Word.Unsafe p f ∷ []) (open-waits b p f Word.Unsafe g m (can-tests b p f ∙ rw (t, u))
     (λ d. let z : _≡_ {A = ℕ} 0 1 = cc in omega arith) refl))))
 
 -- A running program is put anew, running.
-module _ (b : Board) (p : ℕ) (x : Program) (g : Good b) (m : RunsMay b p) (r : x .standing ≡ Standing.Running) where
+module _ (b : Board) (p : ℕ) (x : Program) (g : Good b) (m : CloseMay b p) (r : x .standing ≡ Standing.Running) (z : x .item ≡ at b p .item)
+    (e : x .file ≡ at b p .file) where
   still-waits : (i : ℕ) → Is i → waitsIn (put (b .programs) p x) i ≡ waitsIn (b .programs) i
   still-waits = test-put isWaiting (b .programs) p x (g .loose .base .size) (m .is) (ap isWaiting r ∙ sym (ap isWaiting (m .runs)))
 
   pub still-counts : Counts (setProgram b p x)
-  still-counts = counted-keep (b .passed) (b .programs) (put (b .programs) p x) (λ i j w. still-waits i j ∙ w) (g .counts)
+  still-counts = record {
+    counted = counted-keep (b .passed) (b .programs) (put (b .programs) p x) (λ i j w. still-waits i j ∙ w) (g .counts .counted);
+    records = put-records b p x g (m .is) (λ f r v. v .1 (m .no-item)) (z ∙ m .no-item)
+        (e ∙ g .counts .records .own p (m .is) .no-item (m .no-item));
+  }
 
   still-in : 0 + length (ins (put (b .programs) p x)) ≡ length (ins (b .programs))
   still-in = let y = ap length (ins-same (b .programs) p x (g .loose .base .size) (m .is) (ap isAdmitted r ∙ sym (ap isAdmitted
       (m .runs)))) in
       omega arith
 
-close-stepped : (b : Board) (p f : ℕ) → Good b → RunsMay b p → Stepped b 0 0 0 (stepOf (closeFile b p f))
-unfolding closeFile done closing
+close-stepped : (b : Board) (p f : ℕ) → Good b → CloseMay b p → Stepped b 0 0 0 (stepOf (closeFile b p f))
+unfolding closeFile done finish closing
 close-stepped b p f g m = stepped-reply b (settle c .board) 0 Answer.Done (line Word.Done p f ∷ settle c .lines)
-    (done-stepped b c p f 0 0 (loose-close (b .programs) (b .waiting) (b .entry) (b .favoured) (b .initial)
-    (b .leaves) p f (m .is) (m .runs) (g .loose)) (still-counts b p x g m (m .runs)) (λ y i w. refl) (still-in b p x g m (m .runs)) (m .is)
+    (done-stepped b c (settle c) p f 0 0 (settle-settled c l (still-counts b p x g m (m .runs) refl refl)) l
+    (λ y i w. refl) (still-in b p x g m (m .runs) refl refl) (m .is)
     (test-same isWaiting (b .programs) p x (g .loose .base .size) (m .is) ∙ ap isWaiting (m .runs))
     (test-same isHeld (b .programs) p x (g .loose .base .size) (m .is) ∙ ap isHeld (m .runs))
     (record { who = refl; number = refl; left = λ _. omega arith }) (file-put b p x (g .loose) (m .is) (ap isWaiting (m .runs))))
@@ -599,11 +787,14 @@ close-stepped b p f g m = stepped-reply b (settle c .board) 0 Answer.Done (line 
     c : Board
     c = setProgram b p x
 
+    l : Loose c
+    l = loose-close (b .programs) (b .waiting) (b .entry) (b .favoured) (b .initial) (b .leaves) p f (m .is) (m .runs) (g .loose)
+
 drop-stepped : (b : Board) (p f : ℕ) → Good b → OpenMay b p f → Stepped b 0 0 0 (stepOf (dropFile b p f))
-unfolding dropFile done dropping
+unfolding dropFile done finish dropping
 drop-stepped b p f g m = stepped-reply b (settle c .board) 0 Answer.Done (line Word.Done p f ∷ settle c .lines)
-    (done-stepped b c p f 0 0 (loose-drop (b .programs) (b .waiting) (b .entry) (b .favoured) (b .initial) (b .leaves) p f
-    (m .is) (m .runs) (m .asked .shut) (g .loose)) (still-counts b p x g r (m .runs)) (λ y i w. refl) (still-in b p x g r (m .runs)) (m .is)
+    (done-stepped b c (settle c) p f 0 0 (settle-settled c l (still-counts b p x g r (m .runs) refl refl)) l
+    (λ y i w. refl) (still-in b p x g r (m .runs) refl refl) (m .is)
     (test-same isWaiting (b .programs) p x (g .loose .base .size) (m .is) ∙ ap isWaiting (m .runs))
     (test-same isHeld (b .programs) p x (g .loose .base .size) (m .is) ∙ ap isHeld (m .runs))
     (record { who = refl; number = refl; left = λ _. omega arith }) (file-put b p x (g .loose) (m .is) (ap isWaiting (m .runs))))
@@ -611,11 +802,15 @@ drop-stepped b p f g m = stepped-reply b (settle c .board) 0 Answer.Done (line W
     x : Program
     x = dropping (at b p) f
 
-    r : RunsMay b p
-    r = record { is = m .is; runs = m .runs }
+    r : CloseMay b p
+    r = record { is = m .is; runs = m .runs; no-item = m .no-item }
 
     c : Board
     c = setProgram b p x
+
+    l : Loose c
+    l = loose-drop (b .programs) (b .waiting) (b .entry) (b .favoured) (b .initial) (b .leaves) p f (m .is) (m .runs) (m .asked .shut)
+        (g .loose)
 
 count-none : (b : Board) → b .favoured ≡ 0 → countLeave b ≡ b
 unfolding countLeave
@@ -636,7 +831,8 @@ pub record Left (b c : Board) (p : ℕ) : Type 0 where
   pub l-loose : Loose c
   pub l-programs : c .programs ≡ put (b .programs) p noProgram
   pub l-favour : FavourMore b c 1
-  pub l-counts : Counts c
+  pub l-counted : Counted (c .passed) (c .programs)
+  pub l-records : Records (c .programs) (at b p .file) (at b p .item)
   pub l-same : CountsFrom b c
   pub l-sum : 1 + length (ins (c .programs)) ≡ length (ins (b .programs))
 
@@ -649,7 +845,8 @@ leave-left b p g m = by-test (eqb (b .favoured) 0)
       l-programs = refl;
       l-favour =
           record { who = refl; number = refl; left = λ n. absurd (n e) };
-      l-counts = counts;
+      l-counted = counts;
+      l-records = records;
       l-same = λ y i w. refl;
       l-sum = fewer;
     }))
@@ -660,32 +857,75 @@ leave-left b p g m = by-test (eqb (b .favoured) 0)
       l-programs = refl;
       l-favour =
           record { who = refl; number = refl; left = λ _. omega arith };
-      l-counts = counts;
+      l-counted = counts;
+      l-records = records;
       l-same = λ y i w. refl;
       l-sum = fewer;
     }))
   where
     counts : Counted (b .passed) (put (b .programs) p noProgram)
     counts = counted-keep (b .passed) (b .programs) (put (b .programs) p noProgram) (λ i j w. test-put isWaiting (b .programs) p noProgram
-        (g .loose .base .size) (m .is) (sym (ap isWaiting (m .runs))) i j ∙ w) (g .counts)
+        (g .loose .base .size) (m .is) (sym (ap isWaiting (m .runs))) i j ∙ w) (g .counts .counted)
+
+    records : Records (put (b .programs) p noProgram) (at b p .file) (at b p .item)
+    records = let s = put-same (b .programs) p noProgram (g .loose .base .size) (m .is) in
+        records-release (b .programs) (put (b .programs) p noProgram) p (m .is) (λ i j n. put-other (b .programs) p i noProgram (m .is) j n)
+        (subst ItemOwn (sym s) (none-item noProgram refl refl)) (ap (λ (q : Program). q .item) s) (m .runs) (g .counts .records)
 
     fewer : 1 + length (ins (put (b .programs) p noProgram)) ≡ length (ins (b .programs))
     fewer = gone-one b p g (m .is) (ap isAdmitted (m .runs))
 
 leave-stepped : (b : Board) (p : ℕ) → Good b → RunsMay b p → Stepped b 1 1 0 (stepOf (leave b p))
-unfolding leave done
-leave-stepped b p g m = stepped-reply b (settle c .board) 1 Answer.Done (line Word.Done p 0 ∷ settle c .lines)
-    (done-stepped b c p 0 1 1 (l .l-loose) (l .l-counts) (l .l-same) (l .l-sum) (m .is)
+unfolding leave finish
+leave-stepped b p g m = stepped-reply b (t .board) 1 Answer.Done (line Word.Done p 0 ∷ t .lines)
+    (done-stepped b c t p 0 1 1 (hand-settled c (at b p .file) (at b p .item) (l .l-loose) (l .l-counted) (l .l-records)) (l .l-loose)
+    (l .l-same) (l .l-sum) (m .is)
     (ap (λ P. waitsIn P p) (l .l-programs) ∙ test-same isWaiting (b .programs) p noProgram (g .loose .base .size) (m .is))
     (ap (λ P. heldAt P p) (l .l-programs) ∙ test-same isHeld (b .programs) p noProgram (g .loose .base .size) (m .is))
-    (l .l-favour) (λ n. ap (λ P. awaitedOf (stands P (b .favoured))) (l .l-programs) ∙ file-put b p noProgram
+    (l .l-favour) (λ n. ap (λ P. prog P (b .favoured)) (l .l-programs) ∙ file-put b p noProgram
     (g .loose) (m .is) (ap isWaiting (m .runs)) n))
   where
     c : Board
     c = countLeave (setProgram b p noProgram)
 
+    h : Step
+    h = handOn c (at b p .file) (at b p .item)
+
+    t : Step
+    t = andThen (h .lines) (settle (h .board))
+
     l : Left b c p
     l = leave-left b p g m
+
+-- ── Return ──
+
+-- The board of a return, before the record is handed on.
+abbrev returned : Board → ℕ → Board
+returned b p = setProgram b p (setItem (at b p) 0 0)
+
+abbrev returnStep : Board → ℕ → Step
+returnStep b p = let h = handOn (returned b p) (at b p .file) (at b p .item) in andThen (h .lines) (settle (h .board))
+
+pub return-settled : (b : Board) (p : ℕ) → Good b → RunsMay b p → Settled (returned b p) (returnStep b p)
+return-settled b p g m = hand-settled (returned b p) (at b p .file) (at b p .item) (item-loose b p 0 0 g (m .is) (m .runs))
+    (item-counted b p 0 0 g (m .is) (m .runs)) (let s = item-put b p 0 0 g (m .is) (m .runs) in
+    records-release (b .programs) (put (b .programs) p x) p (m .is) (λ i j n. put-other (b .programs) p i x (m .is) j n)
+    (subst ItemOwn (sym s) (none-item x refl refl)) (ap (λ (q : Program). q .item) s) (m .runs) (g .counts .records))
+  where
+    x : Program
+    x = setItem (at b p) 0 0
+
+return-stepped : (b : Board) (p : ℕ) → Good b → RunsMay b p → Stepped b 0 0 0 (stepOf (returnItem b p))
+unfolding returnItem finish
+return-stepped b p g m = stepped-reply b (returnStep b p .board) 0 Answer.Done (line Word.Done p 0 ∷ returnStep b p .lines)
+    (done-stepped b (returned b p) (returnStep b p) p 0 0 0 (return-settled b p g m) (item-loose b p 0 0 g (m .is) (m .runs))
+    (λ y i w. refl) (let z = item-in b p 0 0 g (m .is) (m .runs) in omega arith) (m .is)
+    (test-same isWaiting (b .programs) p x (g .loose .base .size) (m .is) ∙ ap isWaiting (m .runs))
+    (test-same isHeld (b .programs) p x (g .loose .base .size) (m .is) ∙ ap isHeld (m .runs))
+    (record { who = refl; number = refl; left = λ _. omega arith }) (file-put b p x (g .loose) (m .is) (ap isWaiting (m .runs))))
+  where
+    x : Program
+    x = setItem (at b p) 0 0
 
 -- ── Cancel ──
 
@@ -698,35 +938,30 @@ abbrev pub cancelCount : Board → ℕ → ℕ
 cancelCount b p = cond (eqb (b .favoured) p) 0 (goneCount b p)
 
 -- The favoured program p is cancelled.
-own-stepped : (b c : Board) (p k o : ℕ) → Loose c → Counts c → CountsFrom b c → o + length (ins (c .programs)) ≡ length (ins (b .programs))
-    → Is p → stands (c .programs) p ≡ Standing.Absent → b .favoured ≡ p → c .favoured ≡ 0
-    → Stepped b k o p (record { board = settle c .board; lines = line Word.Done p 0 ∷ settle c .lines })
-own-stepped b c p k o l t v su i s e z = record {
+own-stepped : (b c : Board) (t : Step) (p k o : ℕ) → Settled c t → Loose c → CountsFrom b c
+    → o + length (ins (c .programs)) ≡ length (ins (b .programs)) → Is p → stands (c .programs) p ≡ Standing.Absent → b .favoured ≡ p
+    → c .favoured ≡ 0 → Stepped b k o p (record { board = t .board; lines = line Word.Done p 0 ∷ t .lines })
+unfolding admits
+own-stepped b c t p k o r l v su i s e n₀ = record {
   good = r .good;
   many = let m = r .many in let n = crowd c p l i (ap isWaiting s) (ap isHeld s) in omega arith;
   fav = ⊎-elim
-      (λ q. inl (q .0, newly-more (line Word.Done p 0 ∷ []) (settle c) (q .0) (one (line Word.Done p 0) done-not-favour) (q .1)))
+      (λ q. inl (q .0, newly-more (line Word.Done p 0 ∷ []) t (q .0) (one (line Word.Done p 0) done-not-favour) (q .1)))
       (λ q. inr (
-        inl (⊎-elim (λ u. u) (λ (u : Favour c (settle c .board)). u .who ∙ z) (q .0)),
-        quiet-more (line Word.Done p 0 ∷ []) (settle c .lines) (one (line Word.Done p 0) done-not-favour) (q .1),
+        inl (⊎-elim (λ u. u) (λ (u : Favour c (t .board)). u .who ∙ n₀) (q .0)),
+        quiet-more (line Word.Done p 0 ∷ []) (t .lines) (one (line Word.Done p 0) done-not-favour) (q .1),
       ))
       (r .fav);
-  ended = λ n. inr (inr (record { own = e; over = ap (waitsIn (settle c .board .programs)) e ∙ not-again }));
-  file-stays = λ n d. absurd (again n d);
-  count = done-count b c (line Word.Done p 0) refl l t v;
-  sum = done-sum b c o (line Word.Done p 0) refl l t su;
+  ended = λ n. inr (inr (record { own = e; over = ap (waitsIn (t .board .programs)) e ∙ not-again }));
+  file-stays = λ n d. let (_, w) = r .good .loose .fav-waits (λ q. n (sym d ∙ q)) in
+      never w (ap (waitsIn (t .board .programs)) (d ∙ e) ∙ not-again);
+  count = λ y i j. let z = r .count y i j in let q = v y i (ap (λ (u : Program). isWaiting (u .standing)) (sym (r .waited y i j)) ∙ j) in
+      omega arith;
+  sum = let z = r .sum in omega arith;
 }
   where
-    r : Settled c (settle c)
-    r = settle-settled c l t
-
-    not-again : waitsIn (settle c .board .programs) p ≡ false
+    not-again : waitsIn (t .board .programs) p ≡ false
     not-again = ap (λ (x : Program). isWaiting (x .standing)) (r .others p i (ap isWaiting s) (ap isHeld s)) ∙ ap isWaiting s
-
-    again : b .favoured ≢ 0 → settle c .board .favoured ≡ b .favoured → ⊥
-    again n d =
-        let (_, v) = r .good .loose .fav-waits (λ q. n (sym d ∙ q)) in
-        never v (ap (waitsIn (settle c .board .programs)) (d ∙ e) ∙ not-again)
 
 -- The three ways of counting.
 count-own : (b : Board) (p : ℕ) → b .favoured ≡ p → countCancel b p ≡ setFavour b 0 0 0
@@ -783,7 +1018,10 @@ waiting-withdrawn b p f g c s = by-test (eqb (b .favoured) p)
       w-programs = refl;
       w-favour = v;
       w-own = w;
-      w-counts = counted-stop (b .passed) (b .programs) (put (b .programs) p noProgram) p c (λ i j m u. other i j m ∙ u) (g .counts);
+      w-counts = record {
+        counted = counted-stop (b .passed) (b .programs) (put (b .programs) p noProgram) p c (λ i j m u. other i j m ∙ u) (g .counts .counted);
+        records = put-records b p noProgram g c (λ f r u. never {t = false} (sym (ap isWaiting (u .0)) ∙ ap isWaiting s) refl) refl refl;
+      };
       w-same = λ i j u. uncount-other (b .passed) p i c j (λ q. never {t = false} (sym (test-same isWaiting (b .programs) p noProgram
           (g .loose .base .size) c) ∙ ap (waitsIn (put (b .programs) p noProgram)) (sym q) ∙ u) refl);
       w-sum = let q = gone-one b p g c (ap isAdmitted s) in omega (arith, counts);
@@ -800,8 +1038,11 @@ held-withdrawn b p g c s = record {
   };
   w-own = λ e. absurd (never {t = false} (sym (ap isWaiting s) ∙ sym (ap (waitsIn (b .programs)) e)
       ∙ g .loose .fav-waits (λ z. let v = c .least in omega arith) .1) refl);
-  w-counts = counted-keep (b .passed) (b .programs) (put (b .programs) p noProgram) (λ i j u. test-put isWaiting (b .programs) p noProgram
-      (g .loose .base .size) c (sym (ap isWaiting s)) i j ∙ u) (g .counts);
+  w-counts = record {
+    counted = counted-keep (b .passed) (b .programs) (put (b .programs) p noProgram) (λ i j u. test-put isWaiting (b .programs) p noProgram
+        (g .loose .base .size) c (sym (ap isWaiting s)) i j ∙ u) (g .counts .counted);
+    records = put-records b p noProgram g c (out-uses b p g c (ap isAdmitted s)) refl refl;
+  };
   w-same = λ i j u. refl;
   w-sum = let q = ap length (ins-same (b .programs) p noProgram (g .loose .base .size) c (sym (ap isAdmitted s))) in omega (arith, counts);
 }
@@ -817,21 +1058,24 @@ cancel-withdrawn b p g m = ⊎-elim
     (m .stopped)
 
 cancel-stepped : (b : Board) (p : ℕ) → Good b → CancelMay b p → Stepped b (cancelCount b p) (goneCount b p) p (stepOf (cancel b p))
-unfolding cancel done
+unfolding cancel done finish
 cancel-stepped b p g m = stepped-reply b (settle c .board) (cancelCount b p) Answer.Done (line Word.Done p 0 ∷ settle c .lines)
     (by-test (eqb (b .favoured) p)
-    (λ t. let e = eqb-true (b .favoured) p t in own-stepped b c p (cancelCount b p) (goneCount b p) (l .w-loose) (l .w-counts) (l .w-same)
+    (λ t. let e = eqb-true (b .favoured) p t in own-stepped b c (settle c) p (cancelCount b p) (goneCount b p) r (l .w-loose) (l .w-same)
     (l .w-sum) (m .is) gone e (l .w-own e))
-    (λ t. let n = eqb-false (b .favoured) p t in done-stepped b c p 0 (cancelCount b p) (goneCount b p) (l .w-loose) (l .w-counts) (l .w-same)
+    (λ t. let n = eqb-false (b .favoured) p t in done-stepped b c (settle c) p 0 (cancelCount b p) (goneCount b p) r (l .w-loose) (l .w-same)
     (l .w-sum) (m .is) (ap isWaiting gone) (ap isHeld gone) (l .w-favour n)
-    (λ z. ap (λ P. awaitedOf (stands P (b .favoured))) (l .w-programs) ∙ ap (λ (q : Program). awaitedOf (q .standing)) (put-other
-    (b .programs) p (b .favoured) noProgram (m .is) (g .loose .fav-waits z .0) n))))
+    (λ z. ap (λ P. prog P (b .favoured)) (l .w-programs) ∙ put-other
+    (b .programs) p (b .favoured) noProgram (m .is) (g .loose .fav-waits z .0) n)))
   where
     c : Board
     c = withdrawn b p (at b p .standing)
 
     l : Withdrawn b c p
     l = cancel-withdrawn b p g m
+
+    r : Settled c (settle c)
+    r = settle-settled c (l .w-loose) (l .w-counts)
 
     gone : stands (c .programs) p ≡ Standing.Absent
     gone = ap (λ P. stands P p) (l .w-programs) ∙ ap (λ (q : Program). q .standing) (put-same (b .programs) p noProgram
@@ -849,30 +1093,36 @@ apply-refused b c r e = ap (λ k. unless b k (accepted b c)) e
 
 -- what the call counts if it is accepted: 1 for a leave, and for a cancel that counts as one
 abbrev pub leaveCount : Board → Call → ℕ
-leaveCount b (Enter p v q) = 0
+leaveCount b (Enter p v q j) = 0
 leaveCount b (Open p f) = 0
 leaveCount b (Close p f) = 0
 leaveCount b (Drop p f) = 0
 leaveCount b (Leave p) = 1
 leaveCount b (Cancel p) = cancelCount b p
+leaveCount b (Fetch p f r) = 0
+leaveCount b (Return p) = 0
 
 -- the number of admitted programs that the call takes away if it is accepted
 abbrev pub goneWith : Board → Call → ℕ
-goneWith b (Enter p v q) = 0
+goneWith b (Enter p v q j) = 0
 goneWith b (Open p f) = 0
 goneWith b (Close p f) = 0
 goneWith b (Drop p f) = 0
 goneWith b (Leave p) = 1
 goneWith b (Cancel p) = goneCount b p
+goneWith b (Fetch p f r) = 0
+goneWith b (Return p) = 0
 
 -- the program that the call cancels; 0 for none
 abbrev pub cancelOf : Call → ℕ
-cancelOf (Enter p v q) = 0
+cancelOf (Enter p v q j) = 0
 cancelOf (Open p f) = 0
 cancelOf (Close p f) = 0
 cancelOf (Drop p f) = 0
 cancelOf (Leave p) = 0
 cancelOf (Cancel p) = p
+cancelOf (Fetch p f r) = 0
+cancelOf (Return p) = 0
 
 -- n for an accepted call
 abbrev pub countIf : Check → ℕ → ℕ
@@ -894,12 +1144,14 @@ cancelledBy b c = countIf (checked b c) (cancelOf c)
 
 accepted-stepped : (b : Board) (c : Call) → Good b → checked b c ≡ Check.Passed → Stepped b (leaveCount b c) (goneWith b c) (cancelOf c) (stepOf
     (accepted b c))
-accepted-stepped b (Enter p v q) g e = enter-stepped b p v q g (enter-may b p v q e)
+accepted-stepped b (Enter p v q j) g e = enter-stepped b p v q j g (enter-may b p v q j e)
 accepted-stepped b (Open p f) g e = open-stepped b p f g (open-may b p f e)
 accepted-stepped b (Close p f) g e = close-stepped b p f g (close-may b p f e)
 accepted-stepped b (Drop p f) g e = drop-stepped b p f g (open-may b p f e)
 accepted-stepped b (Leave p) g e = leave-stepped b p g (leave-may b p e)
 accepted-stepped b (Cancel p) g e = cancel-stepped b p g (cancel-may b p e)
+accepted-stepped b (Fetch p f r) g e = fetch-stepped b p f r g (fetch-may b p f r e)
+accepted-stepped b (Return p) g e = return-stepped b p g (return-may b p e)
 
 refused-stepped : (b : Board) (r : Refusal) → Good b → Stepped b 0 0 0 (stepOf (refuse b r))
 unfolding refuse admits

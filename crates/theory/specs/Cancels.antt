@@ -21,14 +21,14 @@ use Rattle.rules.specs.Soundness.{sound}
 use Rattle.rules.specs.Settling.{line, still, pass, settle}
 use Rattle.rules.specs.Replies.{refused, reply}
 use Rattle.rules.specs.Checks.{cancelCheck}
-use Rattle.rules.specs.Calls.{done, withdrawn, cancel, Cancel, checked, direct}
+use Rattle.rules.specs.Calls.{finish, done, withdrawn, cancel, Cancel, checked, direct}
 use Rattle.laws.specs.Laws.{_∈_, here}
 use Rattle.theory.specs.Order.{IsOrder, order-below}
-use Rattle.theory.specs.Programs.{Progs, Is, is-of, prog, put, Sized, sized-put, put-same, put-other, holds, ins, give, can, canGive-is}
+use Rattle.theory.specs.Programs.{Progs, Is, is-of, prog, put, Sized, sized-put, put-same, put-other, put-case, holds, ins, give, can, canGive-is}
 use Rattle.theory.specs.Programs.{ins-mem, ins-same, ins-give, idle-conflict, used, used-by, by-used, can-unused, can-order}
 use Rattle.theory.specs.Programs.{can-of, Base}
-use Rattle.theory.specs.Loose.{stands, waiting-file, Loose, Stuck, Good, other-waits, loose-unhold}
-use Rattle.theory.specs.Settling.{pass-still, choose-still, settle-settled}
+use Rattle.theory.specs.Loose.{stands, waiting-file, Loose, Stuck, Good, Awaits, loose-unhold}
+use Rattle.theory.specs.Settling.{canServe, pass-still, choose-still, settle-settled}
 use Rattle.theory.specs.Calls.{cancel-may, Withdrawn, cancel-withdrawn, apply-accepted}
 use Rattle.theory.specs.Sound.{sound-iff, sound-good}
 use Rattle.theory.specs.Worked.{passed-of}
@@ -53,7 +53,7 @@ HeldCancel = (b : Board) (p : ℕ) → Sized (b .programs) → sound b ≡ true 
 
 cancel-board : (b : Board) (p : ℕ) → sound b ≡ true → checked b (Cancel p) ≡ Check.Passed
     → direct b (Cancel p) .board ≡ settle (withdrawn b p (at b p .standing)) .board
-unfolding direct cancel done reply
+unfolding direct cancel done finish reply
 cancel-board b p s e = rw (s, apply-accepted b (Cancel p) e)
 
 pub cancelled-goes : CancelledGoes
@@ -129,13 +129,12 @@ module _ (P : Progs) (p y g : ℕ) (b : Base P) (c : Is p) (s : stands P p ≡ S
       (subst (λ l. IsOrder (holds (give less y g)) l o) same-in k))
 
 stuck-unhold : (P : Progs) (p : ℕ) → Base P → Is p → stands P p ≡ Standing.Held → Stuck P → Stuck (put P p noProgram)
-stuck-unhold P p b c s k y g i u =
-    let n : y ≢ p = other-waits P p noProgram (b .size) c refl y g u in
-    no-true _ (λ t. never (can-too P p y g b c s i n t) (k y g i (ap (λ (x : Program). x .standing) (sym (put-other P p y noProgram c i n)) ∙ u)))
+stuck-unhold P p b c s k y i g = put-case (λ q. Awaits q g → can (put P p noProgram) y g ≡ false) P p noProgram (b .size) c y i
+    (λ _ u. never {t = false} (ap isWaiting (u .0)) refl) (λ n u. no-true _ (λ t. never (can-too P p y g b c s i n t) (k y i g u)))
 
 -- ── Settling does nothing ──
 
-pass-none : (ps : List ℕ) (b : Board) → ((y : ℕ) → y ∈ ps → canGive b y (awaited b y) ≡ false) → pass ps b ≡ still b
+pass-none : (ps : List ℕ) (b : Board) → ((y : ℕ) → y ∈ ps → canServe b y ≡ false) → pass ps b ≡ still b
 unfolding pass
 pass-none [] b f = refl
 pass-none (y ∷ ys) b f = pass-still y ys b (f y here) ∙ pass-none ys b (λ z m. f z (List·Memᴰ·tail m))
@@ -144,12 +143,12 @@ settle-none : (b : Board) → Loose b → Stuck (b .programs) → b .favoured �
 unfolding settle
 settle-none b k u n =
     let e : pass (names (b .waiting)) b ≡ still b = pass-none (names (b .waiting)) b
-    (λ y m. let (i, w) = k .waits .of y m in let (g, d) = waiting-file (stands (b .programs) y) w in
-    ap (canGive b y) (ap awaitedOf d) ∙ canGive-is b y g ∙ u y g i d) in
+    (λ y m. let (i, w) = k .waits .of y m in let (g, d) = waiting-file (stands (b .programs) y) w in by-test (eqb (at b y .item) 0)
+    (λ t. rw t (ap (canGive b y) (ap awaitedOf d) ∙ canGive-is b y g ∙ u y i g (d, eqb-true (at b y .item) 0 t))) (λ t. rw t)) in
     rw (e, choose-still b n)
 
 pub held-cancel : HeldCancel
-unfolding direct cancelCheck cancel done
+unfolding direct cancelCheck cancel done finish
 held-cancel b p z s i h = rw s (apply-accepted b (Cancel p) (rw (i, h)) ∙ rw h (rw (settle-none c l still-stuck fav)))
   where
     k : Good b

@@ -22,7 +22,7 @@ use Rattle.rules.specs.Settling.{overdue}
 use Rattle.rules.specs.Replies.{isAdmit, admits}
 use Rattle.laws.specs.Laws.{_∈_, here, first-none, length-without}
 use Rattle.theory.specs.Programs.{Is, Progs, Sized, put, put-same, isIn, ins, mem-ins, ins-once, ins-before}
-use Rattle.theory.specs.Loose.{waitsIn, OnLine, countIn, Counted, Counts}
+use Rattle.theory.specs.Loose.{waitsIn, OnLine, countIn, Counted}
 
 -- ── Counts that stay ──
 
@@ -83,7 +83,7 @@ none-overdue b p e m = eqb-false (passedBy b p) 8 (first-none (λ q. eqb (passed
 
 -- c is b with one more program, which does not wait: where no count was 8, none is above 8.
 pub counted-tally : (b c : Board) → overdue b ≡ none → OnLine (b .waiting) (waitsIn (b .programs)) → c .passed ≡ b .passed
-    → ((i : ℕ) → Is i → waitsIn (c .programs) i ≡ waitsIn (b .programs) i) → Counts b → Counted (tallied c) (c .programs)
+    → ((i : ℕ) → Is i → waitsIn (c .programs) i ≡ waitsIn (b .programs) i) → Counted (b .passed) (b .programs) → Counted (tallied c) (c .programs)
 counted-tally b c e l d f k = record {
   most = λ i j. by-test (waitsIn (c .programs) i)
       (λ t. let x = tallied-waits c i j t in let y = ap (λ C. countIn C i) d in

@@ -8,6 +8,7 @@ use mathlib.Core.Bool.{true, false}
 use mathlib.Core.List.{List, [], _∷_, _++_, append-nil, append-assoc}
 use lib.ListN.{length}
 use Rattle.laws.specs.Tests.{by-test, never}
+use Rattle.rules.specs.declared.Program.{Program}
 use Rattle.rules.specs.declared.Board.{Board}
 use Rattle.rules.specs.declared.Check.{Check}
 use Rattle.rules.specs.declared.Answer.{Answer}
@@ -15,23 +16,24 @@ use Rattle.rules.specs.declared.Word.{Word}
 use Rattle.rules.specs.declared.Line.{Line}
 use Rattle.rules.specs.declared.Reply.{Reply}
 use Rattle.rules.specs.Boards.{isWaiting, emptyBoard, at, awaited, awaitedOf, admitted}
-use Rattle.rules.specs.Orders.{holdsBack, withGiven, inUse, safe}
-use Rattle.rules.specs.Settling.{line}
+use Rattle.rules.specs.Orders.{holdsBack, withGiven, inUse, safe, taken}
+use Rattle.rules.specs.Settling.{lineOf}
 use Rattle.rules.specs.Replies.{settlingLines, refused, reply, orderOf}
-use Rattle.rules.specs.Calls.{openFile, done, leave, cancel, Call, Enter, Open, Close, Drop, Leave, Cancel, checked, apply}
+use Rattle.rules.specs.Calls.{openFile, fetch, finish, done, leave, cancel, Call, Enter, Open, Close, Drop, Leave, Cancel, Fetch, Return}
+use Rattle.rules.specs.Calls.{checked, apply}
 use Rattle.rules.specs.Worked.{workedFrom, worked, repliesFrom, directFrom}
 use Rattle.laws.specs.Laws.{_∈_, Pairs, Pairs-split}
 use Rattle.theory.specs.Order.{Names, IsOrder}
 use Rattle.theory.specs.Programs.{admitted-is, inUse-is, used-by, by-used}
 use Rattle.theory.specs.Loose.{stands}
-use Rattle.theory.specs.Settling.{Newly}
+use Rattle.theory.specs.Settling.{waiterLine, Newly}
 use Rattle.theory.specs.Calls.{stepOf, by-check, FavourMore, EndedIn, Withdrew, Stepped, cancelCount, countIf, none-counted, leavesBy}
-use Rattle.theory.specs.Calls.{goneBy, cancelledBy, apply-accepted, apply-stepped}
+use Rattle.theory.specs.Calls.{goneBy, cancelledBy, apply-accepted, apply-stepped, taken-by, by-taken}
 use Rattle.theory.specs.Carried.{holdsOn, EveryOrderHeld, unsafe-iff}
 use Rattle.theory.specs.Worked.{worked-good, worked-snoc, direct-worked, replies-split, passed-of}
-use Rattle.theory.specs.Worked.{order-of-reply, first-runs, favoured-bound}
+use Rattle.theory.specs.Worked.{AwaitsInUse, order-of-reply, first-runs, favoured-bound}
 use Rattle.theory.specs.Demand3.{replyAfter, Accepted, Waits, ConflictingUse, admittedAfter, acceptedLeave, leavesIn, Favours}
-use Rattle.theory.specs.Demand3.{FavouredThrough, StandsAt, LastOrder, FavouredBy, GetsFile, CancelledIn, Demand3}
+use Rattle.theory.specs.Demand3.{FavouredThrough, RecordTaken, StandsAt, LastOrder, FavouredBy, GetsIt, CancelledIn, Demand3}
 
 pub step : (xs : List Call) (c : Call) → Stepped (worked xs) (leavesBy (worked xs) c) (goneBy (worked xs) c) (cancelledBy (worked xs) c)
     (stepOf (replyAfter xs c))
@@ -60,19 +62,21 @@ snoc-split (x ∷ xs) (u ∷ us) vs c d e =
 -- ── Leaves ──
 
 leave-answer : (b : Board) (p : ℕ) → refused (leave b p .answer) ≡ false
-unfolding leave done reply
+unfolding leave finish reply
 leave-answer b p = refl
 
 cancel-answer : (b : Board) (p : ℕ) → refused (cancel b p .answer) ≡ false
-unfolding cancel done reply
+unfolding cancel done finish reply
 cancel-answer b p = refl
 
 -- What the rules count is what the list counts for the favoured program.
 leaves-same : (xs : List Call) (c : Call) → leavesBy (worked xs) c ≡ acceptedLeave (worked xs .favoured) xs c
-leaves-same xs (Enter p v q) = none-counted (checked (worked xs) (Enter p v q))
+leaves-same xs (Enter p v q j) = none-counted (checked (worked xs) (Enter p v q j))
 leaves-same xs (Open p f) = none-counted (checked (worked xs) (Open p f))
 leaves-same xs (Close p f) = none-counted (checked (worked xs) (Close p f))
 leaves-same xs (Drop p f) = none-counted (checked (worked xs) (Drop p f))
+leaves-same xs (Fetch p f r) = none-counted (checked (worked xs) (Fetch p f r))
+leaves-same xs (Return p) = none-counted (checked (worked xs) (Return p))
 leaves-same xs (Leave p) = by-test (refused (replyAfter xs (Leave p) .answer))
     (λ t. rw t (by-check (checked (worked xs) (Leave p))
     (λ e. never t (ap (λ (r : Reply). refused (r .answer)) (apply-accepted (worked xs) (Leave p) e) ∙ leave-answer (worked xs) p))
@@ -102,7 +106,9 @@ through-one xs (u ∷ us) vs ys c p e t k =
 
 -- The call that cancels p.
 cancelled-is : (b : Board) (c : Call) (p : ℕ) → p ≢ 0 → p ≡ cancelledBy b c → (c ≡ Cancel p) × (checked b c ≡ Check.Passed)
-cancelled-is b (Enter q v w) p z d = absurd (z (d ∙ none-counted (checked b (Enter q v w))))
+cancelled-is b (Enter q v w j) p z d = absurd (z (d ∙ none-counted (checked b (Enter q v w j))))
+cancelled-is b (Fetch q f r) p z d = absurd (z (d ∙ none-counted (checked b (Fetch q f r))))
+cancelled-is b (Return q) p z d = absurd (z (d ∙ none-counted (checked b (Return q))))
 cancelled-is b (Open q f) p z d = absurd (z (d ∙ none-counted (checked b (Open q f))))
 cancelled-is b (Close q f) p z d = absurd (z (d ∙ none-counted (checked b (Close q f))))
 cancelled-is b (Drop q f) p z d = absurd (z (d ∙ none-counted (checked b (Drop q f))))
@@ -159,7 +165,7 @@ at-end xs c = record {
   none-held-back = λ before after k j d m. subst (λ b. holdsBack (at b j) (at b k) ≡ false) (sym e) (Pairs-split
       (λ x y. holdsOn (replyAfter xs c .board) y x ≡ false) before after k j
       (subst (λ l. Pairs (λ x y. holdsOn (replyAfter xs c .board) y x ≡ false) l) d (i .clear)) m);
-  first-not-waiting = λ p rest d. subst (λ b. isWaiting (at b p .standing) ≡ false) (sym e)
+  first-free = λ p rest d. subst (λ b. (isWaiting (at b p .standing) ≡ false) ⊎ AwaitsInUse b p) (sym e)
       (first-runs (replyAfter xs c .board) p rest (step xs c .good) (subst (IsOrder (holdsOn (replyAfter xs c .board))
       (admitted (replyAfter xs c .board))) d i));
 }
@@ -206,6 +212,23 @@ open-waits xs p f a = subst (λ (r : Reply). Waits (r .answer) ↔ (ConflictingU
     (withGiven (worked xs) p f))) (sym (apply-accepted (worked xs) (Open p f) (passed-of (worked xs) (Open p f) a)))
     (open-answer (worked xs) p f)
 
+-- ── Fetches ──
+
+fetch-answer : (b : Board) (p f r : ℕ) → Waits (fetch b p f r .answer) ↔ RecordTaken b p f r
+unfolding fetch reply
+fetch-answer b p f r = by-test (taken b p f r)
+    (λ t. (λ _. taken-by b p f r t, λ _. inl (rw t)))
+    (λ t. (λ w. absurd (given-waits (rw t at w)), λ u. never (by-taken b p f r (u .0) (u .1) (u .2) (u .3)) t))
+  where
+    given-waits : Waits Answer.Given → ⊥
+    given-waits (inl e) = let z : _≡_ {A = ℕ} 0 1 = cc in omega arith
+    given-waits (inr e) = let z : _≡_ {A = ℕ} 0 1 = cc in omega arith
+
+fetch-waits : (xs : List Call) (p f r : ℕ) → Accepted xs (Fetch p f r) → Waits (replyAfter xs (Fetch p f r) .answer) ↔
+    RecordTaken (worked xs) p f r
+fetch-waits xs p f r a = subst (λ (q : Reply). Waits (q .answer) ↔ RecordTaken (worked xs) p f r)
+    (sym (apply-accepted (worked xs) (Fetch p f r) (passed-of (worked xs) (Fetch p f r) a))) (fetch-answer (worked xs) p f r)
+
 -- ── The favoured program ──
 
 -- The two numbers of the board give the sum.
@@ -227,9 +250,10 @@ favoured-now xs c p z e w = record {
   call = c;
   after = [];
   split = refl;
-  file = w .file;
+  file = awaited (replyAfter xs c .board) p;
+  item = at (replyAfter xs c .board) p .item;
   favours = w .line-there;
-  latest = λ us vs d f k _. let j = ap length k in let i = lib.ListN.length-append us (d ∷ vs) in omega arith;
+  latest = λ us vs d f r k _. let j = ap length k in let i = lib.ListN.length-append us (d ∷ vs) in omega arith;
   adds-up = omega arith;
   number = number;
   count = count;
@@ -245,7 +269,7 @@ favoured-now xs c p z e w = record {
 
 -- A later call that leaves the program favoured.
 favoured-still : (xs : List Call) (c : Call) (p : ℕ) → p ≢ 0 → worked (xs ++ (c ∷ [])) .favoured ≡ p
-    → FavourMore (worked xs) (replyAfter xs c .board) (leavesBy (worked xs) c) → ((f : ℕ) → Favours xs c p f → ⊥)
+    → FavourMore (worked xs) (replyAfter xs c .board) (leavesBy (worked xs) c) → ((f r : ℕ) → Favours xs c p f r → ⊥)
     → FavouredBy xs p → FavouredBy (xs ++ (c ∷ [])) p
 favoured-still xs c p z e m quiet r = record {
   before = r .before;
@@ -253,12 +277,13 @@ favoured-still xs c p z e m quiet r = record {
   after = r .after ++ (c ∷ []);
   split = ap (_++ (c ∷ [])) (r .split) ∙ append-assoc (r .before) (r .call ∷ r .after) (c ∷ []);
   file = r .file;
+  item = r .item;
   favours = r .favours;
-  latest = λ us vs d f k w. ⊎-elim
-      (λ q. quiet f (subst (λ l. Favours l c p f) (sym (r .split))
-      (subst (λ l. Favours (r .before ++ (r .call ∷ l)) c p f) (q .0)
-      (subst (λ h. Favours (r .before ++ (r .call ∷ us)) h p f) (q .1) w))))
-      (λ q. r .latest us (q .0) d f (q .1) w)
+  latest = λ us vs d f n k w. ⊎-elim
+      (λ q. quiet f n (subst (λ l. Favours l c p f n) (sym (r .split))
+      (subst (λ l. Favours (r .before ++ (r .call ∷ l)) c p f n) (q .0)
+      (subst (λ h. Favours (r .before ++ (r .call ∷ us)) h p f n) (q .1) w))))
+      (λ q. r .latest us (q .0) d f n (q .1) w)
       (snoc-split (r .after) us vs c d k);
   adds-up = sum-of (xs ++ (c ∷ [])) p _ _ z e number count;
   number = number;
@@ -302,32 +327,41 @@ favoured-by xs = by-end (λ l. (p : ℕ) → p ≢ 0 → worked l .favoured ≡ 
         (λ w. favoured-now l c p z e (subst (Newly (stepOf (replyAfter l c))) (sym (w .1 .now) ∙ now) (w .1)))
         (λ w. ⊎-elim (λ k. absurd (z (sym now ∙ k)))
         (λ (k : FavourMore (worked l) (replyAfter l c .board) (leavesBy (worked l) c)). favoured-still l c p z e k
-        (λ f m. w .1 (line Word.Favour p f) m refl) (ih p z (sym (k .who) ∙ now))) (w .0))
+        (λ f n m. w .1 (lineOf Word.Favour p f n) m refl) (ih p z (sym (k .who) ∙ now))) (w .0))
         (step l c .fav)
 
--- ── The favoured program gets its file ──
+-- ── The favoured program gets its file or its record ──
 
-gets-file : (xs es : List Call) (p f : ℕ) → p ≢ 0 → worked xs .favoured ≡ p → awaited (worked xs) p ≡ f
-    → worked xs .initial ≤ worked xs .leaves + leavesIn p xs es + 1 → GetsFile xs es p f ⊎ CancelledIn xs es p
+-- Who doesn't wait isn't favoured.
+not-favoured : (xs : List Call) (p : ℕ) → p ≢ 0 → isWaiting (at (worked xs) p .standing) ≡ false → worked xs .favoured ≢ p
+not-favoured xs p z w d =
+    let (_, v) = worked-good xs .loose .fav-waits (λ q. z (sym d ∙ q)) in
+    never (ap (λ q. isWaiting (at (worked xs) q .standing)) (sym d) ∙ v) w
+
+gets-it : (xs es : List Call) (p f n : ℕ) → p ≢ 0 → worked xs .favoured ≡ p → awaited (worked xs) p ≡ f → at (worked xs) p .item ≡ n
+    → worked xs .initial ≤ worked xs .leaves + leavesIn p xs es + 1 → GetsIt xs es p f n ⊎ CancelledIn xs es p
 unfolding leavesIn
-gets-file xs [] p f z e a k = absurd (let b = favoured-bound (worked xs) (worked-good xs) (λ d. z (sym e ∙ d)) in omega arith)
-gets-file xs (c ∷ es) p f z e a k = ⊎-elim
+gets-it xs [] p f n z e a a′ k = absurd (let b = favoured-bound (worked xs) (worked-good xs) (λ d. z (sym e ∙ d)) in omega arith)
+gets-it xs (c ∷ es) p f n z e a a′ k = ⊎-elim
     (λ (m : FavourMore (worked xs) (replyAfter xs c .board) (leavesBy (worked xs) c)).
     let s = worked-snoc xs c in
     let now : replyAfter xs c .board .favoured ≡ worked xs .favoured = m .who in
-    let w : awaited (replyAfter xs c .board) p ≡ f = ap (awaited (replyAfter xs c .board)) (sym e)
-    ∙ step xs c .file-stays fav now ∙ ap (awaited (worked xs)) e ∙ a in
+    let same : at (replyAfter xs c .board) p ≡ at (worked xs) p = ap (at (replyAfter xs c .board)) (sym e)
+    ∙ step xs c .file-stays fav now ∙ ap (at (worked xs)) e in
     let i = ap (λ (b : Board). b .initial) s ∙ m .number in
     let l = ap (λ (b : Board). b .leaves) s ∙ m .left fav in
     let q = leaves-same xs c ∙ ap (λ n. acceptedLeave n xs c) e in
-    let r = gets-file (xs ++ (c ∷ [])) es p f z (ap (λ (b : Board). b .favoured) s ∙ now ∙ e) (ap (λ b. awaited b p) s ∙ w) (omega arith) in
-    ⊎-elim (λ (r : GetsFile (xs ++ (c ∷ [])) es p f). inl (record {
+    let r = gets-it (xs ++ (c ∷ [])) es p f n z (ap (λ (b : Board). b .favoured) s ∙ now ∙ e)
+    (ap (λ b. awaited b p) s ∙ ap (λ (x : Program). awaitedOf (x .standing)) same ∙ a)
+    (ap (λ b. at b p .item) s ∙ ap (λ (x : Program). x .item) same ∙ a′) (omega arith) in
+    ⊎-elim (λ (r : GetsIt (xs ++ (c ∷ [])) es p f n). inl (record {
       before = c ∷ r .before;
       call = r .call;
       after = r .after;
       split = ap (c ∷_) (r .split);
       that-wait = λ us vs k. through-one xs us vs (r .before) c p e (r .that-wait) k;
-      given = subst (λ h. line Word.Given p f ∈ settlingLines (replyAfter h (r .call))) (append-assoc xs (c ∷ []) (r .before)) (r .given);
+      no-longer = subst (λ h. worked h .favoured ≢ p) (append-assoc xs (c ∷ []) (r .before ++ (r .call ∷ []))) (r .no-longer);
+      given = subst (λ h. lineOf Word.Given p f n ∈ settlingLines (replyAfter h (r .call))) (append-assoc xs (c ∷ []) (r .before)) (r .given);
       wait-over = subst (λ h. isWaiting (at (worked h) p .standing) ≡ false) (append-assoc xs (c ∷ [])
           (r .before ++ (r .call ∷ []))) (r .wait-over);
     }))
@@ -346,8 +380,11 @@ gets-file xs (c ∷ es) p f z e a k = ⊎-elim
       after = es;
       split = refl;
       that-wait = λ us vs k. through-none xs us vs p e k;
-      given = subst (λ h. line Word.Given p f ∈ settlingLines (replyAfter h c)) (sym (append-nil xs))
-          (subst (λ h. h ∈ settlingLines (replyAfter xs c)) (ap₂ (line Word.Given) e (ap (awaited (worked xs)) e ∙ a)) (m .line-there));
+      no-longer = not-favoured (xs ++ (c ∷ [])) p z (ap (λ b. isWaiting (at b p .standing)) (worked-snoc xs c)
+          ∙ ap isWaiting (ap (stands (replyAfter xs c .board .programs)) (sym e) ∙ m .runs));
+      given = subst (λ h. lineOf Word.Given p f n ∈ settlingLines (replyAfter h c)) (sym (append-nil xs))
+          (subst (λ h. h ∈ settlingLines (replyAfter xs c)) (ap (λ q. waiterLine Word.Given q (at (worked xs) q)) e
+          ∙ ap₂ (lineOf Word.Given p) a a′) (m .line-there));
       wait-over = ap (λ b. isWaiting (at b p .standing)) (worked-snoc xs c)
           ∙ ap isWaiting (ap (stands (replyAfter xs c .board .programs)) (sym e) ∙ m .runs);
     }))
@@ -358,22 +395,25 @@ gets-file xs (c ∷ es) p f z e a k = ⊎-elim
     fav : worked xs .favoured ≢ 0
     fav d = z (sym e ∙ d)
 
-favoured-gets : (xs es : List Call) (c : Call) (p f : ℕ) → Favours xs c p f
+favoured-gets : (xs es : List Call) (c : Call) (p f r : ℕ) → Favours xs c p f r
     → leavesIn p (xs ++ (c ∷ [])) es + 1 ≡ admittedAfter (xs ++ (c ∷ []))
-    → GetsFile (xs ++ (c ∷ [])) es p f ⊎ CancelledIn (xs ++ (c ∷ [])) es p
-favoured-gets xs es c p f h k = ⊎-elim
+    → GetsIt (xs ++ (c ∷ [])) es p f r ⊎ CancelledIn (xs ++ (c ∷ [])) es p
+favoured-gets xs es c p f r h k = ⊎-elim
     (λ w. let n = w .1 in
-    let d : line Word.Favour p f ≡ line Word.Favour (w .0) (n .file) = n .no-other (line Word.Favour p f) h refl in
+    let d : lineOf Word.Favour p f r ≡ waiterLine Word.Favour (w .0) (at (replyAfter xs c .board) (w .0)) =
+    n .no-other (lineOf Word.Favour p f r) h refl in
     let dp : p ≡ w .0 = ap (λ (l : Line). l .program) d in
-    let df : f ≡ n .file = ap (λ (l : Line). l .file) d in
+    let df : f ≡ awaited (replyAfter xs c .board) (w .0) = ap (λ (l : Line). l .file) d in
+    let dr : r ≡ at (replyAfter xs c .board) (w .0) .item = ap (λ (l : Line). l .item) d in
     let s = worked-snoc xs c in
     let i = ap (λ (b : Board). b .initial) s ∙ n .counted in
     let j = ap length (admitted-is (replyAfter xs c .board)) in
     let q = ap (λ b. length (admitted b)) s in
     let l = ap (λ (b : Board). b .leaves) s ∙ n .none-left in
-    gets-file (xs ++ (c ∷ [])) es p f (λ o. let v = n .is .least in omega arith) (ap (λ (b : Board). b .favoured) s ∙ n .now ∙ sym dp)
-    (ap (λ b. awaited b p) s ∙ ap (awaited (replyAfter xs c .board)) dp ∙ ap awaitedOf (n .waits) ∙ sym df) (omega arith))
-    (λ w. absurd (w .1 (line Word.Favour p f) h refl))
+    gets-it (xs ++ (c ∷ [])) es p f r (λ o. let v = n .is .least in omega arith) (ap (λ (b : Board). b .favoured) s ∙ n .now ∙ sym dp)
+    (ap (λ b. awaited b p) s ∙ ap (awaited (replyAfter xs c .board)) dp ∙ sym df)
+    (ap (λ b. at b p .item) s ∙ ap (λ q. at (replyAfter xs c .board) q .item) dp ∙ sym dr) (omega arith))
+    (λ w. absurd (w .1 (lineOf Word.Favour p f r) h refl))
     (step xs c .fav)
 
 -- ══ Demand 3 ══
@@ -384,6 +424,7 @@ demand3 cs n = record {
   each = stands-at cs;
   order = last-order cs n;
   waits = λ xs ys p f _ a. open-waits xs p f a;
+  fetch-waits = λ xs ys p f r _ a. fetch-waits xs p f r a;
   favoured = λ xs ys p _ z e. favoured-by xs p z e;
-  gets = λ xs ys zs c d p f _ h _ k. favoured-gets xs (ys ++ (d ∷ [])) c p f h k;
+  gets = λ xs ys zs c d p f r _ h _ k. favoured-gets xs (ys ++ (d ∷ [])) c p f r h k;
 }

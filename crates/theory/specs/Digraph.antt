@@ -18,12 +18,12 @@ use Rattle.rules.specs.declared.Word.{Word}
 use Rattle.rules.specs.declared.Reply.{Reply}
 use Rattle.laws.specs.Lists.{any, found, padded, listed}
 use Rattle.rules.specs.Boards.{isAdmitted, isWaiting, isProgram, everyone, at, admitted, claims, awaited, awaitedOf, opening}
-use Rattle.rules.specs.Orders.{conflict, holdsBack, carried, withGiven, inUse, safe, canGive}
+use Rattle.rules.specs.Orders.{conflict, holdsBack, carried, withGiven, inUse, safe, canGive, taken}
 use Rattle.rules.specs.Soundness.{sound}
 use Rattle.rules.specs.Settling.{line, overdue}
 use Rattle.rules.specs.Replies.{blank, reply, refuse, refuseUnsound}
 use Rattle.rules.specs.Calls.{holdFor, enter, openFile, done, closeFile, dropFile, leave, cancel, checked, accepted, unless, apply, direct}
-use Rattle.rules.specs.Calls.{Call, Enter, Open, Close, Drop, Leave, Cancel}
+use Rattle.rules.specs.Calls.{fetch, finish, returnItem, Call, Enter, Open, Close, Drop, Leave, Cancel, Fetch, Return}
 use Rattle.rules.specs.Digraph.{isIn, step, isLoop, isLoopWith, loopFor, isUnsafe, mayCarry}
 use Rattle.laws.specs.Laws.{_∈_, Pairs, by-mem, any-some, listed-mem, mem-listed}
 use Rattle.theory.specs.Programs.{Is, is-of, of-is, everyone-is, Own, opening-own, conflict-holds, conflict-sym, idle-conflict}
@@ -139,31 +139,33 @@ used-unsafe b p f i s c a k j n e = loop-exists (withGiven b p f) .0 (
     in-i = mem-admitted b i (of-is i j) (not-of _ (no-true (not (isAdmitted (at b i .standing))) (λ t. never e
         (idle-conflict (at b i) (opening (at b p) f) (own-of b i s j .idle (not-true _ t))))))
 
--- No waiter of a sound board can be given its file without closing a loop: its file is in conflicting use, or no order comes back.
-pub waiter-unsafe : (b : Board) (p : ℕ) → sound b ≡ true → Is p → isWaiting (at b p .standing) ≡ true → safe b p (awaited b p) ≡ false
+-- Who waits for a file on a sound board can't be given it without closing a loop: the file is in conflicting use, or no order comes back.
+pub waiter-unsafe : (b : Board) (p : ℕ) → sound b ≡ true → Is p → isWaiting (at b p .standing) ≡ true → at b p .item ≡ 0
+    → safe b p (awaited b p) ≡ false
 unfolding canGive inUse
-waiter-unsafe b p e c w =
+waiter-unsafe b p e c w z =
     let s = sound-iff b .0 e in let (f, d) = waiting-file (at b p .standing) w in let a = waiting-in (at b p .standing) w in
     let g : awaited b p ≡ f = ap awaitedOf d in
     ap (safe b p) g ∙ no-true (safe b p f) (λ t. by-test (inUse b p f)
     (λ u. let (i, m, v) = any-some (λ i. not (eqb i p) && conflict (at b i) (opening (at b p) f)) everyone u in
     let n = eqb-false i p (not-true (eqb i p) (and-left (not (eqb i p)) _ v)) in
-    never t (used-unsafe b p f i s (of-is p c) a (s .waiter-asked p f c d .claimed) (everyone-is i m) n (and-right (not (eqb i p)) _ v)))
-    (λ u. never (and-both (not (inUse b p f)) (safe b p f) (true-not (inUse b p f) u) t) (s .waiter-stuck p f c d)))
+    never t (used-unsafe b p f i s (of-is p c) a (s .waiter-asked p c f (d, z) .claimed) (everyone-is i m) n (and-right (not (eqb i p)) _ v)))
+    (λ u. never (and-both (not (inUse b p f)) (safe b p f) (true-not (inUse b p f) u) t) (s .waiter-stuck p c f (d, z))))
 
--- On a sound board every waiting program has a loop with its file given.
+-- On a sound board every program that waits for a file has a loop with the file given.
 abbrev pub WaiterLoop : Type 0
-WaiterLoop = (b : Board) (p : ℕ) → sound b ≡ true → Is p → isWaiting (at b p .standing) ≡ true
+WaiterLoop = (b : Board) (p : ℕ) → sound b ≡ true → Is p → isWaiting (at b p .standing) ≡ true → at b p .item ≡ 0
     → (L : List ℕ) × (isLoopWith b p (awaited b p) L ≡ true)
 
-pub waiter-claims : (b : Board) (p : ℕ) → sound b ≡ true → Is p → isWaiting (at b p .standing) ≡ true → claims (at b p) (awaited b p) ≡ true
-waiter-claims b p e c w = let s = sound-iff b .0 e in let (f, d) = waiting-file (at b p .standing) w in
-    ap (λ g. claims (at b p) (awaitedOf g)) d ∙ s .waiter-asked p f c d .claimed
+pub waiter-claims : (b : Board) (p : ℕ) → sound b ≡ true → Is p → isWaiting (at b p .standing) ≡ true → at b p .item ≡ 0
+    → claims (at b p) (awaited b p) ≡ true
+waiter-claims b p e c w z = let s = sound-iff b .0 e in let (f, d) = waiting-file (at b p .standing) w in
+    ap (λ g. claims (at b p) (awaitedOf g)) d ∙ s .waiter-asked p c f (d, z) .claimed
 
 pub waiter-loop : WaiterLoop
-waiter-loop b p e c w =
+waiter-loop b p e c w z =
     given-loop b p (awaited b p) (and-both (isProgram p) (isAdmitted (at b p .standing)) (of-is p c) (waiting-in (at b p .standing) w))
-    (waiter-claims b p e c w) .1 (waiter-unsafe b p e c w)
+    (waiter-claims b p e c w z) .1 (waiter-unsafe b p e c w z)
 
 -- ── What UNSAFE answers ──
 
@@ -193,9 +195,13 @@ direct-unsafe b c e = by-test (sound b)
     (ap (λ (s : Bool). cond s (unless b (checked b c) (accepted b c)) (refuseUnsound b)) t ∙ ap (λ (x : Check). unless b x (accepted b c)) k, k, u))
     (λ t. never {t = false} (rw t at e) refl)
 
-enter-not : (b : Board) (p : ℕ) (v q : FileSet) → unsafeIn (enter b p v q) ≡ false
+enter-not : (b : Board) (p : ℕ) (v q j : FileSet) → unsafeIn (enter b p v q j) ≡ false
 unfolding enter holdFor reply
-enter-not b p v q = by-test (eqb (b .favoured) 0) (λ t. by-option (overdue b) (λ u. rw (t, u)) (λ w u. rw (t, u))) (λ t. rw t)
+enter-not b p v q j = by-test (eqb (b .favoured) 0) (λ t. by-option (overdue b) (λ u. rw (t, u)) (λ w u. rw (t, u))) (λ t. rw t)
+
+fetch-not : (b : Board) (p f r : ℕ) → unsafeIn (fetch b p f r) ≡ false
+unfolding fetch reply
+fetch-not b p f r = by-test (taken b p f r) (λ t. rw t) (λ t. rw t)
 
 open-unsafe : (b : Board) (p f : ℕ) → unsafeIn (openFile b p f) ≡ true
     → (getD (openFile b p f .lines) 0 blank ≡ line Word.Unsafe p f) × (safe b p f ≡ false)
@@ -206,8 +212,8 @@ open-unsafe b p f e = by-test (inUse b p f)
 
 -- Only an open is answered UNSAFE.
 pub unsafe-open : (b : Board) (c : Call) → isUnsafe (direct b c .answer) ≡ true → UnsafeOpen b c (direct b c)
-unfolding closeFile dropFile leave cancel done reply
-unsafe-open b (Enter p v q) e = never (direct-unsafe b (Enter p v q) e .2) (enter-not b p v q)
+unfolding closeFile dropFile leave cancel done finish returnItem reply
+unsafe-open b (Enter p v q j) e = never (direct-unsafe b (Enter p v q j) e .2) (enter-not b p v q j)
 unsafe-open b (Open p f) e =
     let (d, k, w) = direct-unsafe b (Open p f) e in let (x, n) = open-unsafe b p f w in let m = open-may b p f k in record {
       program = p;
@@ -222,6 +228,8 @@ unsafe-open b (Close p f) e = never {t = false} (direct-unsafe b (Close p f) e .
 unsafe-open b (Drop p f) e = never {t = false} (direct-unsafe b (Drop p f) e .2) refl
 unsafe-open b (Leave p) e = never {t = false} (direct-unsafe b (Leave p) e .2) refl
 unsafe-open b (Cancel p) e = never {t = false} (direct-unsafe b (Cancel p) e .2) refl
+unsafe-open b (Fetch p f r) e = never (direct-unsafe b (Fetch p f r) e .2) (fetch-not b p f r)
+unsafe-open b (Return p) e = never {t = false} (direct-unsafe b (Return p) e .2) refl
 
 -- "An UNSAFE answer now carries a loop": for each there is one to carry, and for every other answer there is none but the empty list.
 abbrev pub CarriesSome : Type 0

@@ -19,7 +19,7 @@ use Rattle.rules.specs.declared.Board.{Board}
 use Rattle.laws.specs.Lists.{without, names, padded}
 use Rattle.rules.specs.Boards.{noProgram, isAbsent, isHeld, isWaiting, isAdmitted, awaitedOf, claims, hasOpen, setStanding, opening, closing}
 use Rattle.rules.specs.Boards.{dropping}
-use Rattle.rules.specs.Modes.{Mode, Write, Read, claimOf, openOf, claimsMeet}
+use Rattle.rules.specs.Modes.{Mode, Write, Read, Inquiry, claimOf, openOf, claimsMeet}
 use Rattle.rules.specs.Orders.{conflict, holdsBack}
 use Rattle.rules.specs.Calls.{newcomer}
 use Rattle.laws.specs.Laws.{_∈_, NoRepeat, names-padded, without-mem, mem-without, Pairs-without, once-snoc, by-snoc, length-without}
@@ -28,8 +28,9 @@ use Rattle.theory.specs.Programs.{Is, Within, idle-conflict, conflict-id
 use Rattle.theory.specs.Programs.{put-case, holds, isIn, ins, give, can, mem-ins, ins-mem, ins-once, ins-same, ins-out, ins-before}
 use Rattle.theory.specs.Modes.{closing-claim, closing-open, dropping-claim, dropping-open, none-claim, none-open, newcomer-open, claims-less}
 use Rattle.theory.specs.Modes.{no-mode, SameClaims}
-use Rattle.theory.specs.Programs.{Idle, Own, standing-same, same-turn, within-same, own-same, Base, put-less, base-shrink, base-leave}
-use Rattle.theory.specs.Programs.{base-enter, opening-standing, opening-claims, opening-more}
+use Rattle.theory.specs.Records.{Records}
+use Rattle.theory.specs.Programs.{SameSets, Idle, Own, standing-same, same-turn, within-same, own-same, Base, put-less, base-shrink, base-leave}
+use Rattle.theory.specs.Programs.{base-enter, opening-standing, opening-claims, opening-item, opening-more}
 use Rattle.theory.specs.Programs.{base-give, ins-give, can-mono}
 
 -- ── Standings ──
@@ -121,11 +122,22 @@ pub record Asked (x : Program) (f : ℕ) : Type 0 where
   pub claimed : claims x f ≡ true
   pub shut : hasOpen x f ≡ false
 
+-- q waits for the file f, and not for a record of it
+abbrev pub Awaits : Program → ℕ → Type 0
+Awaits q f = (q .standing ≡ Standing.Waiting f) × (q .item ≡ 0)
+
+-- What holds of the file that q waits for.
+abbrev pub Asks : Program → Type 0
+Asks q = (f : ℕ) → Awaits q f → Asked q f
+
+pub not-waiting : (q : Program) → isWaiting (q .standing) ≡ false → Asks q
+not-waiting q e f u = never (ap isWaiting (u .0)) e
+
 pub record LooseIn (P : Progs) (w e : List ℕ) (fav n l : ℕ) : Type 0 where
   pub base : Base P
   pub waits : OnLine w (waitsIn P)
   pub helds : OnLine e (heldAt P)
-  pub asked : (p f : ℕ) → Is p → stands P p ≡ Standing.Waiting f → Asked (prog P p) f
+  pub asked : (p : ℕ) → Is p → Asks (prog P p)
   pub fav-waits : fav ≢ 0 → Is fav × (waitsIn P fav ≡ true)
   pub count : fav ≢ 0 → (l + length (ins P) ≡ n) × (n ≤ 32)
   pub nobody : fav ≡ 0 → (n ≡ 0) × (l ≡ 0)
@@ -135,7 +147,7 @@ Loose b = LooseIn (b .programs) (b .waiting) (b .entry) (b .favoured) (b .initia
 
 -- No waiter's file can be given.
 abbrev pub Stuck : Progs → Type 0
-Stuck P = (p f : ℕ) → Is p → stands P p ≡ Standing.Waiting f → can P p f ≡ false
+Stuck P = (p : ℕ) → Is p → (f : ℕ) → Awaits (prog P p) f → can P p f ≡ false
 
 -- Nobody favoured means nobody held.
 abbrev pub Free : Progs → ℕ → Type 0
@@ -150,8 +162,13 @@ pub record Counted (C : List ℕ) (P : Progs) : Type 0 where
   pub most : (p : ℕ) → Is p → countIn C p ≤ 8
   pub rest : (p : ℕ) → Is p → waitsIn P p ≡ false → countIn C p ≡ 0
 
+-- The counts and the records.
+pub record CountsIn (C : List ℕ) (P : Progs) : Type 0 where
+  pub counted : Counted C P
+  pub records : Records P 0 0
+
 abbrev pub Counts : Board → Type 0
-Counts b = Counted (b .passed) (b .programs)
+Counts b = CountsIn (b .passed) (b .programs)
 
 pub record Good (b : Board) : Type 0 where
   pub loose : Loose b
@@ -174,23 +191,15 @@ test-other T P p x c i k n = ap (λ (y : Program). T (y .standing)) (put-other P
 pub test-same : (T : Standing → Bool) (P : Progs) (p : ℕ) (x : Program) → Sized P → Is p → T (stands (put P p x) p) ≡ T (x .standing)
 test-same T P p x z c = ap (λ (y : Program). T (y .standing)) (put-same P p x z c)
 
--- p is put anew, and doesn't wait: whoever waits then is another.
-pub other-waits : (P : Progs) (p : ℕ) (x : Program) → Sized P → Is p → isWaiting (x .standing) ≡ false
-    → (y g : ℕ) → stands (put P p x) y ≡ Standing.Waiting g → y ≢ p
-other-waits P p x z c n y g u q = never {t = false} (sym n ∙ sym (test-same isWaiting P p x z c)
-    ∙ ap (λ j. isWaiting (stands (put P p x) j)) (sym q) ∙ ap isWaiting u) refl
-
 -- p waits no longer, and the others are as they were: whoever waits has its file as before.
 asked-kept : (P P′ : Progs) (p : ℕ) → ((i : ℕ) → Is i → i ≢ p → prog P′ i ≡ prog P i) → waitsIn P′ p ≡ false
-    → ((y g : ℕ) → Is y → stands P y ≡ Standing.Waiting g → Asked (prog P y) g)
-    → (y g : ℕ) → Is y → stands P′ y ≡ Standing.Waiting g → Asked (prog P′ y) g
-asked-kept P P′ p same n f y g i u =
-    let m : y ≢ p = (λ q. never {t = false} (sym n ∙ ap (waitsIn P′) (sym q) ∙ ap isWaiting u) refl) in
-    let e = same y i m in subst (λ q. Asked q g) (sym e) (f y g i (ap (λ (q : Program). q .standing) (sym e) ∙ u))
+    → ((i : ℕ) → Is i → Asks (prog P i)) → (i : ℕ) → Is i → Asks (prog P′ i)
+asked-kept P P′ p same n k i j = by-test (eqb i p)
+    (λ t. subst (λ h. Asks (prog P′ h)) (sym (eqb-true i p t)) (not-waiting (prog P′ p) n))
+    (λ t. subst Asks (sym (same i j (eqb-false i p t))) (k i j))
 
 asked-put : (P : Progs) (p : ℕ) (x : Program) → Sized P → Is p → isWaiting (x .standing) ≡ false
-    → ((y g : ℕ) → Is y → stands P y ≡ Standing.Waiting g → Asked (prog P y) g)
-    → (y g : ℕ) → Is y → stands (put P p x) y ≡ Standing.Waiting g → Asked (prog (put P p x) y) g
+    → ((i : ℕ) → Is i → Asks (prog P i)) → (i : ℕ) → Is i → Asks (prog (put P p x) i)
 asked-put P p x z c n = asked-kept P (put P p x) p (λ i k m. put-other P p i x c k m) (test-same isWaiting P p x z c ∙ n)
 
 -- A running program is put anew, running, with no more than it had: close and drop.
@@ -243,7 +252,7 @@ loose-drop P w e fav n l p f c r h k = let x = prog P p in let o = k .base .own 
       inside = λ m. subst (λ s. s ⊑ claimOf m (dropping x f)) (sym (dropping-open m x f))
           (subst (λ s. openOf m x ⊑ s) (sym (dropping-claim m x f)) (⊑-removing (openOf m x) (claimOf m x) f (o .inside m)
           (no-mode (λ m. member (openOf m x) f) h m)));
-      apart = claims-less _ _ _ _ (less x Write) (less x Read) (o .apart);
+      apart = claims-less _ _ _ _ _ _ (less x Write) (less x Read) (less x Inquiry) (o .apart);
       idle = λ z. never {t = true} refl (sym (ap isAdmitted r) ∙ z);
       gone = λ z. never {t = false} (sym (ap isAbsent r) ∙ ap isAbsent z) refl;
     }) k
@@ -356,6 +365,14 @@ module _ (P : Progs) (p f : ℕ) (z : Sized P) (c : Is p) where
   unfolding give
   given-size = sized-put P p (opening (prog P p) f) z
 
+  -- p keeps its record.
+  pub served-item : (prog (served P p f) p .item ≡ prog P p .item) × (prog (served P p f) p .file ≡ prog P p .file)
+  served-item = let e = put-same (give P p f) p (setStanding (prog (give P p f) p) Standing.Running) given-size c in
+      let (a, b) = opening-item (prog P p) f in (
+        ap (λ (q : Program). q .item) e ∙ ap (λ (q : Program). q .item) given-prog ∙ a,
+        ap (λ (q : Program). q .file) e ∙ ap (λ (q : Program). q .file) given-prog ∙ b,
+      )
+
   pub served-runs : stands (served P p f) p ≡ Standing.Running
   served-runs = ap (λ (q : Program). q .standing) (put-same (give P p f) p
       (setStanding (prog (give P p f) p) Standing.Running) given-size c)
@@ -391,38 +408,70 @@ module _ (P : Progs) (p f : ℕ) (z : Sized P) (c : Is p) where
       o : Own (prog (give P p f) p)
       o = g .own p c
 
--- The waiter p is given its file; fav′, n′ and l′ are the three numbers of favouring after it.
-pub loose-serve : (P : Progs) (w e : List ℕ) (fav n l fav′ n′ l′ p f : ℕ) → Is p → stands P p ≡ Standing.Waiting f → can P p f ≡ true
+-- P with the waiter p running: it has what it waited for.
+abbrev pub awake : Progs → ℕ → Progs
+awake P p = put P p (setStanding (prog P p) Standing.Running)
+
+-- P″ is P, with the waiter p running.
+pub record Woken (P P″ : Progs) (p : ℕ) : Type 0 where
+  pub w-base : Base P″
+  pub w-runs : stands P″ p ≡ Standing.Running
+  pub w-other : (i : ℕ) → Is i → i ≢ p → prog P″ i ≡ prog P i
+  pub w-ins : ins P″ ≡ ins P
+  pub w-stuck : (y g : ℕ) → Is y → can P y g ≡ false → can P″ y g ≡ false
+
+-- A waiter is given its file.
+pub woken-served : (P : Progs) (p f : ℕ) → Is p → isIn P p ≡ true → claims (prog P p) f ≡ true → can P p f ≡ true → Base P
+    → Woken P (served P p f) p
+woken-served P p f c a m u b = record {
+  w-base = served-base P p f (b .size) c m a u b;
+  w-runs = served-runs P p f (b .size) c;
+  w-other = served-other P p f (b .size) c;
+  w-ins = served-ins P p f (b .size) c a;
+  w-stuck = served-stuck P p f (b .size) c a;
+}
+
+-- A waiter gets its record.
+pub woken-handed : (P : Progs) (p : ℕ) → Is p → isIn P p ≡ true → Base P → Woken P (awake P p) p
+woken-handed P p c a b = record {
+  w-base = base-shrink P p x c (within-same _ _ (same-turn _ _ d)) (own-same _ _ d refl (b .own p c)) (sym a) b;
+  w-runs = ap (λ (q : Program). q .standing) (put-same P p x (b .size) c);
+  w-other = λ i j n. put-other P p i x c j n;
+  w-ins = ins-same P p x (b .size) c (sym a);
+  w-stuck = λ y g i. stuck-put P p x (b .size) c (within-same _ _ d) (sym a) y g i (λ _. d .same-claim);
+}
+  where
+    x : Program
+    x = setStanding (prog P p) Standing.Running
+
+    d : SameSets (prog P p) x
+    d = standing-same (prog P p) Standing.Running
+
+-- The waiter p runs; fav′, n′ and l′ are the three numbers of favouring after it.
+pub loose-wake : (P P″ : Progs) (w e : List ℕ) (fav n l fav′ n′ l′ p : ℕ) → Is p → waitsIn P p ≡ true → Woken P P″ p
     → (fav′ ≢ 0 → (fav′ ≡ fav) × (fav ≢ p) × (n′ ≡ n) × (l′ ≡ l)) → (fav′ ≡ 0 → (n′ ≡ 0) × (l′ ≡ 0))
-    → LooseIn P w e fav n l → LooseIn (served P p f) (padded 0 (without p (names w))) e fav′ n′ l′
-loose-serve P w e fav n l fav′ n′ l′ p f c s u keep stop k = record {
-  base = served-base P p f z c (k .asked p f c s .claimed) a u (k .base);
-  waits = line-less w _ _ p (ap isWaiting (served-runs P p f z c))
-      (λ i j m. ap (λ (q : Program). isWaiting (q .standing)) (served-other P p f z c i j m)) (k .waits);
+    → LooseIn P w e fav n l → LooseIn P″ (padded 0 (without p (names w))) e fav′ n′ l′
+loose-wake P P″ w e fav n l fav′ n′ l′ p c s u keep stop k = record {
+  base = u .w-base;
+  waits = line-less w _ _ p (ap isWaiting (u .w-runs))
+      (λ i j m. ap (λ (q : Program). isWaiting (q .standing)) (u .w-other i j m)) (k .waits);
   helds = line-same e _ _ still (k .helds);
-  asked = asked-kept P (served P p f) p (served-other P p f z c) (ap isWaiting (served-runs P p f z c)) (k .asked);
+  asked = asked-kept P P″ p (u .w-other) (ap isWaiting (u .w-runs)) (k .asked);
   fav-waits = λ m. let (d, x, _, _) = keep m in let (i, v) = k .fav-waits (λ q. m (d ∙ q)) in
-      subst (λ j. Is j × (waitsIn (served P p f) j ≡ true)) (sym d) (
-        i,
-        ap (λ (q : Program). isWaiting (q .standing))
-            (served-other P p f z c fav i x) ∙ v,
-      );
-  count = λ m. let (d, _, x, y) = keep m in let (i, v) = k .count (λ q. m (d ∙ q)) in let q =
-      ap length (served-ins P p f z c a) in (omega arith, omega arith);
+      subst (λ j. Is j × (waitsIn P″ j ≡ true)) (sym d) (i, ap (λ (q : Program). isWaiting (q .standing)) (u .w-other fav i x) ∙ v);
+  count = λ m. let (d, _, x, y) = keep m in let (i, v) = k .count (λ q. m (d ∙ q)) in let q = ap length (u .w-ins) in
+      (omega arith, omega arith);
   nobody = stop;
 }
   where
-    z : Sized P
-    z = k .base .size
+    unheld : (s : Standing) → isWaiting s ≡ true → isHeld s ≡ false
+    unheld s e = let (f, d) = waiting-file s e in ap isHeld d
 
-    a : isIn P p ≡ true
-    a = ap isAdmitted s
-
-    still : (i : ℕ) → Is i → heldAt (served P p f) i ≡ heldAt P i
+    still : (i : ℕ) → Is i → heldAt P″ i ≡ heldAt P i
     still i j = by-test (eqb i p)
-        (λ t. ap (heldAt (served P p f)) (eqb-true i p t) ∙ ap isHeld (served-runs P p f z c) ∙ sym (ap isHeld s)
+        (λ t. ap (heldAt P″) (eqb-true i p t) ∙ ap isHeld (u .w-runs) ∙ sym (unheld (stands P p) s)
         ∙ ap (heldAt P) (sym (eqb-true i p t)))
-        (λ t. ap (λ (q : Program). isHeld (q .standing)) (served-other P p f z c i j (eqb-false i p t)))
+        (λ t. ap (λ (q : Program). isHeld (q .standing)) (u .w-other i j (eqb-false i p t)))
 
 -- ── Open: the file is given ──
 
@@ -450,62 +499,51 @@ loose-open P w e fav n l p f c r m u k = record {
 
 pub stuck-open : (P : Progs) (p f : ℕ) → Sized P → Is p → stands P p ≡ Standing.Running → Stuck P → Stuck (give P p f)
 unfolding give
-stuck-open P p f z c r s y g i v =
-    stuck-put P p x z c (opening-more (prog P p) f) (ap isAdmitted (opening-standing (prog P p) f)) y g i
-    (λ _. opening-claims (prog P p) f) (s y g i (sym same ∙ v))
+stuck-open P p f z c r s y i g = put-case (λ q. Awaits q g → can (put P p x) y g ≡ false) P p x z c y i
+    (λ _ u. never {t = false} (sym (ap isWaiting (opening-standing (prog P p) f ∙ r)) ∙ ap isWaiting (u .0)) refl)
+    (λ _ u. stuck-put P p x z c (opening-more (prog P p) f) (ap isAdmitted (opening-standing (prog P p) f)) y g i
+    (λ _. opening-claims (prog P p) f) (s y i g u))
   where
     x : Program
     x = opening (prog P p) f
 
-    same : stands (put P p x) y ≡ stands P y
-    same = put-case (λ q. q .standing ≡ stands P y) P p x z c y i (λ d. opening-standing (prog P p) f ∙ ap (stands P) (sym d)) (λ _. refl)
+-- ── A program waits, or its record changes ──
 
--- ── Open: the program waits ──
-
-pub loose-wait : (P : Progs) (w e : List ℕ) (fav n l p f : ℕ) → Is p → stands P p ≡ Standing.Running
-    → Asked (prog P p) f → LooseIn P w e fav n l
-    → LooseIn (put P p (setStanding (prog P p) (Standing.Waiting f))) (padded 0 (names w ++ (p ∷ []))) e fav n l
-loose-wait P w e fav n l p f c r m k = record {
-  base = base-shrink P p x c (within-same _ _ (same-turn _ _ (standing-same _ (Standing.Waiting f))))
-      (own-same _ _ (standing-same _ (Standing.Waiting f)) refl o) (sym (ap isAdmitted r)) (k .base);
-  waits = line-more w _ _ p c (ap isWaiting r) (test-same isWaiting P p x z c) (test-other isWaiting P p x c) (k .waits);
-  helds = line-same e _ _ (test-put isHeld P p x z c (sym (ap isHeld r))) (k .helds);
-  asked = λ y g i u. by-test (eqb y p)
-      (λ t. let d = eqb-true y p t in let q : f ≡ g = same-file f g
-      (sym (ap (λ (q : Program). q .standing) (put-same P p x z c)) ∙ ap (stands (put P p x)) (sym d) ∙ u) in
-      put-case (λ q. Asked q g) P p x z c y i (λ _. subst (Asked x) q (record { claimed = m .claimed; shut = m .shut }))
-      (λ v. absurd (v d)))
-      (λ t. let v = eqb-false y p t in subst (λ q. Asked q g) (sym (put-other P p y x c i v))
-      (k .asked y g i (ap (λ (q : Program). q .standing) (sym (put-other P p y x c i v)) ∙ u)));
+-- A running program begins to wait.
+pub loose-wait : (P : Progs) (w e : List ℕ) (fav n l p : ℕ) (x : Program) → Is p → stands P p ≡ Standing.Running
+    → isWaiting (x .standing) ≡ true → SameSets (prog P p) x → Asks x → LooseIn P w e fav n l
+    → LooseIn (put P p x) (padded 0 (names w ++ (p ∷ []))) e fav n l
+loose-wait P w e fav n l p x c r s d m k = record {
+  base = base-shrink P p x c (within-same _ _ (same-turn _ _ d)) (own-same _ _ d a (k .base .own p c)) (a ∙ sym (ap isAdmitted r)) (k .base);
+  waits = line-more w _ _ p c (ap isWaiting r) (test-same isWaiting P p x z c ∙ s) (test-other isWaiting P p x c) (k .waits);
+  helds = line-same e _ _ (test-put isHeld P p x z c (h ∙ sym (ap isHeld r))) (k .helds);
+  asked = λ i j. put-case Asks P p x z c i j (λ _. m) (λ _. k .asked i j);
   fav-waits = λ v. let (i, u) = k .fav-waits v in (
     i,
     test-other isWaiting P p x c fav i
         (λ d. never u (ap (waitsIn P) d ∙ ap isWaiting r)) ∙ u,
   );
-  count = λ v. let (i, u) = k .count v in (ap (λ q. l + length q) (ins-same P p x z c (sym (ap isAdmitted r))) ∙ i, u);
+  count = λ v. let (i, u) = k .count v in (ap (λ q. l + length q) (ins-same P p x z c (a ∙ sym (ap isAdmitted r))) ∙ i, u);
   nobody = k .nobody;
 }
   where
     z : Sized P
     z = k .base .size
 
-    o : Own (prog P p)
-    o = k .base .own p c
+    a : isAdmitted (x .standing) ≡ true
+    a = waiting-in (x .standing) s
 
-    x : Program
-    x = setStanding (prog P p) (Standing.Waiting f)
+    h : isHeld (x .standing) ≡ false
+    h = let (f, d) = waiting-file (x .standing) s in ap isHeld d
 
-pub stuck-wait : (P : Progs) (p f : ℕ) → Sized P → Is p → stands P p ≡ Standing.Running → can P p f ≡ false → Stuck P
-    → Stuck (put P p (setStanding (prog P p) (Standing.Waiting f)))
-stuck-wait P p f z c r n s y g i u = stuck-put P p x z c (within-same _ _ (standing-same _ (Standing.Waiting f))) (sym (ap isAdmitted r)) y g i
-    (λ _. standing-same (prog P p) (Standing.Waiting f) .same-claim)
-    (by-test (eqb y p)
-    (λ t. let d = eqb-true y p t in let q : f ≡ g = same-file f g
-    (sym (ap (λ (q : Program). q .standing) (put-same P p x z c)) ∙ ap (stands (put P p x)) (sym d) ∙ u) in ap₂ (can P) d (sym q) ∙ n)
-    (λ t. s y g i (ap (λ (q : Program). q .standing) (sym (put-other P p y x c i (eqb-false y p t))) ∙ u)))
+-- A running program is put anew with its sets: it waits, or its record changes.
+pub stuck-same : (P : Progs) (p : ℕ) (x : Program) → Sized P → Is p → stands P p ≡ Standing.Running → isAdmitted (x .standing) ≡ true
+    → SameSets (prog P p) x → ((g : ℕ) → Awaits x g → can P p g ≡ false) → Stuck P → Stuck (put P p x)
+stuck-same P p x z c r a d n s y i g = put-case (λ q. Awaits q g → can (put P p x) y g ≡ false) P p x z c y i
+    (λ e u. same (ap (λ h. can P h g) e ∙ n g u)) (λ _ u. same (s y i g u))
   where
-    x : Program
-    x = setStanding (prog P p) (Standing.Waiting f)
+    same : can P y g ≡ false → can (put P p x) y g ≡ false
+    same = stuck-put P p x z c (within-same _ _ d) (a ∙ sym (ap isAdmitted r)) y g i (λ _. d .same-claim)
 
 -- ── Enter ──
 
@@ -537,45 +575,44 @@ loose-admit P w e e′ n l p x c out a s o h k = record {
 
 pub stuck-in : (P : Progs) (p : ℕ) (x : Program) → Sized P → Is p → isIn P p ≡ false → Within (prog P p) x
     → x .standing ≡ Standing.Running → Stuck P → Stuck (put P p x)
-stuck-in P p x z c out d s k y g i u =
-    let m : y ≢ p = other-waits P p x z c (ap isWaiting s) y g u in
-    stuck-admit P p x z c out d y g i m (k y g i (ap (λ (q : Program). q .standing) (sym (put-other P p y x c i m)) ∙ u))
+stuck-in P p x z c out d s k y i g = put-case (λ q. Awaits q g → can (put P p x) y g ≡ false) P p x z c y i
+    (λ _ u. never {t = false} (sym (ap isWaiting s) ∙ ap isWaiting (u .0)) refl) (λ n u. stuck-admit P p x z c out d y g i n (k y i g u))
 
 -- A newcomer's sets.
-pub newcomer-own : (s : Standing) (v q : FileSet) → claimsMeet v q ≡ false → isAbsent s ≡ false → Own (newcomer v q s)
-newcomer-own s v q m n = record {
-  inside = λ k. subst (λ t. t ⊑ claimOf k (newcomer v q s)) (sym (newcomer-open k v q s)) (none-⊑ _);
+pub newcomer-own : (s : Standing) (v q j : FileSet) → claimsMeet v q j ≡ false → isAbsent s ≡ false → Own (newcomer v q j s)
+newcomer-own s v q j m n = record {
+  inside = λ k. subst (λ t. t ⊑ claimOf k (newcomer v q j s)) (sym (newcomer-open k v q j s)) (none-⊑ _);
   apart = m;
-  idle = λ _ k. newcomer-open k v q s;
+  idle = λ _ k. newcomer-open k v q j s;
   gone = λ d. never (ap isAbsent d) n;
 }
 
 -- Enter, with nobody favoured: the program runs.
-pub loose-enter : (P : Progs) (w e : List ℕ) (n l p : ℕ) (v q : FileSet) → Is p → stands P p ≡ Standing.Absent
-    → claimsMeet v q ≡ false → LooseIn P w e 0 n l
-    → LooseIn (put P p (newcomer v q Standing.Running)) w e 0 n l
-loose-enter P w e n l p v q c s m k = loose-admit P w e e n l p x c (ap isAdmitted s) (λ m. newcomer-open m v q Standing.Running) refl
-    (newcomer-own Standing.Running v q m refl) (line-same e _ _ (test-put isHeld P p x (k .base .size) c (sym (ap isHeld s))) (k .helds)) k
+pub loose-enter : (P : Progs) (w e : List ℕ) (n l p : ℕ) (v q j : FileSet) → Is p → stands P p ≡ Standing.Absent
+    → claimsMeet v q j ≡ false → LooseIn P w e 0 n l
+    → LooseIn (put P p (newcomer v q j Standing.Running)) w e 0 n l
+loose-enter P w e n l p v q j c s m k = loose-admit P w e e n l p x c (ap isAdmitted s) (λ m. newcomer-open m v q j Standing.Running) refl
+    (newcomer-own Standing.Running v q j m refl) (line-same e _ _ (test-put isHeld P p x (k .base .size) c (sym (ap isHeld s))) (k .helds)) k
   where
     x : Program
-    x = newcomer v q Standing.Running
+    x = newcomer v q j Standing.Running
 
 pub stuck-enter : (P : Progs) (p : ℕ) (x : Program) → Base P → Is p → stands P p ≡ Standing.Absent
     → x .standing ≡ Standing.Running → Stuck P → Stuck (put P p x)
 stuck-enter P p x b c s r k = stuck-in P p x (b .size) c (ap isAdmitted s) (absent-within (prog P p) x (b .own p c) s) r k
 
 -- Enter, with somebody favoured, or to be: the program is held.
-pub loose-hold : (P : Progs) (w e : List ℕ) (fav n l p : ℕ) (v q : FileSet) → Is p → stands P p ≡ Standing.Absent
-    → claimsMeet v q ≡ false → LooseIn P w e fav n l
-    → LooseIn (put P p (newcomer v q Standing.Held)) w (padded 0 (names e ++ (p ∷ []))) fav n l
-loose-hold P w e fav n l p v q c s m k = record {
+pub loose-hold : (P : Progs) (w e : List ℕ) (fav n l p : ℕ) (v q j : FileSet) → Is p → stands P p ≡ Standing.Absent
+    → claimsMeet v q j ≡ false → LooseIn P w e fav n l
+    → LooseIn (put P p (newcomer v q j Standing.Held)) w (padded 0 (names e ++ (p ∷ []))) fav n l
+loose-hold P w e fav n l p v q j c s m k = record {
   base = record {
     size = sized-put P p x z;
-    own = λ i j. put-case Own P p x z c i j (λ _. newcomer-own Standing.Held v q m refl) (λ _. k .base .own i j);
-    apart = λ i j a b d. put-case (λ y. conflict y (prog (put P p x) j) ≡ false) P p x z c i a
-        (λ _. idle-conflict x (prog (put P p x) j) (λ m. newcomer-open m v q Standing.Held))
-        (λ _. put-case (λ y. conflict (prog P i) y ≡ false) P p x z c j b (λ _. conflict-idle (prog P i) x (λ m. newcomer-open m v q Standing.Held))
-        (λ _. k .base .apart i j a b d));
+    own = λ i a. put-case Own P p x z c i a (λ _. newcomer-own Standing.Held v q j m refl) (λ _. k .base .own i a);
+    apart = λ i h a b d. put-case (λ y. conflict y (prog (put P p x) h) ≡ false) P p x z c i a
+        (λ _. idle-conflict x (prog (put P p x) h) (λ m. newcomer-open m v q j Standing.Held))
+        (λ _. put-case (λ y. conflict (prog P i) y ≡ false) P p x z c h b (λ _. conflict-idle (prog P i) x (λ m. newcomer-open m v q j Standing.Held))
+        (λ _. k .base .apart i h a b d));
     order = (
       k .base .order .0,
       subst (λ h. IsOrder (holds (put P p x)) h (k .base .order .0))
@@ -595,7 +632,7 @@ loose-hold P w e fav n l p v q c s m k = record {
     z = k .base .size
 
     x : Program
-    x = newcomer v q Standing.Held
+    x = newcomer v q j Standing.Held
 
     adm : false ≡ isIn P p
     adm = sym (ap isAdmitted s)
@@ -605,7 +642,7 @@ loose-hold P w e fav n l p v q c s m k = record {
 
 pub stuck-hold : (P : Progs) (p : ℕ) (x : Program) → Base P → Is p → stands P p ≡ Standing.Absent
     → x .standing ≡ Standing.Held → Stuck P → Stuck (put P p x)
-stuck-hold P p x b c s r k y g i u =
-    let d : y ≢ p = other-waits P p x (b .size) c (ap isWaiting r) y g u in
-    stuck-put P p x (b .size) c (absent-within (prog P p) x (b .own p c) s) (ap isAdmitted r ∙ sym (ap isAdmitted s)) y g i
-    (λ q. absurd (d q)) (k y g i (ap (λ (q : Program). q .standing) (sym (put-other P p y x c i d)) ∙ u))
+stuck-hold P p x b c s r k y i g = put-case (λ q. Awaits q g → can (put P p x) y g ≡ false) P p x (b .size) c y i
+    (λ _ u. never {t = false} (sym (ap isWaiting r) ∙ ap isWaiting (u .0)) refl)
+    (λ n u. stuck-put P p x (b .size) c (absent-within (prog P p) x (b .own p c) s) (ap isAdmitted r ∙ sym (ap isAdmitted s)) y g i
+    (λ e. absurd (n e)) (k y i g u))

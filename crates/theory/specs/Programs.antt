@@ -18,8 +18,8 @@ use Rattle.rules.specs.declared.Standing.{Standing}
 use Rattle.rules.specs.declared.Program.{Program}
 use Rattle.rules.specs.declared.Board.{Board}
 use Rattle.laws.specs.Lists.{any, keep, rising, without, found, first}
-use Rattle.rules.specs.Modes.{Mode, Write, Read, claimOf, openOf, claimsMeet, modeOf}
-use Rattle.rules.specs.Boards.{noProgram, isAdmitted, isProgram, everyone, at, admitted, claims, setStanding, opened, opening}
+use Rattle.rules.specs.Modes.{Mode, claimOf, openOf, claimsMeet, modeOf}
+use Rattle.rules.specs.Boards.{noProgram, isAdmitted, isProgram, everyone, at, admitted, claims, setStanding, setItem, opened, opening}
 use Rattle.rules.specs.Orders.{conflict, holdsBack, heldBack, carriedFrom, carried, withGiven, inUse, safe, canGive}
 use Rattle.laws.specs.Laws.{_∈_, Pairs, NoRepeat, by-mem, any-some, some-any, found-some, keep-mem, mem-keep, keep-same}
 use Rattle.laws.specs.Laws.{keep-but, Pairs-keep, length-keep, without-mem, mem-without, rising-mem, mem-rising, rising-pairs}
@@ -27,6 +27,7 @@ use Rattle.laws.specs.Laws.{length-rising, Pairs-map}
 use Rattle.theory.specs.Order.{Names, IsOrder, heldIn, search, orderIn, orderIn-iff, orderIn-none, HeldLater, held-not-clear}
 use Rattle.theory.specs.Modes.{clashing-turn, by-touching, touching-by, touching-mono, touching-sym, none-touches, touches-none, opened-claim}
 use Rattle.theory.specs.Modes.{standing-claim, standing-open, opened-case, opened-both, mode-claims, SameClaims, mode-same}
+use Rattle.theory.specs.Modes.{meet-same, item-claim, item-open}
 use Rattle.theory.specs.Order.{order-below, order-without, order-last, order-first}
 
 -- p is a program: 1 to 32.
@@ -212,7 +213,7 @@ ins-before P p x c e = keep-but (isIn (put P p x)) (isIn P) p everyone e
 -- What holds of a program by itself.
 pub record Own (x : Program) : Type 0 where
   pub inside : (m : Mode) → openOf m x ⊑ claimOf m x
-  pub apart : claimsMeet (x .writable) (x .readable) ≡ false
+  pub apart : claimsMeet (x .writable) (x .readable) (x .inquirable) ≡ false
   pub idle : isAdmitted (x .standing) ≡ false → Idle x
   pub gone : x .standing ≡ Standing.Absent → (m : Mode) → claimOf m x ≡ noFiles
 
@@ -226,6 +227,12 @@ same-sets x = record { same-claim = λ m. refl; same-open = λ m. refl }
 
 pub standing-same : (x : Program) (s : Standing) → SameSets x (setStanding x s)
 standing-same x s = record { same-claim = λ m. sym (standing-claim m x s); same-open = λ m. sym (standing-open m x s) }
+
+pub item-same : (x : Program) (f r : ℕ) → SameSets x (setItem x f r)
+item-same x f r = record { same-claim = λ m. sym (item-claim m x f r); same-open = λ m. sym (item-open m x f r) }
+
+pub same-then : (x y z : Program) → SameSets x y → SameSets y z → SameSets x z
+same-then x y z d e = record { same-claim = λ m. d .same-claim m ∙ e .same-claim m; same-open = λ m. d .same-open m ∙ e .same-open m }
 
 pub same-turn : (x y : Program) → SameSets x y → SameSets y x
 same-turn x y d = record { same-claim = λ m. sym (d .same-claim m); same-open = λ m. sym (d .same-open m) }
@@ -241,7 +248,7 @@ pub own-same : (x y : Program) → SameSets x y → isAdmitted (y .standing) ≡
 own-same x y d a o = record {
   inside = λ m. subst (λ s. s ⊑ claimOf m y) (d .same-open m)
       (subst (λ s. openOf m x ⊑ s) (d .same-claim m) (o .inside m));
-  apart = ap₂ claimsMeet (sym (d .same-claim Write)) (sym (d .same-claim Read)) ∙ o .apart;
+  apart = meet-same x y (d .same-claim) ∙ o .apart;
   idle = λ e. never a e;
   gone = λ e. never a (ap isAdmitted e);
 }
@@ -364,6 +371,10 @@ pub opening-standing : (x : Program) (f : ℕ) → opening x f .standing ≡ x .
 unfolding opening
 opening-standing x f = refl
 
+pub opening-item : (x : Program) (f : ℕ) → (opening x f .item ≡ x .item) × (opening x f .file ≡ x .file)
+unfolding opening
+opening-item x f = (refl, refl)
+
 pub opening-claims : (x : Program) (f : ℕ) → SameClaims x (opening x f)
 unfolding opening
 opening-claims x f m = sym (opened-claim (modeOf x f) m x f)
@@ -383,7 +394,7 @@ opening-own x f m a o = record {
       (λ d u. adding-⊑ (openOf n x) (claimOf n x) f u
       (subst (λ k. member (claimOf k x) f ≡ true) (sym d) (mode-claims x f m)))
       (λ u. u) (o .inside n));
-  apart = ap₂ claimsMeet (sym (opening-claims x f Write)) (sym (opening-claims x f Read)) ∙ o .apart;
+  apart = meet-same x (opening x f) (opening-claims x f) ∙ o .apart;
   idle = λ e. never a e;
   gone = λ d n. sym (opening-claims x f n) ∙ o .gone d n;
 }

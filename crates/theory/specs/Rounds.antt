@@ -20,7 +20,8 @@ use Rattle.rules.specs.Replies.{orderOf}
 use Rattle.rules.specs.Calls.{Call, Open, Leave, apply}
 use Rattle.rules.specs.Worked.{worked, repliesFrom, directFrom}
 use Rattle.laws.specs.Laws.{_∈_, Pairs}
-use Rattle.theory.specs.Programs.{Sized}
+use Rattle.theory.specs.Programs.{Is, Sized}
+use Rattle.theory.specs.Records.{Uses}
 use Rattle.theory.specs.Sizes.{Counts32}
 
 -- ══ Definitions ══
@@ -43,7 +44,7 @@ unfoldable pub after : Latest → List Call → Latest
 after l [] = l
 after l (c ∷ cs) = after (answered (apply (l .board) c)) cs
 
--- "each claimed file that it hasn't open, rising": over both claims together
+-- "each claimed file that it hasn't open, rising": over the three claims together
 unfoldable pub toOpen : Program → List ℕ
 toOpen q = keep (λ f. claims q f && not (hasOpen q f)) (rising 64 1)
 
@@ -114,7 +115,11 @@ pub record Emptied (l : Latest) : Type 0 where
   -- both numbers and all counts 0. The order in the last answer is empty.
   pub empties : after l (rounds (programsOn (l .board)) l) ≡ start
 
--- "this empties every board reached from the empty one": after the calls cs.
+-- "CR 4 begins with no record in use."
+abbrev pub NoneInUse : Board → Type 0
+NoneInUse b = (i f r : ℕ) → Is i → Uses (at b i) f r → ⊥
+
+-- "this empties every board reached from the empty one": after the calls cs, with no record in use.
 pub record RunsThrough (cs : List Call) : Type 0 where
   pub on-worked : after start cs .board ≡ worked cs
   pub emptied : Emptied (after start cs)
@@ -124,7 +129,7 @@ pub record RunsThrough (cs : List Call) : Type 0 where
   pub direct-calls : directFrom emptyBoard (cs ++ rounds (programsOn (worked cs)) (after start cs))
       ≡ repliesFrom emptyBoard (cs ++ rounds (programsOn (worked cs)) (after start cs))
 
--- Beyond 02: the same of every sound board with its carried order, as an image holds it. `sound-emptied` proves it.
+-- Beyond 02: the same of every sound board without a record in use, with its carried order, as an image holds it. `sound-emptied` proves it.
 abbrev pub SoundEmptied : Type 0
-SoundEmptied = (b : Board) → Sized (b .programs) → Counts32 b → sound b ≡ true
+SoundEmptied = (b : Board) → Sized (b .programs) → Counts32 b → sound b ≡ true → NoneInUse b
     → Emptied (record { board = b; order = Option·getD (carried b) [] })

@@ -27,7 +27,7 @@ use Rattle.laws.specs.Laws.{_∈_, Pairs, NoRepeat, here, keep-mem, mem-keep, m
 use Rattle.theory.specs.Order.{IsOrder}
 use Rattle.theory.specs.Modes.{same-mode, opened-case}
 use Rattle.theory.specs.Programs.{Is, prog, Sized, put-same, put-other, holds, ins, give}
-use Rattle.theory.specs.Programs.{opening-standing, opening-claims, first-stays, first-can}
+use Rattle.theory.specs.Programs.{opening-standing, opening-claims, opening-item, first-stays, first-can}
 use Rattle.theory.specs.Loose.{Asked, Good}
 use Rattle.theory.specs.Calls.{RunsMay, claims-file, may-open, open-given, apply-accepted, apply-stepped, can-tests}
 use Rattle.theory.specs.Rounds.{toOpen, answersFrom, EachToOpen, ToOpenRising}
@@ -44,17 +44,18 @@ still-claims : (x : Program) (f g : ℕ) → claims x g ≡ true → claims (ope
 still-claims x f g e = sym (same-mode (λ m. member (claimOf m x) g) (λ m. member (claimOf m (opening x f)) g)
     (λ m. ap (λ s. member s g) (opening-claims x f m))) ∙ e
 
--- p runs, is the first of an order, and claims the files fs, none of which it has open.
+-- p runs without a record, is the first of an order, and claims the files fs, none of which it has open.
 pub record Ahead (b : Board) (p : ℕ) (o fs : List ℕ) : Type 0 where
   pub good : Good b
   pub may : RunsMay b p
+  pub no-item : prog (b .programs) p .item ≡ 0
   pub order : IsOrder (holds (b .programs)) (ins (b .programs)) (p ∷ o)
   pub asked : (f : ℕ) → f ∈ fs → Asked (prog (b .programs) p) f
 
 -- "No such open waits."
 given-first : (b : Board) (p f : ℕ) (o fs : List ℕ) → Ahead b p o (f ∷ fs)
     → apply b (Open p f) ≡ reply (withGiven b p f) Answer.Given (line Word.Given p f ∷ [])
-given-first b p f o fs h = apply-accepted b (Open p f) (may-open b p f (record { is = m .is; runs = m .runs; asked = a }))
+given-first b p f o fs h = apply-accepted b (Open p f) (may-open b p f (record { is = m .is; runs = m .runs; no-item = h .no-item; asked = a }))
     ∙ open-given b p f (not-true (inUse b p f) (and-left (not (inUse b p f)) (safe b p f) t)) (and-right (not (inUse b p f)) (safe b p f) t)
   where
     m : RunsMay b p
@@ -71,6 +72,7 @@ unfolding withGiven reply Pairs give
 ahead-given b p f o fs n h = record {
   good = subst Good (ap (λ (r : Reply). r .board) (given-first b p f o fs h)) (apply-stepped b (Open p f) (h .good) .good);
   may = record { is = c; runs = ap (λ (q : Program). q .standing) mine ∙ opening-standing x f ∙ h .may .runs };
+  no-item = ap (λ (q : Program). q .item) mine ∙ opening-item x f .0 ∙ h .no-item;
   order = first-stays (b .programs) p f o z c (h .order);
   asked = λ g m. let a = h .asked g (List·Memᴰ·tail m) in subst (λ y. Asked y g) (sym mine)
       (record { claimed = still-claims x f g (a .claimed); shut = still-shut x f g (λ d. n .0 g m (sym d)) ∙ a .shut });

@@ -18,14 +18,15 @@ use Rattle.rules.specs.declared.Program.{Program}
 use Rattle.rules.specs.declared.Board.{Board}
 use Rattle.laws.specs.Lists.{keep, listed, without, names, padded}
 use Rattle.rules.specs.Boards.{noProgram, emptyBoard, isAbsent, isHeld, isWaiting, isAdmitted, everyone, at, admitted, setProgram}
-use Rattle.rules.specs.Boards.{setStanding, setClaims, setOpen}
-use Rattle.rules.specs.Modes.{Mode, Write, Read, claimOf, openOf}
+use Rattle.rules.specs.Boards.{setStanding, setClaims, setOpen, setItem}
+use Rattle.rules.specs.Modes.{Mode, Write, Read, Inquiry, claimOf, openOf}
 use Rattle.rules.specs.Settling.{pass, candidate, favour, overdue, admitHeld, runHeld, choose, settle}
 use Rattle.laws.specs.Laws.{_∈_, NoRepeat, here, keep-mem, mem-keep, keep-but, Pairs-keep, Pairs-map, rising-pairs, listed-mem}
 use Rattle.laws.specs.Laws.{mem-listed}
 use Rattle.theory.specs.Order.{IsOrder}
 use Rattle.theory.specs.Programs.{Is, mem-everyone, everyone-is, Progs, prog, Sized, sized-put, holds, isIn, ins, mem-ins, ins-mem, Own}
-use Rattle.theory.specs.Loose.{stands, absent-is, held-is, waiting-in, OnLine, countIn, Loose, Good, test-put}
+use Rattle.theory.specs.Loose.{stands, absent-is, held-is, waiting-in, OnLine, countIn, Loose, Counts, Good, test-put}
+use Rattle.theory.specs.Records.{ItemOwn, out-item}
 use Rattle.theory.specs.Settling.{Passed, pass-passed}
 use Rattle.theory.specs.Sizes.{Counts32}
 use Rattle.theory.specs.Rounds.{held, programsOn, isPresent, present}
@@ -103,8 +104,8 @@ one-gone b c p v f = keep-but (isPresent b) (isPresent c) p everyone (ap not v) 
 
 -- ── Settling leaves them there ──
 
-pass-there : (b : Board) → Loose b → SameThere (b .programs) (pass (names (b .waiting)) b .board .programs)
-pass-there b k i j = by-test (listed i (names (b .waiting)))
+pass-there : (b : Board) → Loose b → Counts b → SameThere (b .programs) (pass (names (b .waiting)) b .board .programs)
+pass-there b k n i j = by-test (listed i (names (b .waiting)))
     (λ t. let a = waiting-in (stands (b .programs) i) (k .waits .of i (listed-mem i (names (b .waiting)) t) .1) in
     let m = ins-mem (pass (names (b .waiting)) b .board .programs) i (subst (λ l. i ∈ l) (sym (r .same-ins)) (mem-ins
     (b .programs) i j a)) in
@@ -112,7 +113,7 @@ pass-there b k i j = by-test (listed i (names (b .waiting)))
     (λ t. ap (λ (q : Program). isAbsent (q .standing)) (r .others i j (λ m. never (mem-listed i (names (b .waiting)) m) t)))
   where
     r : Passed b (names (b .waiting)) (pass (names (b .waiting)) b)
-    r = pass-passed (names (b .waiting)) b k (k .waits .once) (k .waits .of)
+    r = pass-passed (names (b .waiting)) b k n (k .waits .once) (k .waits .of)
 
 runHeld-there : (hs : List ℕ) (b : Board) → Sized (b .programs) → ((p : ℕ) → p ∈ hs → Is p × (absentIn (b .programs) p ≡ false))
     → SameThere (b .programs) (runHeld hs b .board .programs)
@@ -136,10 +137,10 @@ choose-there b k i j = by-test (eqb (b .favoured) 0)
     (λ p u. rw (t, u)))
     (λ t. rw t)
 
-pub settle-there : (b : Board) → Loose b → SameThere (b .programs) (settle b .board .programs)
+pub settle-there : (b : Board) → Loose b → Counts b → SameThere (b .programs) (settle b .board .programs)
 unfolding settle
-settle-there b k i j = choose-there (pass (names (b .waiting)) b .board) (pass-passed (names (b .waiting)) b k (k .waits .once)
-    (k .waits .of) .loose) i j ∙ pass-there b k i j
+settle-there b k n i j = choose-there (pass (names (b .waiting)) b .board) (pass-passed (names (b .waiting)) b k n (k .waits .once)
+    (k .waits .of) .loose) i j ∙ pass-there b k n i j
 
 -- ── Nobody in an order: nobody there ──
 
@@ -158,13 +159,14 @@ none-there b g o i c = neither (stands (b .programs) i) (out i c) (g .free (unfa
 
 -- ── Nobody there: the empty board ──
 
-empty-program : (c o : Mode → FileSet) (s : Standing) → ((m : Mode) → c m ≡ noFiles) → ((m : Mode) → o m ≡ noFiles) → s ≡ Standing.Absent
-    → setStanding (setOpen (setClaims noProgram c) o) s ≡ noProgram
-empty-program c o s d e k = rw (d Write, d Read, e Write, e Read, k)
+empty-program : (c o : Mode → FileSet) (s : Standing) (f r : ℕ) → ((m : Mode) → c m ≡ noFiles) → ((m : Mode) → o m ≡ noFiles)
+    → s ≡ Standing.Absent → f ≡ 0 → r ≡ 0 → setItem (setStanding (setOpen (setClaims noProgram c) o) s) f r ≡ noProgram
+empty-program c o s f r d e k h z = rw (d Write, d Read, d Inquiry, e Write, e Read, e Inquiry, k, h, z)
 
-gone-program : (x : Program) → Own x → isAbsent (x .standing) ≡ true → x ≡ noProgram
-gone-program x o e = let s = absent-is (x .standing) e in
-    empty-program (λ m. claimOf m x) (λ m. openOf m x) (x .standing) (o .gone s) (o .idle (ap isAdmitted s)) s
+gone-program : (x : Program) → Own x → ItemOwn x → isAbsent (x .standing) ≡ true → x ≡ noProgram
+gone-program x o i e = let s = absent-is (x .standing) e in let z = out-item x (ap isAdmitted s) i in
+    empty-program (λ m. claimOf m x) (λ m. openOf m x) (x .standing) (x .file) (x .item) (o .gone s) (o .idle (ap isAdmitted s)) s
+    (i .no-item z) z
 
 empty-programs : (P : Progs) → Sized P → ((i : ℕ) → Is i → prog P i ≡ noProgram) → P ≡ replicate 32 noProgram
 empty-programs P z f = ext-getD noProgram P (replicate 32 noProgram) (z ∙ sym (length-replicate 32 noProgram))
@@ -192,11 +194,11 @@ empty-board P w e C f n l a b c d i j k = rw (a, b, c, d, i, j, k)
 -- "The empty board is a constant": the only sound board without programs.
 pub is-empty : (b : Board) → Good b → Counts32 b → ((i : ℕ) → Is i → absentIn (b .programs) i ≡ true) → b ≡ emptyBoard
 is-empty b g z h = empty-board (b .programs) (b .waiting) (b .entry) (b .passed) (b .favoured) (b .initial) (b .leaves)
-    (empty-programs (b .programs) (g .loose .base .size) (λ i c. gone-program (prog (b .programs) i) (g .loose .base .own i c) (h i c)))
+    (empty-programs (b .programs) (g .loose .base .size) (λ i c. gone-program (prog (b .programs) i) (g .loose .base .own i c) (g .counts .records .own i c) (h i c)))
     (empty-line (b .waiting) _ (g .loose .waits) (λ p c. ap isWaiting (absent-is (stands (b .programs) p) (h p c))))
     (empty-line (b .entry) _ (g .loose .helds) (λ p c. ap isHeld (absent-is (stands (b .programs) p) (h p c))))
     nobody (g .loose .nobody nobody .0) (g .loose .nobody nobody .1)
-    (empty-counts (b .passed) z (λ p c. g .counts .rest p c (ap isWaiting (absent-is (stands (b .programs) p) (h p c)))))
+    (empty-counts (b .passed) z (λ p c. g .counts .counted .rest p c (ap isWaiting (absent-is (stands (b .programs) p) (h p c)))))
   where
     nobody : b .favoured ≡ 0
     nobody = unfavoured b g (λ p c. ap isAdmitted (absent-is (stands (b .programs) p) (h p c)))

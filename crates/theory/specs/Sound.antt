@@ -2,7 +2,7 @@
 -- Assumes nothing.
 use Prim.Native.Nat.{ℕ, _≤_, _+_}
 use mathlib.Core.Path.{_≡_, refl, sym, _∙_, ap, subst}
-use mathlib.Core.Logic.{_↔_, _≢_}
+use mathlib.Core.Logic.{_↔_, _≢_, _⊎_, inl, inr, ⊎-elim}
 use mathlib.Core.Bool.{Bool, true, false, not, cond, _&&_, _||_}
 use mathlib.Core.List.{List}
 use lib.Dec.{eqb, leb}
@@ -10,7 +10,7 @@ use lib.ListN.{length}
 use borrow.Author.Tests.{eqb-true, eqb-false, eq-eqb, ne-eqb, leb-true, le-leb}
 use Rattle.laws.specs.Tests.{by-test, never, or-cases, or-left, or-right, and-left, and-right, and-both, no-true, not-true, true-not}
 use Rattle.files.specs.declared.FileSet.{FileSet}
-use Rattle.files.specs.Sets.{noFiles, within, isEmpty}
+use Rattle.files.specs.Sets.{noFiles, member, within, isEmpty}
 use Rattle.files.proofs.Laws.{within-⊑, ⊑-within}
 use Rattle.rules.specs.declared.Standing.{Standing}
 use Rattle.rules.specs.declared.Program.{Program}
@@ -18,10 +18,10 @@ use Rattle.rules.specs.declared.Board.{Board}
 use Rattle.laws.specs.Lists.{any, all, found, listed, distinct, same, names, padded}
 use Rattle.rules.specs.Modes.{Mode, eachMode, claimOf, openOf, claimsMeet}
 use Rattle.rules.specs.Boards.{isAbsent, isHeld, isWaiting, isAdmitted, isProgram, awaitedOf, everyone, at, awaited, passedBy, admitted}
-use Rattle.rules.specs.Boards.{claims, hasOpen}
+use Rattle.rules.specs.Boards.{claims, hasOpen, uses, wants}
 use Rattle.rules.specs.Orders.{conflict, carried, canGive}
 use Rattle.rules.specs.Soundness.{setsSound, standingSound, programSound, noConflict, lineSound, waiterSound, noneFavoured, someFavoured}
-use Rattle.rules.specs.Soundness.{countSound, sound}
+use Rattle.rules.specs.Soundness.{mayHave, itemSound, usesDiffer, awaitedInUse, countSound, sound}
 use Rattle.rules.specs.Calls.{Call, apply}
 use Rattle.laws.specs.Laws.{any-some, some-any, all-each, each-all, listed-mem, mem-listed, distinct-once}
 use Rattle.laws.specs.Laws.{once-distinct, same-eq, eq-same}
@@ -29,13 +29,14 @@ use Rattle.theory.specs.Order.{IsOrder}
 use Rattle.theory.specs.Programs.{Is, is-of, of-is, mem-everyone, everyone-is, Sized, canGive-is, admitted-is, Idle, Own}
 use Rattle.theory.specs.Modes.{each-mode, mode-each}
 use Rattle.theory.specs.Carried.{holdsOn, CompletionOrder, order-of, of-order}
-use Rattle.theory.specs.Loose.{Loose, waiting-in, OnLine, Asked, Good, waiting-file}
+use Rattle.theory.specs.Records.{Uses, Wants, uses-of, of-uses, wants-of, of-wants, ItemOwn, none-item, uses-none, in-use}
+use Rattle.theory.specs.Loose.{Awaits, Asks, Loose, waiting-in, OnLine, Asked, Good, waiting-file}
 use Rattle.theory.specs.Calls.{apply-stepped}
 
 -- "W is within V, R within Q, V and Q share nothing"
 pub record SetsAsAbove (q : Program) : Type 0 where
   pub inside : (m : Mode) → within (openOf m q) (claimOf m q) ≡ true
-  pub claims-apart : claimsMeet (q .writable) (q .readable) ≡ false
+  pub claims-apart : claimsMeet (q .writable) (q .readable) (q .inquirable) ≡ false
 
 pub record Sound (b : Board) : Type 0 where
   -- "sets as above"
@@ -52,9 +53,9 @@ pub record Sound (b : Board) : Type 0 where
   pub waiting-line : OnLine (b .waiting) (λ p. isWaiting (at b p .standing))
   pub entry-line : OnLine (b .entry) (λ p. isHeld (at b p .standing))
   -- "a waiter's file is claimed, not open by it"
-  pub waiter-asked : (p f : ℕ) → Is p → at b p .standing ≡ Standing.Waiting f → Asked (at b p) f
+  pub waiter-asked : (p : ℕ) → Is p → Asks (at b p)
   -- "and can't be given now"
-  pub waiter-stuck : (p f : ℕ) → Is p → at b p .standing ≡ Standing.Waiting f → canGive b p f ≡ false
+  pub waiter-stuck : (p : ℕ) → Is p → (f : ℕ) → Awaits (at b p) f → canGive b p f ≡ false
   -- "the favoured program is waiting"
   pub favoured-waits : b .favoured ≢ 0 → Is (b .favoured) × (isWaiting (at b (b .favoured) .standing) ≡ true)
   -- "nobody favoured means nobody held and both numbers 0"
@@ -65,6 +66,12 @@ pub record Sound (b : Board) : Type 0 where
   pub count-most : (p : ℕ) → Is p → passedBy b p ≤ 8
   -- "and 0 for all who aren't waiting"
   pub count-rest : (p : ℕ) → Is p → isWaiting (at b p .standing) ≡ false → passedBy b p ≡ 0
+  -- "their users run", "both have their file in I"
+  pub item-own : (p : ℕ) → Is p → ItemOwn (at b p)
+  -- "records in use differ"
+  pub uses-differ : (i j f r : ℕ) → Is i → Is j → i ≢ j → Uses (at b i) f r → Uses (at b j) f r → ⊥
+  -- "an awaited record is in use"
+  pub awaited-used : (p f r : ℕ) → Is p → Wants (at b p) f r → (i : ℕ) × Is i × Uses (at b i) f r
 
 -- ── Each part of the test ──
 
@@ -115,7 +122,7 @@ of-standing q Standing.Held d f g = each-mode (λ m. isEmpty (openOf m q)) (λ m
 
 sets-of : (q : Program) → setsSound q ≡ true → SetsAsAbove q
 unfolding setsSound
-sets-of q e = let i = eachMode (λ m. within (openOf m q) (claimOf m q)) in let a = claimsMeet (q .writable) (q .readable) in
+sets-of q e = let i = eachMode (λ m. within (openOf m q) (claimOf m q)) in let a = claimsMeet (q .writable) (q .readable) (q .inquirable) in
     record {
       inside = mode-each (λ m. within (openOf m q) (claimOf m q)) (and-left i (not a) e);
       claims-apart = not-true a (and-right i (not a) e);
@@ -123,8 +130,36 @@ sets-of q e = let i = eachMode (λ m. within (openOf m q) (claimOf m q)) in let 
 
 of-sets : (q : Program) → SetsAsAbove q → setsSound q ≡ true
 unfolding setsSound
-of-sets q s = let i = eachMode (λ m. within (openOf m q) (claimOf m q)) in let a = claimsMeet (q .writable) (q .readable) in
+of-sets q s = let i = eachMode (λ m. within (openOf m q) (claimOf m q)) in let a = claimsMeet (q .writable) (q .readable) (q .inquirable) in
     and-both i (not a) (each-mode (λ m. within (openOf m q) (claimOf m q)) (s .inside)) (true-not a (s .claims-apart))
+
+may-of : (s : Standing) (q : Program) → mayHave s q ≡ true → (s ≡ Standing.Running) ⊎ (s ≡ Standing.Waiting (q .file))
+unfolding mayHave
+may-of Standing.Absent q e = never {t = false} e refl
+may-of Standing.Running q e = inl refl
+may-of (Standing.Waiting f) q e = inr (ap Standing.Waiting (eqb-true f (q .file) e))
+may-of Standing.Held q e = never {t = false} e refl
+
+of-may : (s : Standing) (q : Program) → (s ≡ Standing.Running) ⊎ (s ≡ Standing.Waiting (q .file)) → mayHave s q ≡ true
+unfolding mayHave
+of-may s q e = ⊎-elim (λ d. ap (λ t. mayHave t q) d) (λ d. ap (λ t. mayHave t q) d ∙ eq-eqb (q .file) (q .file) refl) e
+
+item-of : (q : Program) → itemSound q ≡ true → ItemOwn q
+unfolding itemSound
+item-of q e = by-test (eqb (q .item) 0)
+    (λ t. let z = eqb-true (q .item) 0 t in none-item q z (eqb-true (q .file) 0 (rw t at e)))
+    (λ t. let n = eqb-false (q .item) 0 t in let m = member (q .inquiring) (q .file) in let h = mayHave (q .standing) q in record {
+      no-item = λ z. absurd (n z);
+      in-i = λ _. and-left m h (rw t at e);
+      stands-so = λ _. may-of (q .standing) q (and-right m h (rw t at e));
+    })
+
+of-item : (q : Program) → ItemOwn q → itemSound q ≡ true
+unfolding itemSound
+of-item q o = by-test (eqb (q .item) 0)
+    (λ t. rw t (eq-eqb (q .file) 0 (o .no-item (eqb-true (q .item) 0 t))))
+    (λ t. let n = eqb-false (q .item) 0 t in rw t (and-both (member (q .inquiring) (q .file)) (mayHave (q .standing) q) (o .in-i n)
+    (of-may (q .standing) q (o .stands-so n))))
 
 line-of : (l : List ℕ) (t : ℕ → Bool) → lineSound l t ≡ true → OnLine l t
 unfolding lineSound
@@ -173,24 +208,71 @@ module _ (b : Board) where
       (λ t. or-right (eqb i j) (not (conflict (at b i) (at b j))) (true-not (conflict (at b i) (at b j))
       (f i j (everyone-is i m) (everyone-is j k) (eqb-false i j t))))))
 
-  waiter-of : (p f : ℕ) → waiterSound b p f ≡ true → Asked (at b p) f × (canGive b p f ≡ false)
+  waiter-of : (p f : ℕ) → waiterSound b p f ≡ true → at b p .item ≡ 0 → Asked (at b p) f × (canGive b p f ≡ false)
   unfolding waiterSound
-  waiter-of p f e =
+  waiter-of p f e d =
       let y = claims (at b p) f in let z = not (hasOpen (at b p) f) in let w = not (canGive b p f) in
-      let yz = and-left (y && z) w e in (
-        record {
-          claimed = and-left y z yz;
-          shut = not-true (hasOpen (at b p) f) (and-right y z yz);
-        },
-        not-true (canGive b p f) (and-right (y && z) w e),
-      )
+      or-cases (not (eqb (at b p .item) 0)) (y && z && w) e (λ u. never (eq-eqb (at b p .item) 0 d) (not-true (eqb (at b p .item) 0) u))
+      (λ u. let yz = and-left (y && z) w u in (
+        record { claimed = and-left y z yz; shut = not-true (hasOpen (at b p) f) (and-right y z yz) },
+        not-true (canGive b p f) (and-right (y && z) w u),
+      ))
 
-  of-waiter : (p f : ℕ) → Asked (at b p) f → canGive b p f ≡ false → waiterSound b p f ≡ true
+  of-waiter : (p f : ℕ) → (at b p .item ≡ 0 → Asked (at b p) f) → (at b p .item ≡ 0 → canGive b p f ≡ false) → waiterSound b p f ≡ true
   unfolding waiterSound
   of-waiter p f a s =
       let y = claims (at b p) f in let z = not (hasOpen (at b p) f) in let w = not (canGive b p f) in
-      and-both (y && z) w (and-both y z (a .claimed) (true-not (hasOpen (at b p) f) (a .shut)))
-      (true-not (canGive b p f) s)
+      let x = not (eqb (at b p .item) 0) in by-test (eqb (at b p .item) 0)
+      (λ t. let d = eqb-true (at b p .item) 0 t in or-right x (y && z && w) (and-both (y && z) w (and-both y z (a d .claimed)
+      (true-not (hasOpen (at b p) f) (a d .shut))) (true-not (canGive b p f) (s d))))
+      (λ t. or-left x (y && z && w) (true-not (eqb (at b p .item) 0) t))
+
+  differ-of : usesDiffer b ≡ true → (i j f r : ℕ) → Is i → Is j → i ≢ j → Uses (at b i) f r → Uses (at b j) f r → ⊥
+  unfolding usesDiffer
+  differ-of e i j f r a c n u v =
+      let x = uses (at b i) (at b i .file) (at b i .item) in
+      let y = all (λ j. eqb i j || not (uses (at b j) (at b i .file) (at b i .item))) everyone in
+      or-cases (not x) y (all-each (λ i. not (uses (at b i) (at b i .file) (at b i .item))
+      || all (λ j. eqb i j || not (uses (at b j) (at b i .file) (at b i .item))) everyone) everyone e i (mem-everyone i a))
+      (λ t. never (of-uses (at b i) (at b i .file) (at b i .item) (u .0, u .1, refl, refl)) (not-true x t))
+      (λ t. or-cases (eqb i j) (not (uses (at b j) (at b i .file) (at b i .item)))
+      (all-each (λ j. eqb i j || not (uses (at b j) (at b i .file) (at b i .item))) everyone t j (mem-everyone j c))
+      (λ w. n (eqb-true i j w)) (λ w. never (of-uses (at b j) (at b i .file) (at b i .item)
+      (v .0, v .1, v .2 ∙ sym (u .2), v .3 ∙ sym (u .3))) (not-true (uses (at b j) (at b i .file) (at b i .item)) w)))
+
+  of-differ : ((i j f r : ℕ) → Is i → Is j → i ≢ j → Uses (at b i) f r → Uses (at b j) f r → ⊥) → usesDiffer b ≡ true
+  unfolding usesDiffer
+  of-differ h = each-all (λ i. not (uses (at b i) (at b i .file) (at b i .item))
+      || all (λ j. eqb i j || not (uses (at b j) (at b i .file) (at b i .item))) everyone) everyone (λ i m.
+      let x = uses (at b i) (at b i .file) (at b i .item) in
+      let y = all (λ j. eqb i j || not (uses (at b j) (at b i .file) (at b i .item))) everyone in
+      by-test x
+      (λ t. or-right (not x) y (each-all (λ j. eqb i j || not (uses (at b j) (at b i .file) (at b i .item))) everyone (λ j k.
+      let z = uses (at b j) (at b i .file) (at b i .item) in by-test (eqb i j) (or-left (eqb i j) (not z))
+      (λ u. or-right (eqb i j) (not z) (true-not z (no-true z (λ w. h i j (at b i .file) (at b i .item) (everyone-is i m) (everyone-is j k)
+      (eqb-false i j u) (uses-of (at b i) _ _ t) (uses-of (at b j) _ _ w))))))))
+      (λ t. or-left (not x) y (true-not x t)))
+
+  used-of : awaitedInUse b ≡ true → (p f r : ℕ) → Is p → Wants (at b p) f r → (i : ℕ) × Is i × Uses (at b i) f r
+  unfolding awaitedInUse
+  used-of e p f r c w =
+      let x = wants (at b p) (at b p .file) (at b p .item) in let y = any (λ i. uses (at b i) (at b p .file) (at b p .item)) everyone in
+      or-cases (not x) y (all-each (λ p. not (wants (at b p) (at b p .file) (at b p .item))
+      || any (λ i. uses (at b i) (at b p .file) (at b p .item)) everyone) everyone e p (mem-everyone p c))
+      (λ t. never (of-wants (at b p) (at b p .file) (at b p .item) (w .0, w .1, refl, refl)) (not-true x t))
+      (λ t. let (i, m, u) = any-some (λ i. uses (at b i) (at b p .file) (at b p .item)) everyone t in
+      let v = uses-of (at b i) (at b p .file) (at b p .item) u in
+      (i, everyone-is i m, (v .0, v .1, v .2 ∙ w .2, v .3 ∙ w .3)))
+
+  of-used : ((p f r : ℕ) → Is p → Wants (at b p) f r → (i : ℕ) × Is i × Uses (at b i) f r) → awaitedInUse b ≡ true
+  unfolding awaitedInUse
+  of-used h = each-all (λ p. not (wants (at b p) (at b p .file) (at b p .item))
+      || any (λ i. uses (at b i) (at b p .file) (at b p .item)) everyone) everyone (λ p m.
+      let x = wants (at b p) (at b p .file) (at b p .item) in let y = any (λ i. uses (at b i) (at b p .file) (at b p .item)) everyone in
+      by-test x
+      (λ t. let (i, c, u) = h p (at b p .file) (at b p .item) (everyone-is p m) (wants-of (at b p) _ _ t) in
+      or-right (not x) y (some-any (λ i. uses (at b i) (at b p .file) (at b p .item)) everyone i (mem-everyone i c) (of-uses (at b i) _ _ u)))
+      (λ t. or-left (not x) y (true-not x t)))
 
   none-of : noneFavoured b ≡ true → ((p : ℕ) → Is p → isHeld (at b p .standing) ≡ false) × (b .initial ≡ 0) × (b .leaves ≡ 0)
   unfolding noneFavoured
@@ -249,7 +331,7 @@ module _ (b : Board) where
   of-count p m f = let x = leb (passedBy b p) 8 in let y = isWaiting (at b p .standing) in let z = eqb (passedBy b p) 0 in
       and-both x (y || z) (le-leb (passedBy b p) 8 m) (by-test y (or-left y z) (λ t. or-right y z (eq-eqb (passedBy b p) 0 (f t))))
 
-  -- the eight parts of the test
+  -- the ten parts of the test
   record Parts : Type 0 where
     part-1 : all (λ p. programSound (at b p)) everyone ≡ true
     part-2 : noConflict b ≡ true
@@ -259,6 +341,8 @@ module _ (b : Board) where
     part-6 : all (λ p. waiterSound b p (awaited b p)) (names (b .waiting)) ≡ true
     part-7 : cond (eqb (b .favoured) 0) (noneFavoured b) (someFavoured b) ≡ true
     part-8 : all (countSound b) everyone ≡ true
+    part-9 : usesDiffer b ≡ true
+    part-10 : awaitedInUse b ≡ true
 
   parts-of : sound b ≡ true → Parts
   unfolding sound
@@ -271,7 +355,11 @@ module _ (b : Board) where
       let x₆ = all (λ p. waiterSound b p (awaited b p)) (names (b .waiting)) in
       let x₇ = cond (eqb (b .favoured) 0) (noneFavoured b) (someFavoured b) in
       let x₈ = all (countSound b) everyone in
-      let e₇ = and-left (x₁ && x₂ && x₃ && x₄ && x₅ && x₆ && x₇) x₈ e in
+      let x₉ = usesDiffer b in
+      let x₁₀ = awaitedInUse b in
+      let e₉ = and-left (x₁ && x₂ && x₃ && x₄ && x₅ && x₆ && x₇ && x₈ && x₉) x₁₀ e in
+      let e₈ = and-left (x₁ && x₂ && x₃ && x₄ && x₅ && x₆ && x₇ && x₈) x₉ e₉ in
+      let e₇ = and-left (x₁ && x₂ && x₃ && x₄ && x₅ && x₆ && x₇) x₈ e₈ in
       let e₆ = and-left (x₁ && x₂ && x₃ && x₄ && x₅ && x₆) x₇ e₇ in
       let e₅ = and-left (x₁ && x₂ && x₃ && x₄ && x₅) x₆ e₆ in
       let e₄ = and-left (x₁ && x₂ && x₃ && x₄) x₅ e₅ in
@@ -285,30 +373,36 @@ module _ (b : Board) where
         part-5 = and-right (x₁ && x₂ && x₃ && x₄) x₅ e₅;
         part-6 = and-right (x₁ && x₂ && x₃ && x₄ && x₅) x₆ e₆;
         part-7 = and-right (x₁ && x₂ && x₃ && x₄ && x₅ && x₆) x₇ e₇;
-        part-8 = and-right (x₁ && x₂ && x₃ && x₄ && x₅ && x₆ && x₇) x₈ e;
+        part-8 = and-right (x₁ && x₂ && x₃ && x₄ && x₅ && x₆ && x₇) x₈ e₈;
+        part-9 = and-right (x₁ && x₂ && x₃ && x₄ && x₅ && x₆ && x₇ && x₈) x₉ e₉;
+        part-10 = and-right (x₁ && x₂ && x₃ && x₄ && x₅ && x₆ && x₇ && x₈ && x₉) x₁₀ e;
       }
 
   of-parts : Parts → sound b ≡ true
   unfolding sound
-  of-parts k = rw (k .part-1, k .part-2, k .part-3, k .part-4, k .part-5, k .part-6, k .part-7, k .part-8)
+  of-parts k = rw (k .part-1, k .part-2, k .part-3, k .part-4, k .part-5, k .part-6, k .part-7, k .part-8, k .part-9, k .part-10)
 
   clauses-of : sound b ≡ true → Sound b
   unfolding programSound
   clauses-of e = record {
-    sets = λ p i. sets-of (at b p) (and-left (setsSound (at b p)) (standingSound (at b p .standing) (at b p)) (each p i));
+    sets = λ p i. sets-of (at b p) (and-left (setsSound (at b p)) (standingSound (at b p .standing) (at b p)) (both p i));
     absent-empty = λ p i. stand p i .0;
     held-closed = λ p i. stand p i .1;
     no-conflict = conflict-of (k .part-2);
     order-exists = order-of b (k .part-3);
     waiting-line = l;
     entry-line = line-of (b .entry) _ (k .part-5);
-    waiter-asked = λ p f i u. waiter p f i u .0;
-    waiter-stuck = λ p f i u. waiter p f i u .1;
+    waiter-asked = λ p i f u. waiter p f i u .0;
+    waiter-stuck = λ p i f u. waiter p f i u .1;
     favoured-waits = λ n. some-of (rw (ne-eqb (b .favoured) 0 n) at (k .part-7)) .0;
     nobody-favoured = λ d. none-of (rw (eq-eqb (b .favoured) 0 d) at (k .part-7));
     favoured-count = λ n. some-of (rw (ne-eqb (b .favoured) 0 n) at (k .part-7)) .1;
     count-most = λ p i. count-of p (all-each (countSound b) everyone (k .part-8) p (mem-everyone p i)) .0;
     count-rest = λ p i. count-of p (all-each (countSound b) everyone (k .part-8) p (mem-everyone p i)) .1;
+    item-own = λ p i. item-of (at b p) (and-right (setsSound (at b p) && standingSound (at b p .standing) (at b p)) (itemSound (at b p))
+        (each p i));
+    uses-differ = differ-of (k .part-9);
+    awaited-used = used-of (k .part-10);
   }
     where
       k : Parts
@@ -317,36 +411,42 @@ module _ (b : Board) where
       each : (p : ℕ) → Is p → programSound (at b p) ≡ true
       each p i = all-each (λ p. programSound (at b p)) everyone (k .part-1) p (mem-everyone p i)
 
+      both : (p : ℕ) → Is p → setsSound (at b p) && standingSound (at b p .standing) (at b p) ≡ true
+      both p i = and-left (setsSound (at b p) && standingSound (at b p .standing) (at b p)) (itemSound (at b p)) (each p i)
+
       stand : (p : ℕ) → Is p → (at b p .standing ≡ Standing.Absent → (m : Mode) → (claimOf m (at b p) ≡ noFiles) × (openOf m (at b p)
           ≡ noFiles)) × (at b p .standing ≡ Standing.Held → Idle (at b p))
       stand p i = standing-of (at b p) (at b p .standing) (and-right (setsSound (at b p))
-          (standingSound (at b p .standing) (at b p)) (each p i)) refl
+          (standingSound (at b p .standing) (at b p)) (both p i)) refl
 
       l : OnLine (b .waiting) (λ p. isWaiting (at b p .standing))
       l = line-of (b .waiting) (λ p. isWaiting (at b p .standing)) (k .part-4)
 
-      waiter : (p f : ℕ) → Is p → at b p .standing ≡ Standing.Waiting f → Asked (at b p) f × (canGive b p f ≡ false)
-      waiter p f i u = waiter-of p f (ap (waiterSound b p) (sym (ap awaitedOf u))
-          ∙ all-each (λ p. waiterSound b p (awaited b p)) (names (b .waiting)) (k .part-6) p (l .on p i (ap isWaiting u)))
+      waiter : (p f : ℕ) → Is p → Awaits (at b p) f → Asked (at b p) f × (canGive b p f ≡ false)
+      waiter p f i u = waiter-of p f (ap (waiterSound b p) (sym (ap awaitedOf (u .0)))
+          ∙ all-each (λ p. waiterSound b p (awaited b p)) (names (b .waiting)) (k .part-6) p (l .on p i (ap isWaiting (u .0)))) (u .1)
 
   of-clauses : Sound b → sound b ≡ true
   unfolding programSound
   of-clauses k = of-parts (record {
     part-1 = each-all (λ p. programSound (at b p)) everyone (λ p m. let i = everyone-is p m in
-        and-both (setsSound (at b p)) (standingSound (at b p .standing) (at b p)) (of-sets (at b p) (k .sets p i))
-        (of-standing (at b p) (at b p .standing) refl (k .absent-empty p i) (k .held-closed p i)));
+        and-both (setsSound (at b p) && standingSound (at b p .standing) (at b p)) (itemSound (at b p))
+        (and-both (setsSound (at b p)) (standingSound (at b p .standing) (at b p)) (of-sets (at b p) (k .sets p i))
+        (of-standing (at b p) (at b p .standing) refl (k .absent-empty p i) (k .held-closed p i))) (of-item (at b p) (k .item-own p i)));
     part-2 = of-conflict (k .no-conflict);
     part-3 = of-order b (k .order-exists .0) (k .order-exists .1);
     part-4 = of-line (b .waiting) (λ p. isWaiting (at b p .standing)) (k .waiting-line);
     part-5 = of-line (b .entry) (λ p. isHeld (at b p .standing)) (k .entry-line);
     part-6 = each-all (λ p. waiterSound b p (awaited b p)) (names (b .waiting))
         (λ p m. let (i, u) = k .waiting-line .of p m in let (f, s) = waiting-file (at b p .standing) u in
-        ap (waiterSound b p) (ap awaitedOf s) ∙ of-waiter p f (k .waiter-asked p f i s) (k .waiter-stuck p f i s));
+        ap (waiterSound b p) (ap awaitedOf s) ∙ of-waiter p f (λ z. k .waiter-asked p i f (s, z)) (λ z. k .waiter-stuck p i f (s, z)));
     part-7 = by-test (eqb (b .favoured) 0)
         (λ t. rw t (let (h, i, l) = k .nobody-favoured (eqb-true (b .favoured) 0 t) in of-none h i l))
         (λ t. rw t (let n = eqb-false (b .favoured) 0 t in let (i, u) = k .favoured-waits n in
         let (c, l) = k .favoured-count n in of-some i u c l));
     part-8 = each-all (countSound b) everyone (λ p m. let i = everyone-is p m in of-count p (k .count-most p i) (k .count-rest p i));
+    part-9 = of-differ (k .uses-differ);
+    part-10 = of-used (k .awaited-used);
   })
 
 -- The test `sound` of the rules is 01's clauses.
@@ -365,12 +465,15 @@ good-sound b g = record {
   waiting-line = g .loose .waits;
   entry-line = g .loose .helds;
   waiter-asked = g .loose .asked;
-  waiter-stuck = λ p f i u. canGive-is b p f ∙ g .stuck p f i u;
+  waiter-stuck = λ p i f u. canGive-is b p f ∙ g .stuck p i f u;
   favoured-waits = g .loose .fav-waits;
   nobody-favoured = λ d. let (x, y) = g .loose .nobody d in (g .free d, x, y);
   favoured-count = λ n. let (x, y) = g .loose .count n in (ap (λ l. b .leaves + length l) (admitted-is b) ∙ x, y);
-  count-most = g .counts .most;
-  count-rest = g .counts .rest;
+  count-most = g .counts .counted .most;
+  count-rest = g .counts .counted .rest;
+  item-own = g .counts .records .own;
+  uses-differ = g .counts .records .differ;
+  awaited-used = λ p f r i w. in-use (b .programs) p f r (g .counts .records) i w;
 }
   where
     own : (p : ℕ) → Is p → Own (at b p)
@@ -409,8 +512,16 @@ sound-good b z s = record {
     count = λ n. let (x, y) = s .favoured-count n in (ap (λ l. b .leaves + length l) (sym (admitted-is b)) ∙ x, y);
     nobody = λ d. let (_, x, y) = s .nobody-favoured d in (x, y);
   };
-  counts = record { most = s .count-most; rest = s .count-rest };
-  stuck = λ p f i u. sym (canGive-is b p f) ∙ s .waiter-stuck p f i u;
+  counts = record {
+    counted = record { most = s .count-most; rest = s .count-rest };
+    records = record {
+      own = s .item-own;
+      differ = s .uses-differ;
+      kept = λ i f r c w. inr (s .awaited-used i f r c w);
+      free = λ i c u. uses-none (at b i) 0 u;
+    };
+  };
+  stuck = λ p i f u. sym (canGive-is b p f) ∙ s .waiter-stuck p i f u;
   free = λ d. s .nobody-favoured d .0;
 }
 
@@ -421,10 +532,10 @@ loose-apart b k = of-conflict b (k .base .apart)
 pub loose-order : (b : Board) → Loose b → found (carried b) ≡ true
 loose-order b k = let (o, c) = k .base .order in of-order b o (subst (λ l. IsOrder (holdsOn b) l o) (sym (admitted-is b)) c)
 
-pub loose-waiter : (b : Board) (p : ℕ) → Loose b → Is p → isWaiting (at b p .standing) ≡ true
+pub loose-waiter : (b : Board) (p : ℕ) → Loose b → Is p → isWaiting (at b p .standing) ≡ true → at b p .item ≡ 0
     → (isAdmitted (at b p .standing) ≡ true) × (hasOpen (at b p) (awaited b p) ≡ false)
-loose-waiter b p k i w = let (f, d) = waiting-file (at b p .standing) w in
-    (waiting-in (at b p .standing) w, ap (λ s. hasOpen (at b p) (awaitedOf s)) d ∙ k .asked p f i d .shut)
+loose-waiter b p k i w z = let (f, d) = waiting-file (at b p .standing) w in
+    (waiting-in (at b p .standing) w, ap (λ s. hasOpen (at b p) (awaitedOf s)) d ∙ k .asked p i f (d, z) .shut)
 
 -- Every call, accepted or refused, keeps a board sound, and with 32 programs.
 pub sound-kept : (b : Board) (c : Call) → Sized (b .programs) → sound b ≡ true

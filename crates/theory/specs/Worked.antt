@@ -3,14 +3,15 @@
 use Prim.Native.Nat.{ℕ, _≤_, _+_}
 use native.Mathlib.Omega.{arith}
 use mathlib.Core.Path.{_≡_, refl, sym, _∙_, ap, ap₂, subst}
-use mathlib.Core.Logic.{_≢_}
+use mathlib.Core.Logic.{_≢_, _⊎_, inl, inr, ⊎-elim}
 use mathlib.Core.Bool.{Bool, true, false, not, _&&_}
 use mathlib.Core.Option.{some, Option·getD}
 use mathlib.Core.List.{List, [], _∷_, _++_, List·Memᴰ·not-nil, List·Memᴰ·eq-of-singleton}
 use lib.Dec.{eqb}
+use borrow.Author.Tests.{eqb-true, eqb-false}
 use lib.ListN.{length}
 use Rattle.laws.specs.Tests.{by-test, by-option, never}
-use Rattle.files.specs.Sets.{isFile}
+use Rattle.files.specs.Sets.{isFile, member}
 use Rattle.rules.specs.Modes.{touching, claimsMeet}
 use Rattle.rules.specs.declared.Standing.{Standing}
 use Rattle.rules.specs.declared.Board.{Board}
@@ -20,19 +21,20 @@ use Rattle.rules.specs.declared.Answer.{Answer}
 use Rattle.rules.specs.declared.Line.{Line}
 use Rattle.rules.specs.declared.Reply.{Reply}
 use Rattle.laws.specs.Lists.{any, all, keep, first, padded, rising, listed, distinct, without, same, names}
-use Rattle.rules.specs.Boards.{isAbsent, isWaiting, isProgram, emptyBoard, everyone, at, admitted, claims, hasOpen}
-use Rattle.rules.specs.Orders.{heldBack, carriedFrom, carried, withGiven, inUse, safe, canGive}
+use Rattle.rules.specs.Boards.{isAdmitted, isAbsent, isWaiting, isProgram, emptyBoard, everyone, at, admitted, claims, hasOpen}
+use Rattle.rules.specs.Orders.{heldBack, carriedFrom, carried, withGiven, inUse, safe, canGive, taken}
 use Rattle.rules.specs.Soundness.{setsSound, standingSound, programSound, noConflict, lineSound, waiterSound, noneFavoured, someFavoured}
-use Rattle.rules.specs.Soundness.{countSound, sound}
+use Rattle.rules.specs.Soundness.{mayHave, itemSound, usesDiffer, awaitedInUse, countSound, sound}
 use Rattle.rules.specs.Replies.{refused, blank, reply, refuse, linesOf, orderOf, number}
-use Rattle.rules.specs.Checks.{refuseIf, unlessRunning, unlessStopped, enterCheck, openCheck, closeCheck, leaveCheck, cancelCheck}
+use Rattle.rules.specs.Checks.{refuseIf, unlessRunning, unlessStopped, enterCheck, openCheck, closeCheck, leaveCheck, cancelCheck, isRecord, fetchCheck, returnCheck}
 use Rattle.rules.specs.Calls.{enter, openFile, done, closeFile, dropFile, leave, Call, Enter, Open, Close, Drop, Leave, checked, accepted}
-use Rattle.rules.specs.Calls.{holdFor, Cancel, cancel, apply, direct}
+use Rattle.rules.specs.Calls.{holdFor, Cancel, cancel, Fetch, fetch, Return, returnItem, finish, apply, direct}
 use Rattle.rules.specs.Settling.{overdue}
 use Rattle.rules.specs.Worked.{workedFrom, worked, repliesFrom, directFrom}
 use Rattle.laws.specs.Laws.{_∈_, by-mem, here, no-longer, length-rising}
 use Rattle.theory.specs.Order.{IsOrder}
 use Rattle.theory.specs.Programs.{Is, mem-everyone, holds, ins, ins-mem, mem-ins, admitted-is, first-can}
+use Rattle.theory.specs.Records.{Uses, Wants, in-use}
 use Rattle.theory.specs.Loose.{stands, waitsIn, waiting-file, waiting-in, Good}
 use Rattle.theory.specs.Calls.{take-padded, by-check, apply-accepted, apply-refused, apply-stepped}
 use Rattle.theory.specs.Carried.{holdsOn, CompletionOrder, carried-sound, carried-complete}
@@ -44,7 +46,8 @@ empty-sound : sound emptyBoard ≡ true
 unfolding any all keep first padded rising listed distinct without same names
     everyone admitted touching
     heldBack carriedFrom carried withGiven inUse safe canGive
-    setsSound standingSound programSound noConflict lineSound waiterSound noneFavoured someFavoured countSound sound
+    setsSound standingSound mayHave itemSound programSound noConflict lineSound waiterSound usesDiffer awaitedInUse noneFavoured someFavoured
+    countSound sound
 empty-sound = refl
 
 pub empty-good : Good emptyBoard
@@ -109,7 +112,7 @@ unfolding refuse reply
 passed-of b c e = by-check (checked b c) (λ u. u)
     (λ r u. never {t = true} refl (sym (ap (λ (q : Reply). refused (q .answer)) (apply-refused b c r u)) ∙ e))
 
--- Whatever a call is refused for by its own checks, it is one of the refusals 8 to 16 and 18.
+-- Whatever a call is refused for by its own checks, it is one of the refusals 8 to 16 and 18 to 21.
 if-number : (t : Bool) (r : Refusal) (k : Check) → 8 ≤ number r → ((q : Refusal) → k ≡ Check.Failed q → 8 ≤ number q)
     → (q : Refusal) → refuseIf t r k ≡ Check.Failed q → 8 ≤ number q
 if-number true r k n f q e = subst (λ z. 8 ≤ number z) (let d : r ≡ q = cc in d) n
@@ -137,20 +140,22 @@ unfolding openCheck
 open-number b p f =
     if-number (not (isProgram p && isFile f)) Refusal.OutOfRange _ (omega arith)
     (running-number (at b p .standing) _
+    (if-number (not (eqb (at b p .item) 0)) Refusal.HasRecord _ (omega arith)
     (if-number (not (claims (at b p) f)) Refusal.NotClaimed _ (omega arith)
-    (if-number (hasOpen (at b p) f) Refusal.IsOpen Check.Passed (omega arith) passed-number)))
+    (if-number (hasOpen (at b p) f) Refusal.IsOpen Check.Passed (omega arith) passed-number))))
 
 pub checked-number : (b : Board) (c : Call) (q : Refusal) → checked b c ≡ Check.Failed q → 8 ≤ number q
-unfolding enterCheck closeCheck leaveCheck cancelCheck
-checked-number b (Enter p v r) =
+unfolding enterCheck closeCheck leaveCheck cancelCheck fetchCheck returnCheck
+checked-number b (Enter p v r j) =
     if-number (not (isProgram p)) Refusal.OutOfRange _ (omega arith)
     (if-number (not (isAbsent (at b p .standing))) Refusal.NotAbsent _ (omega arith)
-    (if-number (claimsMeet v r) Refusal.ClaimsMeet Check.Passed (omega arith) passed-number))
+    (if-number (claimsMeet v r j) Refusal.ClaimsMeet Check.Passed (omega arith) passed-number))
 checked-number b (Open p f) = open-number b p f
 checked-number b (Close p f) =
     if-number (not (isProgram p && isFile f)) Refusal.OutOfRange _ (omega arith)
     (running-number (at b p .standing) _
-    (if-number (not (hasOpen (at b p) f)) Refusal.NotOpen Check.Passed (omega arith) passed-number))
+    (if-number (not (eqb (at b p .item) 0)) Refusal.HasRecord _ (omega arith)
+    (if-number (not (hasOpen (at b p) f)) Refusal.NotOpen Check.Passed (omega arith) passed-number)))
 checked-number b (Drop p f) = open-number b p f
 checked-number b (Leave p) =
     if-number (not (isProgram p)) Refusal.OutOfRange _ (omega arith)
@@ -158,18 +163,30 @@ checked-number b (Leave p) =
 checked-number b (Cancel p) =
     if-number (not (isProgram p)) Refusal.OutOfRange _ (omega arith)
     (stopped-number (at b p .standing) Check.Passed passed-number)
+checked-number b (Fetch p f r) =
+    if-number (not (isProgram p && isFile f)) Refusal.OutOfRange _ (omega arith)
+    (if-number (not (isRecord r)) Refusal.BadRecord _ (omega arith)
+    (running-number (at b p .standing) _
+    (if-number (not (eqb (at b p .item) 0)) Refusal.HasRecord _ (omega arith)
+    (if-number (not (member (at b p .inquiring) f)) Refusal.NoRecord Check.Passed (omega arith) passed-number))))
+checked-number b (Return p) =
+    if-number (not (isProgram p)) Refusal.OutOfRange _ (omega arith)
+    (running-number (at b p .standing) _
+    (if-number (eqb (at b p .item) 0) Refusal.NoRecord Check.Passed (omega arith) passed-number))
 
 -- What an accepted call answers is no refusal.
 pub accepted-answer : (b : Board) (c : Call) → refused (accepted b c .answer) ≡ false
-unfolding enter holdFor openFile closeFile dropFile leave cancel done reply
-accepted-answer b (Enter p v q) = by-test (eqb (b .favoured) 0) (λ t. by-option (overdue b) (λ u. rw (t, u)) (λ w u. rw (t, u))) (λ t. rw t)
+unfolding enter holdFor openFile closeFile dropFile leave cancel done finish fetch returnItem reply
+accepted-answer b (Enter p v q j) = by-test (eqb (b .favoured) 0) (λ t. by-option (overdue b) (λ u. rw (t, u)) (λ w u. rw (t, u))) (λ t. rw t)
 accepted-answer b (Open p f) = by-test (inUse b p f) (λ t. rw t) (λ t. by-test (safe b p f) (λ u. rw (t, u)) (λ u. rw (t, u)))
 accepted-answer b (Close p f) = refl
 accepted-answer b (Drop p f) = refl
 accepted-answer b (Leave p) = refl
 accepted-answer b (Cancel p) = refl
+accepted-answer b (Fetch p f r) = by-test (taken b p f r) (λ t. rw t) (λ t. rw t)
+accepted-answer b (Return p) = refl
 
--- Applied by the rules, a call is refused with 8 to 16 or 18 only.
+-- Applied by the rules, a call is refused with 8 to 16 or 18 to 21 only.
 pub apply-number : (b : Board) (c : Call) (q : Refusal) → apply b c .answer ≡ Answer.Refuse q → 8 ≤ number q
 unfolding refuse reply
 apply-number b c q e = by-check (checked b c)
@@ -199,8 +216,8 @@ unfolding reply
 made b a ls = record { its-lines = ls; is = refl }
 
 accepted-reply : (b : Board) (c : Call) → IsReply (accepted b c)
-unfolding enter holdFor openFile closeFile dropFile leave cancel done
-accepted-reply b (Enter p v q) = by-test (eqb (b .favoured) 0) (λ t. by-option (overdue b) (λ u. rw (t, u) (made _ _ _))
+unfolding enter holdFor openFile closeFile dropFile leave cancel done finish fetch returnItem
+accepted-reply b (Enter p v q j) = by-test (eqb (b .favoured) 0) (λ t. by-option (overdue b) (λ u. rw (t, u) (made _ _ _))
     (λ w u. rw (t, u) (made _ _ _))) (λ t. rw t (made _ _ _))
 accepted-reply b (Open p f) = by-test (inUse b p f) (λ t. rw t (made _ _ _)) (λ t. by-test (safe b p f)
     (λ u. rw (t, u) (made _ _ _)) (λ u. rw (t, u) (made _ _ _)))
@@ -208,6 +225,8 @@ accepted-reply b (Close p f) = made _ _ _
 accepted-reply b (Drop p f) = made _ _ _
 accepted-reply b (Leave p) = made _ _ _
 accepted-reply b (Cancel p) = made _ _ _
+accepted-reply b (Fetch p f r) = by-test (taken b p f r) (λ t. rw t (made _ _ _)) (λ t. rw t (made _ _ _))
+accepted-reply b (Return p) = made _ _ _
 
 pub apply-reply : (b : Board) (c : Call) → IsReply (apply b c)
 unfolding refuse
@@ -268,10 +287,25 @@ apply-fits b c g =
 
 -- ── The favoured program ──
 
--- The first of an order is not waiting.
-pub first-runs : (b : Board) (p : ℕ) (o : List ℕ) → Good b → IsOrder (holdsOn b) (admitted b) (p ∷ o) → isWaiting (at b p .standing) ≡ false
+-- p awaits a record whose user is running.
+pub record AwaitsInUse (b : Board) (p : ℕ) : Type 0 where
+  pub file : ℕ
+  pub item : ℕ
+  pub user : ℕ
+  pub is : Is user
+  pub wanted : Wants (at b p) file item
+  pub used : Uses (at b user) file item
+
+-- The first of an order is not waiting, or it awaits a record whose user is running.
+pub first-runs : (b : Board) (p : ℕ) (o : List ℕ) → Good b → IsOrder (holdsOn b) (admitted b) (p ∷ o)
+    → (isWaiting (at b p .standing) ≡ false) ⊎ AwaitsInUse b p
 first-runs b p o g r = by-test (isWaiting (at b p .standing)) (λ t. let (f, e) = waiting-file (at b p .standing) t in
-    never (first-can (b .programs) p f o (g .loose .base) i r′ (g .loose .asked p f i e .claimed)) (g .stuck p f i e)) (λ t. t)
+    by-test (eqb (at b p .item) 0)
+    (λ z. let d = eqb-true (at b p .item) 0 z in
+    never (first-can (b .programs) p f o (g .loose .base) i r′ (g .loose .asked p i f (e, d) .claimed)) (g .stuck p i f (e, d)))
+    (λ z. let w : Wants (at b p) (at b p .file) (at b p .item) = (t, eqb-false (at b p .item) 0 z, refl, refl) in
+    let (j, c, u) = in-use (b .programs) p (at b p .file) (at b p .item) (g .counts .records) i w in
+    inr (record { file = at b p .file; item = at b p .item; user = j; is = c; wanted = w; used = u }))) inl
   where
     r′ : IsOrder (holds (b .programs)) (ins (b .programs)) (p ∷ o)
     r′ = subst (λ l. IsOrder (holdsOn b) l (p ∷ o)) (admitted-is b) r
@@ -284,7 +318,7 @@ two-members [] a b m k n = absurd (List·Memᴰ·not-nil m)
 two-members (x ∷ []) a b m k n = absurd (n (List·Memᴰ·eq-of-singleton m ∙ sym (List·Memᴰ·eq-of-singleton k)))
 two-members (x ∷ y ∷ l) a b m k n = omega arith
 
--- Where a program waits, two are admitted: it, and the first of an order.
+-- Where a program waits, two are admitted: it, and the first of an order or the user of the record that it waits for.
 pub waiter-bound : (b : Board) (p : ℕ) → Good b → Is p → waitsIn (b .programs) p ≡ true → 2 ≤ length (ins (b .programs))
 waiter-bound b p g c w = go (g .loose .base .order .0) (g .loose .base .order .1)
   where
@@ -295,7 +329,11 @@ waiter-bound b p g c w = go (g .loose .base .order .0) (g .loose .base .order .1
     go [] i = absurd (List·Memᴰ·not-nil (i .all p m))
     go (q ∷ o) i =
         let r = first-runs b q o g (subst (λ l. IsOrder (holdsOn b) l (q ∷ o)) (sym (admitted-is b)) i) in
-        two-members (ins (b .programs)) p q m (i .only q here) (λ d. never w (ap (waitsIn (b .programs)) d ∙ r))
+        by-test (eqb p q)
+        (λ t. let d = eqb-true p q t in ⊎-elim (λ u. never w (ap (waitsIn (b .programs)) d ∙ u))
+        (λ (u : AwaitsInUse b q). two-members (ins (b .programs)) p (u .user) m (mem-ins (b .programs) (u .user) (u .is)
+        (ap isAdmitted (u .used .0))) (λ e. never {t = false} (sym (ap isWaiting (u .used .0)) ∙ ap (waitsIn (b .programs)) (sym e) ∙ w) refl)) r)
+        (λ t. two-members (ins (b .programs)) p q m (i .only q here) (eqb-false p q t))
 
 -- While somebody is favoured, fewer programs have left than were admitted, by at least two.
 pub favoured-bound : (b : Board) → Good b → b .favoured ≢ 0 → b .leaves + 2 ≤ b .initial
