@@ -22,9 +22,9 @@ word-number Word.Done = refl
 word-number Word.Favour = refl
 word-number Word.Refuse = refl
 
--- the line in a line's bytes is that line
+-- the line in a line's numbers is that line
 pub line-entry : (l : Line) → lineIn (entryOf l) ≡ l
-line-entry l = ap (λ (w : Word). record { word = w; program = l .program; file = l .file; refusal = l .refusal }) (word-number (l .word))
+line-entry l = ap (λ (w : Word). record { word = w; program = l .program; file = l .file; refusal = l .refusal; item = l .item }) (word-number (l .word))
 
 -- a map of a list with one element changed
 map-set : {A B : Type 0} (f : A → B) (xs : List A) (k : ℕ) (x : A) → map f (set xs k x) ≡ set (map f xs) k (f x)
@@ -40,12 +40,12 @@ pub length-lines : (e : Entries) → length (linesIn e) ≡ length e
 length-lines e = length-map e lineIn
 
 pub entries-set : (e : Entries) (k : ℕ) (l : Line) → IsEntries e → IsEntries (set e k (entryOf l))
-entries-set e k l i = put-in 32 4 e k (entryOf l) i refl
+entries-set e k l i = put-in 32 5 e k (entryOf l) i refl
 
 -- ---- the array of no lines
 
 pub fresh-entries : IsEntries noEntries
-fresh-entries = fresh-table 32 4
+fresh-entries = fresh-table 32 5
 
 pub no-lines : linesIn noEntries ≡ replicate 32 blank
 no-lines = refl

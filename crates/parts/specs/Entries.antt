@@ -1,4 +1,4 @@
--- A journal line as four bytes (the number of its word, program, file, refusal), and the array of the lines of a call, which is lent.
+-- A journal line as five numbers (that of its word, program, file, refusal, record), and the array of the lines of a call, which is lent.
 -- Assumes nothing.
 use Prim.Native.Nat.{ℕ}
 use mathlib.Core.List.{List, [], _∷_, map}
@@ -30,22 +30,22 @@ wordNumbered n = getD words n Word.Refuse
 
 -- ---- lines
 
--- a line as four bytes
+-- a line as five numbers
 abbrev pub entryOf : Line → List ℕ
-entryOf l = wordNumber (l .word) ∷ l .program ∷ l .file ∷ l .refusal ∷ []
+entryOf l = wordNumber (l .word) ∷ l .program ∷ l .file ∷ l .refusal ∷ l .item ∷ []
 
--- the line in four bytes
+-- the line in five numbers
 abbrev pub lineIn : List ℕ → Line
-lineIn e = record { word = wordNumbered (getD e 0 0); program = getD e 1 0; file = getD e 2 0; refusal = getD e 3 0 }
+lineIn e = record { word = wordNumbered (getD e 0 0); program = getD e 1 0; file = getD e 2 0; refusal = getD e 3 0; item = getD e 4 0 }
 
 -- ---- the array of a call's lines
 
 abbrev pub Entries : Type 0
 Entries = List (List ℕ)
 
--- 32 places, and four bytes in each
+-- 32 places, and five numbers in each
 abbrev pub IsEntries : Entries → Type 0
-IsEntries e = IsTable 32 4 e
+IsEntries e = IsTable 32 5 e
 
 -- the lines in it
 abbrev pub linesIn : Entries → List Line
@@ -53,4 +53,4 @@ linesIn e = map lineIn e
 
 -- zeros in all places
 abbrev pub noEntries : Entries
-noEntries = replicate 32 (replicate 4 0)
+noEntries = replicate 32 (replicate 5 0)

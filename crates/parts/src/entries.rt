@@ -1,11 +1,11 @@
-// A journal line as four bytes, as it stands in the lent array of a call's lines.
+// A journal line as five numbers, as it stands in the lent array of a call's lines.
 use rules::Line;
 use rules::Word;
 ghost use mathlib.Core.Path.{_≡_};
 ghost use Rattle.parts.specs.Entries.{wordNumber, wordNumbered, entryOf, lineIn};
 
 // The number of a word.
-fn word_number(w: Word) -> u8
+fn word_number(w: Word) -> u16
     ensures { λ r. ⌜ r ≡ wordNumber w ⌝ }
 {
     match w {
@@ -21,7 +21,7 @@ fn word_number(w: Word) -> u8
 }
 
 // The word with a number: REFUSE from 7 on.
-fn word_numbered(n: u8) -> Word
+fn word_numbered(n: u16) -> Word
     ensures { λ r. ⌜ r ≡ wordNumbered n ⌝ }
 {
     match n {
@@ -36,17 +36,17 @@ fn word_numbered(n: u8) -> Word
     }
 }
 
-// The bytes of a line: the number of its word, program, file, refusal.
-pub fn entry_of(l: Line) -> [u8; 4]
+// The numbers of a line: that of its word, program, file, refusal, record.
+pub fn entry_of(l: Line) -> [u16; 5]
     ensures { λ r. ⌜ r ≡ entryOf l ⌝ }
 {
     let word = l.word;
     let n = word_number(word);
-    [n, l.program, l.file, l.refusal]
+    [n, l.program, l.file, l.refusal, l.item]
 }
 
-// The line in four bytes.
-pub fn line_in(e: [u8; 4]) -> Line
+// The line in five numbers.
+pub fn line_in(e: [u16; 5]) -> Line
     ensures { λ r. ⌜ r ≡ lineIn e ⌝ }
 {
     let word = word_numbered(e[0]);
@@ -55,5 +55,6 @@ pub fn line_in(e: [u8; 4]) -> Line
         program: e[1],
         file: e[2],
         refusal: e[3],
+        item: e[4],
     }
 }

@@ -26,6 +26,9 @@ pub fn number(r: Refusal) -> u8
         Refusal::IsOpen => 15,
         Refusal::NotOpen => 16,
         Refusal::IsRunning => 18,
+        Refusal::BadRecord => 19,
+        Refusal::NoRecord => 20,
+        Refusal::HasRecord => 21,
     }
 }
 

@@ -25,8 +25,9 @@ use Rattle.request.specs.declared.Request.{Request}
 use Rattle.request.specs.declared.Group.{Group}
 use Rattle.request.specs.declared.Beginning.{Beginning}
 use Rattle.request.specs.declared.Shape.{Shape}
-use Rattle.request.specs.Verbs.{verbs, verbColumns, shapeOf, aloneLength, fileLength, filesAt, entryLength}
-use Rattle.request.specs.Requests.{refused, taken, begins, fileIn, programField, fileField, wField, rField, labelByte, labelPart}
+use Rattle.request.specs.Verbs.{verbs, verbColumns, shapeOf, aloneLength, fileLength, recordLength, filesAt, entryLength}
+use Rattle.request.specs.Requests.{refused, taken, begins, fileIn, programField, fileField, wField, rField, jField, labelByte, labelPart}
+use Rattle.request.specs.Requests.{recordField, recordLine}
 use Rattle.request.specs.Requests.{filesIn, risesFrom, addingAll, entryFiles, entryCounts, entryLine, fileLine, aloneLine, readAs}
 use Rattle.request.specs.Requests.{verbOf, begun, requestOf, hasLabel, isEntry}
 use Rattle.request.proofs.Verbs.{verb-length}
@@ -184,57 +185,80 @@ group-some (suc n) l g fs h =
       files = i .files;
     })))
 
-both : {A : Type 0} (a b : Bool) (x y : A) → cond (a && b) x y ≡ cond a (cond b x y) y
-both true b x y = refl
-both false b x y = refl
+all-three : {A : Type 0} (a b c : Bool) (x y : A) → cond (a && b && c) x y ≡ cond a (cond b (cond c x y) y) y
+all-three true true c x y = refl
+all-three true false c x y = refl
+all-three false b c x y = refl
 
 -- ---- ENTER by the groups that the code reads
 
-abbrev pub enterBy : Verb → Group → Group → ℕ → Request
-enterBy k v q p =
-    cond (v .good) (cond (q .good) (cond (v .rising) (cond (q .rising) (taken k p 0 (v .files) (q .files))
-    (refused Refusal.NotRising)) (refused Refusal.NotRising)) (refused Refusal.BadNumber))
-    (refused Refusal.BadNumber)
+abbrev pub enterBy : Verb → Group → Group → Group → ℕ → Request
+enterBy k v q j p =
+    cond (v .good) (cond (q .good) (cond (j .good) (cond (v .rising) (cond (q .rising) (cond (j .rising)
+    (taken k p 0 0 (v .files) (q .files) (j .files))
+    (refused Refusal.NotRising)) (refused Refusal.NotRising)) (refused Refusal.NotRising)) (refused Refusal.BadNumber))
+    (refused Refusal.BadNumber)) (refused Refusal.BadNumber)
 
-module _ (k : Verb) (v q : Group) (p : ℕ) where
-  pub v-bad : v .good ≡ false → enterBy k v q p ≡ refused Refusal.BadNumber
+-- the numbers of all three groups are files
+abbrev pub AllFiles : Group → Group → Group → Type 0
+AllFiles v q j = (v .good ≡ true) × (q .good ≡ true) × (j .good ≡ true)
+
+module _ (k : Verb) (v q j : Group) (p : ℕ) where
+  pub v-bad : v .good ≡ false → enterBy k v q j p ≡ refused Refusal.BadNumber
   v-bad e = rw e
 
-  pub q-bad : v .good ≡ true → q .good ≡ false → enterBy k v q p ≡ refused Refusal.BadNumber
+  pub q-bad : v .good ≡ true → q .good ≡ false → enterBy k v q j p ≡ refused Refusal.BadNumber
   q-bad e d = rw (e, d)
 
-  pub v-falls : v .good ≡ true → q .good ≡ true → v .rising ≡ false → enterBy k v q p ≡ refused Refusal.NotRising
-  v-falls e d h = rw (e, d, h)
+  pub j-bad : v .good ≡ true → q .good ≡ true → j .good ≡ false → enterBy k v q j p ≡ refused Refusal.BadNumber
+  j-bad e d c = rw (e, d, c)
 
-  pub q-falls : v .good ≡ true → q .good ≡ true → v .rising ≡ true → q .rising ≡ false → enterBy k v q p ≡ refused Refusal.NotRising
-  q-falls e d h i = rw (e, d, h, i)
+  pub v-falls : AllFiles v q j → v .rising ≡ false → enterBy k v q j p ≡ refused Refusal.NotRising
+  v-falls (e, d, c) h = rw (e, d, c, h)
 
-  pub both-good : v .good ≡ true → q .good ≡ true → v .rising ≡ true → q .rising ≡ true
-      → enterBy k v q p ≡ taken k p 0 (v .files) (q .files)
-  both-good e d h i = rw (e, d, h, i)
+  pub q-falls : AllFiles v q j → v .rising ≡ true → q .rising ≡ false → enterBy k v q j p ≡ refused Refusal.NotRising
+  q-falls (e, d, c) h i = rw (e, d, c, h, i)
 
-pub enter-by : (k : Verb) (l : List ℕ) (p w r : ℕ)
-    → entryFiles k l p w r ≡ enterBy k (groupFrom w (drop filesAt l) noGroup) (groupFrom r (drop (entryLength w) l) noGroup) p
+  pub j-falls : AllFiles v q j → v .rising ≡ true → q .rising ≡ true → j .rising ≡ false → enterBy k v q j p ≡ refused Refusal.NotRising
+  j-falls (e, d, c) h i m = rw (e, d, c, h, i, m)
+
+  pub all-good : AllFiles v q j → v .rising ≡ true → q .rising ≡ true → j .rising ≡ true
+      → enterBy k v q j p ≡ taken k p 0 0 (v .files) (q .files) (j .files)
+  all-good (e, d, c) h i m = rw (e, d, c, h, i, m)
+
+pub enter-by : (k : Verb) (l : List ℕ) (p w r j : ℕ)
+    → entryFiles k l p w r j
+    ≡ enterBy k (groupFrom w (drop filesAt l) noGroup) (groupFrom r (drop (entryLength w) l) noGroup)
+    (groupFrom j (drop (entryLength (w + r)) l) noGroup) p
 unfolding entryFiles
-enter-by k l p w r =
+enter-by k l p w r j =
     by-option (filesIn w (drop filesAt l)) (λ e. rw (e, group-none w (drop filesAt l) noGroup e))
     (λ vs e.
     let v = group-some w (drop filesAt l) noGroup vs e in
     by-option (filesIn r (drop (entryLength w) l)) (λ d. rw (e, d, v .good, group-none r (drop (entryLength w) l) noGroup d))
     (λ qs d.
     let q = group-some r (drop (entryLength w) l) noGroup qs d in
+    by-option (filesIn j (drop (entryLength (w + r)) l))
+    (λ c. rw (e, d, c, v .good, q .good, group-none j (drop (entryLength (w + r)) l) noGroup c))
+    (λ js c.
+    let i = group-some j (drop (entryLength (w + r)) l) noGroup js c in
     rw (
       e,
       d,
+      c,
       v .good,
       q .good,
+      i .good,
       v .rising,
       q .rising,
+      i .rising,
       v .files,
       q .files,
+      i .files,
       and-true (risesFrom 0 vs),
       and-true (risesFrom 0 qs),
-    ) (both (risesFrom 0 vs) (risesFrom 0 qs) _ _)))
+      and-true (risesFrom 0 js),
+    ) (all-three (risesFrom 0 vs) (risesFrom 0 qs) (risesFrom 0 js) _ _))))
 
 -- ---- each result of the readers
 
@@ -247,15 +271,20 @@ module _ (v : Verb) (l : List ℕ) where
   unfolding entryCounts
   counts-r p w e d = rw (e, d)
 
-  pub counts-length : (p w r : ℕ) → wField l ≡ Field.Number w → rField l ≡ Field.Number r
-      → (length l ≡ entryLength (w + r) → ⊥) → entryCounts v l p ≡ refused Refusal.BadLength
+  pub counts-j : (p w r : ℕ) → wField l ≡ Field.Number w → rField l ≡ Field.Number r → jField l ≡ Field.Bad
+      → entryCounts v l p ≡ refused Refusal.BadNumber
   unfolding entryCounts
-  counts-length p w r e d n = rw (e, d, ne-eqb (length l) (entryLength (w + r)) n)
+  counts-j p w r e d c = rw (e, d, c)
 
-  pub counts-good : (p w r : ℕ) → wField l ≡ Field.Number w → rField l ≡ Field.Number r
-      → length l ≡ entryLength (w + r) → entryCounts v l p ≡ entryFiles v l p w r
+  pub counts-length : (p w r j : ℕ) → wField l ≡ Field.Number w → rField l ≡ Field.Number r → jField l ≡ Field.Number j
+      → (length l ≡ entryLength (w + r + j) → ⊥) → entryCounts v l p ≡ refused Refusal.BadLength
   unfolding entryCounts
-  counts-good p w r e d n = rw (e, d, eq-eqb (length l) (entryLength (w + r)) n)
+  counts-length p w r j e d c n = rw (e, d, c, ne-eqb (length l) (entryLength (w + r + j)) n)
+
+  pub counts-good : (p w r j : ℕ) → wField l ≡ Field.Number w → rField l ≡ Field.Number r → jField l ≡ Field.Number j
+      → length l ≡ entryLength (w + r + j) → entryCounts v l p ≡ entryFiles v l p w r j
+  unfolding entryCounts
+  counts-good p w r j e d c n = rw (e, d, c, eq-eqb (length l) (entryLength (w + r + j)) n)
 
   pub entry-short : length l < filesAt → entryLine v l ≡ refused Refusal.BadLength
   unfolding entryLine
@@ -289,9 +318,32 @@ module _ (v : Verb) (l : List ℕ) where
   file-file p n e d = rw (eq-eqb (length l) fileLength n, e, d)
 
   pub file-good : (p f : ℕ) → length l ≡ fileLength → programField l ≡ Field.Number p → fileField l ≡ Field.Number f
-      → fileLine v l ≡ taken v p f noFiles noFiles
+      → fileLine v l ≡ taken v p f 0 noFiles noFiles noFiles
   unfolding fileLine
   file-good p f n e d = rw (eq-eqb (length l) fileLength n, e, d)
+
+  pub record-length : (length l ≡ recordLength → ⊥) → recordLine v l ≡ refused Refusal.BadLength
+  unfolding recordLine
+  record-length n = rw (ne-eqb (length l) recordLength n)
+
+  pub record-program : length l ≡ recordLength → programField l ≡ Field.Bad → recordLine v l ≡ refused Refusal.BadNumber
+  unfolding recordLine
+  record-program n e = rw (eq-eqb (length l) recordLength n, e)
+
+  pub record-file : (p : ℕ) → length l ≡ recordLength → programField l ≡ Field.Number p → fileField l ≡ Field.Bad
+      → recordLine v l ≡ refused Refusal.BadNumber
+  unfolding recordLine
+  record-file p n e d = rw (eq-eqb (length l) recordLength n, e, d)
+
+  pub record-record : (p f : ℕ) → length l ≡ recordLength → programField l ≡ Field.Number p → fileField l ≡ Field.Number f
+      → recordField l ≡ Field.Bad → recordLine v l ≡ refused Refusal.BadNumber
+  unfolding recordLine
+  record-record p f n e d c = rw (eq-eqb (length l) recordLength n, e, d, c)
+
+  pub record-good : (p f m : ℕ) → length l ≡ recordLength → programField l ≡ Field.Number p → fileField l ≡ Field.Number f
+      → recordField l ≡ Field.Number m → recordLine v l ≡ taken v p f m noFiles noFiles noFiles
+  unfolding recordLine
+  record-good p f m n e d c = rw (eq-eqb (length l) recordLength n, e, d, c)
 
   pub alone-length : (length l ≡ aloneLength → ⊥) → aloneLine v l ≡ refused Refusal.BadLength
   unfolding aloneLine
@@ -301,7 +353,7 @@ module _ (v : Verb) (l : List ℕ) where
   unfolding aloneLine
   alone-program n e = rw (eq-eqb (length l) aloneLength n, e)
 
-  pub alone-good : (p : ℕ) → length l ≡ aloneLength → programField l ≡ Field.Number p → aloneLine v l ≡ taken v p 0 noFiles noFiles
+  pub alone-good : (p : ℕ) → length l ≡ aloneLength → programField l ≡ Field.Number p → aloneLine v l ≡ taken v p 0 0 noFiles noFiles noFiles
   unfolding aloneLine
   alone-good p n e = rw (eq-eqb (length l) aloneLength n, e)
 
@@ -337,6 +389,15 @@ file-entry v l h =
     field-cases (fileField l) (λ k. rw (e, d, k)) (λ f k. rw (e, d, k) h)))
     (λ e. rw e)
 
+record-entry : (v : Verb) (l : List ℕ) → hasLabel (shapeOf v) ≡ false → isEntry (recordLine v l) ≡ false
+unfolding recordLine
+record-entry v l h =
+    by-test (eqb (length l) recordLength)
+    (λ e. field-cases (programField l) (λ d. rw (e, d)) (λ p d.
+    field-cases (fileField l) (λ k. rw (e, d, k)) (λ f k.
+    field-cases (recordField l) (λ m. rw (e, d, k, m)) (λ n m. rw (e, d, k, m) h))))
+    (λ e. rw e)
+
 alone-entry : (v : Verb) (l : List ℕ) → hasLabel (shapeOf v) ≡ false → isEntry (aloneLine v l) ≡ false
 unfolding aloneLine
 alone-entry v l h = by-test (eqb (length l) aloneLength) (λ e. field-cases (programField l) (λ d. rw (e, d)) (λ p d. rw (e, d) h)) (λ e. rw e)
@@ -348,6 +409,7 @@ enter-entry v l h = by-test (ltb (length l) filesAt) (λ e. never (rw e at h) re
 entry-as : (s : Shape) (v : Verb) (l : List ℕ) → shapeOf v ≡ s → isEntry (readAs s v l) ≡ true → filesAt ≤ length l
 entry-as Shape.Entry v l e h = enter-entry v l h
 entry-as Shape.File v l e h = never h (file-entry v l (ap hasLabel e))
+entry-as Shape.Record v l e h = never h (record-entry v l (ap hasLabel e))
 entry-as Shape.Alone v l e h = never h (alone-entry v l (ap hasLabel e))
 
 -- a line that has a label has the columns before its files

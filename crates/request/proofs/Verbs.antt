@@ -9,75 +9,93 @@ use native.Mathlib.Omega.{arith}
 use Rattle.laws.specs.Lists.{first, same}
 use Rattle.laws.specs.Laws.{first-same}
 use Rattle.columns.specs.declared.Field.{Field}
-use Rattle.columns.specs.Columns.{wordWidth, programWidth, fileWidth, columnsOf}
+use Rattle.columns.specs.Columns.{wordWidth, programWidth, fileWidth, recordWidth, columnsOf}
 use Rattle.columns.proofs.Laws.{number-columns}
 use Rattle.files.specs.declared.FileSet.{FileSet}
 use Rattle.files.specs.Sets.{noFiles}
 use Rattle.rules.specs.declared.Verb.{Verb}
 use Rattle.rules.specs.declared.Asked.{Asked}
-use Rattle.rules.specs.Calls.{Call, Enter, Open, Close, Drop, Leave, Cancel, callWith, callOf}
+use Rattle.rules.specs.Calls.{Call, Enter, Open, Close, Drop, Leave, Cancel, Fetch, Return, callWith, callOf}
 use Rattle.request.specs.declared.Shape.{Shape}
 use Rattle.request.specs.Verbs.{verbs, verbColumns, shapeOf}
-use Rattle.request.specs.Requests.{asking, begins, programIn, fileIn, countIn, verbOf, askedBy, lineAs}
+use Rattle.request.specs.Requests.{asking, begins, programIn, fileIn, countIn, recordIn, verbOf, askedBy, lineAs}
 
 -- ---- a clause for each verb
 
 -- what is asked for by a line of this shape is what its call asks for
 abbrev pub AskedBack : Shape → Verb → Type 0
-AskedBack Shape.Entry v = (p : ℕ) (w r : FileSet) → askedBy (callWith v p 0 w r) ≡ asking v p 0 w r
-AskedBack Shape.File v = (p f : ℕ) → askedBy (callWith v p f noFiles noFiles) ≡ asking v p f noFiles noFiles
-AskedBack Shape.Alone v = (p : ℕ) → askedBy (callWith v p 0 noFiles noFiles) ≡ asking v p 0 noFiles noFiles
+AskedBack Shape.Entry v = (p : ℕ) (w r j : FileSet) → askedBy (callWith v p 0 0 w r j) ≡ asking v p 0 0 w r j
+AskedBack Shape.File v = (p f : ℕ) → askedBy (callWith v p f 0 noFiles noFiles noFiles) ≡ asking v p f 0 noFiles noFiles noFiles
+AskedBack Shape.Record v = (p f n : ℕ) → askedBy (callWith v p f n noFiles noFiles noFiles) ≡ asking v p f n noFiles noFiles noFiles
+AskedBack Shape.Alone v = (p : ℕ) → askedBy (callWith v p 0 0 noFiles noFiles noFiles) ≡ asking v p 0 0 noFiles noFiles noFiles
 
 -- what a line of this shape says is the same
 abbrev pub SameAs : Shape → Asked → Asked → Type 0
-SameAs Shape.Entry a b = (a .verb ≡ b .verb) × (a .program ≡ b .program) × (a .writable ≡ b .writable) × (a .readable ≡ b .readable)
+SameAs Shape.Entry a b =
+    (a .verb ≡ b .verb) × (a .program ≡ b .program) × (a .writable ≡ b .writable) × (a .readable ≡ b .readable)
+    × (a .inquirable ≡ b .inquirable)
 SameAs Shape.File a b = (a .verb ≡ b .verb) × (a .program ≡ b .program) × (a .file ≡ b .file)
+SameAs Shape.Record a b = (a .verb ≡ b .verb) × (a .program ≡ b .program) × (a .file ≡ b .file) × (a .item ≡ b .item)
 SameAs Shape.Alone a b = (a .verb ≡ b .verb) × (a .program ≡ b .program)
 
 pub record VerbGood (v : Verb) : Type 0 where
   pub size : length (verbColumns v) ≡ wordWidth
   pub found : first (λ u. same (verbColumns v) (verbColumns u)) verbs ≡ some v
   pub back : AskedBack (shapeOf v) v
-  pub verb : (p f : ℕ) (w r : FileSet) → askedBy (callWith v p f w r) .verb ≡ v
-  pub same : (p f : ℕ) (w r : FileSet) → SameAs (shapeOf v) (askedBy (callWith v p f w r)) (asking v p f w r)
+  pub verb : (p f n : ℕ) (w r j : FileSet) → askedBy (callWith v p f n w r j) .verb ≡ v
+  pub same : (p f n : ℕ) (w r j : FileSet) → SameAs (shapeOf v) (askedBy (callWith v p f n w r j)) (asking v p f n w r j)
 
 pub verb-good : (v : Verb) → VerbGood v
 unfolding first same
 verb-good Verb.Enter =
-    record { size = refl; found = refl; back = λ p w r. refl; verb = λ p f w r. refl; same = λ p f w r. (refl, refl, refl, refl) }
+    record { size = refl; found = refl; back = λ p w r j. refl; verb = λ p f n w r j. refl; same = λ p f n w r j. (refl, refl, refl, refl, refl) }
 verb-good Verb.Open =
-    record { size = refl; found = refl; back = λ p f. refl; verb = λ p f w r. refl; same = λ p f w r. (refl, refl, refl) }
+    record { size = refl; found = refl; back = λ p f. refl; verb = λ p f n w r j. refl; same = λ p f n w r j. (refl, refl, refl) }
 verb-good Verb.Close =
-    record { size = refl; found = refl; back = λ p f. refl; verb = λ p f w r. refl; same = λ p f w r. (refl, refl, refl) }
+    record { size = refl; found = refl; back = λ p f. refl; verb = λ p f n w r j. refl; same = λ p f n w r j. (refl, refl, refl) }
 verb-good Verb.Drop =
-    record { size = refl; found = refl; back = λ p f. refl; verb = λ p f w r. refl; same = λ p f w r. (refl, refl, refl) }
+    record { size = refl; found = refl; back = λ p f. refl; verb = λ p f n w r j. refl; same = λ p f n w r j. (refl, refl, refl) }
 verb-good Verb.Leave =
-    record { size = refl; found = refl; back = λ p. refl; verb = λ p f w r. refl; same = λ p f w r. (refl, refl) }
+    record { size = refl; found = refl; back = λ p. refl; verb = λ p f n w r j. refl; same = λ p f n w r j. (refl, refl) }
 verb-good Verb.Cancel =
-    record { size = refl; found = refl; back = λ p. refl; verb = λ p f w r. refl; same = λ p f w r. (refl, refl) }
+    record { size = refl; found = refl; back = λ p. refl; verb = λ p f n w r j. refl; same = λ p f n w r j. (refl, refl) }
+
+verb-good Verb.Fetch =
+    record { size = refl; found = refl; back = λ p f n. refl; verb = λ p f n w r j. refl; same = λ p f n w r j. (refl, refl, refl, refl) }
+verb-good Verb.Return =
+    record { size = refl; found = refl; back = λ p. refl; verb = λ p f n w r j. refl; same = λ p f n w r j. (refl, refl) }
 
 pub verb-length : (v : Verb) → length (verbColumns v) ≡ wordWidth
 verb-length v = verb-good v .size
 
 -- ---- a clause for each call
 
+-- no claims
+pub record NoClaims (a : Asked) : Type 0 where
+  pub no-v : a .writable ≡ noFiles
+  pub no-q : a .readable ≡ noFiles
+  pub no-j : a .inquirable ≡ noFiles
+
 -- what a line of this shape does not say is 0 or empty
 abbrev pub ProperAs : Shape → Asked → Type 0
-ProperAs Shape.Entry a = a .file ≡ 0
-ProperAs Shape.File a = (a .writable ≡ noFiles) × (a .readable ≡ noFiles)
-ProperAs Shape.Alone a = (a .file ≡ 0) × (a .writable ≡ noFiles) × (a .readable ≡ noFiles)
+ProperAs Shape.Entry a = (a .file ≡ 0) × (a .item ≡ 0)
+ProperAs Shape.File a = (a .item ≡ 0) × NoClaims a
+ProperAs Shape.Record a = NoClaims a
+ProperAs Shape.Alone a = (a .file ≡ 0) × (a .item ≡ 0) × NoClaims a
 
 pub record CallGood (c : Call) : Type 0 where
   pub back : callOf (askedBy c) ≡ c
   pub proper : ProperAs (shapeOf (askedBy c .verb)) (askedBy c)
 
 pub call-good : (c : Call) → CallGood c
-call-good (Enter p v q) = record { back = refl; proper = refl }
-call-good (Open p f) = record { back = refl; proper = (refl, refl) }
-call-good (Close p f) = record { back = refl; proper = (refl, refl) }
-call-good (Drop p f) = record { back = refl; proper = (refl, refl) }
-call-good (Leave p) = record { back = refl; proper = (refl, refl, refl) }
-call-good (Cancel p) = record { back = refl; proper = (refl, refl, refl) }
+call-good (Enter p v q j) = record { back = refl; proper = (refl, refl) }
+call-good (Open p f) = record { back = refl; proper = (refl, record { no-v = refl; no-q = refl; no-j = refl }) }
+call-good (Close p f) = record { back = refl; proper = (refl, record { no-v = refl; no-q = refl; no-j = refl }) }
+call-good (Drop p f) = record { back = refl; proper = (refl, record { no-v = refl; no-q = refl; no-j = refl }) }
+call-good (Leave p) = record { back = refl; proper = (refl, refl, record { no-v = refl; no-q = refl; no-j = refl }) }
+call-good (Cancel p) = record { back = refl; proper = (refl, refl, record { no-v = refl; no-q = refl; no-j = refl }) }
+call-good (Fetch p f r) = record { back = refl; proper = record { no-v = refl; no-q = refl; no-j = refl } }
+call-good (Return p) = record { back = refl; proper = (refl, refl, record { no-v = refl; no-q = refl; no-j = refl }) }
 
 -- ---- the verb of a line
 
@@ -85,6 +103,7 @@ call-good (Cancel p) = record { back = refl; proper = (refl, refl, refl) }
 pub line-begins : (s : Shape) (a : Asked) (label : List ℕ) → take wordWidth (lineAs s a label) ≡ verbColumns (a .verb)
 line-begins Shape.Entry a label = take-at (verbColumns (a .verb)) _ wordWidth (verb-length (a .verb))
 line-begins Shape.File a label = take-at (verbColumns (a .verb)) _ wordWidth (verb-length (a .verb))
+line-begins Shape.Record a label = take-at (verbColumns (a .verb)) _ wordWidth (verb-length (a .verb))
 line-begins Shape.Alone a label = take-at (verbColumns (a .verb)) _ wordWidth (verb-length (a .verb))
 
 -- so this verb is found
@@ -107,3 +126,6 @@ file-columns f h k = number-columns fileWidth 1 64 f (omega arith) (file-fits f 
 
 pub count-columns : (n : ℕ) → n ≤ 64 → countIn (columnsOf fileWidth n) ≡ Field.Number n
 count-columns n k = number-columns fileWidth 0 64 n (omega arith) (file-fits n k) (omega arith) k
+
+pub record-columns : (n : ℕ) → 1 ≤ n → n ≤ 65535 → recordIn (columnsOf recordWidth n) ≡ Field.Number n
+record-columns n h k = let m : 65535 < 10 ^ recordWidth = omega arith in number-columns recordWidth 1 65535 n (omega arith) (omega arith) h k

@@ -21,10 +21,12 @@ use Rattle.request.specs.Requests.{requestCall, labelByte, requestOf, la
 abbrev pub IsLabel : List ℕ → Type 0
 IsLabel l = (length l ≡ labelWidth) × (all labelByte l ≡ true)
 
--- the numbers are those of a program, and of a file; claims are sets of the files 1 to 64
+-- the numbers are those of a program, of a file, and of a record; claims are sets of the files 1 to 64
 abbrev pub RangeAs : Shape → Asked → Type 0
-RangeAs Shape.Entry a = (1 ≤ a .program) × (a .program ≤ 32) × OfFiles (a .writable) × OfFiles (a .readable)
+RangeAs Shape.Entry a = (1 ≤ a .program) × (a .program ≤ 32) × OfFiles (a .writable) × OfFiles (a .readable) × OfFiles (a .inquirable)
 RangeAs Shape.File a = (1 ≤ a .program) × (a .program ≤ 32) × (1 ≤ a .file) × (a .file ≤ 64)
+RangeAs Shape.Record a =
+    (1 ≤ a .program) × (a .program ≤ 32) × (1 ≤ a .file) × (a .file ≤ 64) × (1 ≤ a .item) × (a .item ≤ 65535)
 RangeAs Shape.Alone a = (1 ≤ a .program) × (a .program ≤ 32)
 
 abbrev pub AskedInRange : Asked → Type 0
@@ -56,4 +58,5 @@ SayingLaw = (c : Call) (label : List ℕ) → InRange c → IsLabel label → re
 
 -- the label that is given back is the one that stands in the line
 abbrev pub LabelLaw : Type 0
-LabelLaw = (p : ℕ) (v q : FileSet) (label : List ℕ) → InRange (Enter p v q) → IsLabel label → labelOf (lineOf (Enter p v q) label) ≡ label
+LabelLaw = (p : ℕ) (v q j : FileSet) (label : List ℕ) → InRange (Enter p v q j) → IsLabel label
+    → labelOf (lineOf (Enter p v q j) label) ≡ label

@@ -7,35 +7,35 @@ use mathlib.Core.Option.{Option, none, some}
 use lib.Dec.{eqb, leb, ltb}
 use lib.ListN.{length, take, drop}
 use Rattle.columns.specs.declared.Field.{Field}
-use Rattle.columns.specs.Columns.{wordWidth, programWidth, fileWidth, columnsOf, numberOf, onNumber}
+use Rattle.columns.specs.Columns.{wordWidth, programWidth, fileWidth, recordWidth, columnsOf, numberOf, onNumber}
 use Rattle.columns.specs.Rows.{flat}
 use Rattle.files.specs.declared.FileSet.{FileSet}
 use Rattle.files.specs.Sets.{noFiles, member, adding}
 use Rattle.rules.specs.declared.Asked.{Asked}
 use Rattle.rules.specs.declared.Refusal.{Refusal}
 use Rattle.laws.specs.Lists.{all, keep, first, withFound, rising, same}
-use Rattle.rules.specs.Calls.{Call, Enter, Open, Close, Drop, Leave, Cancel, callOf}
+use Rattle.rules.specs.Calls.{Call, Enter, Open, Close, Drop, Leave, Cancel, Fetch, Return, callOf}
 use Rattle.rules.specs.declared.Verb.{Verb}
 use Rattle.request.specs.declared.Reading.{Reading}
 use Rattle.request.specs.declared.Request.{Request}
 use Rattle.request.specs.declared.Beginning.{Beginning}
 use Rattle.request.specs.declared.Shape.{Shape}
 use Rattle.request.specs.Verbs.{verbs, verbColumns, shapeOf, programAt, aloneLength, fileAt, fileLength, labelWidth, labelAt, wAt, rAt}
-use Rattle.request.specs.Verbs.{filesAt, entryLength}
+use Rattle.request.specs.Verbs.{recordAt, recordLength, jAt, filesAt, entryLength}
 
 -- ---- what reading a line gives
 
--- the call with this verb, program and file, and the claims V and Q
-abbrev pub asking : Verb → ℕ → ℕ → FileSet → FileSet → Asked
-asking v p f w r = record { verb = v; program = p; file = f; writable = w; readable = r }
+-- the call with this verb, program, file and record, and the claims V, Q and J
+abbrev pub asking : Verb → ℕ → ℕ → ℕ → FileSet → FileSet → FileSet → Asked
+asking v p f n w r j = record { verb = v; program = p; file = f; item = n; writable = w; readable = r; inquirable = j }
 
 -- a refused line: no numbers and no claims
 abbrev pub refused : Refusal → Request
-refused r = record { reading = Reading.Refused r; asked = asking Verb.Enter 0 0 noFiles noFiles }
+refused r = record { reading = Reading.Refused r; asked = asking Verb.Enter 0 0 0 noFiles noFiles noFiles }
 
--- a line that is taken: its verb, program and file, and its claims V and Q
-abbrev pub taken : Verb → ℕ → ℕ → FileSet → FileSet → Request
-taken v p f w r = record { reading = Reading.Taken; asked = asking v p f w r }
+-- a line that is taken: its verb, program, file and record, and its claims V, Q and J
+abbrev pub taken : Verb → ℕ → ℕ → ℕ → FileSet → FileSet → FileSet → Request
+taken v p f n w r j = record { reading = Reading.Taken; asked = asking v p f n w r j }
 
 -- the direct call that a line asks for
 abbrev pub requestCall : Request → Call
@@ -57,6 +57,10 @@ fileIn part = numberOf fileWidth 1 64 part
 abbrev pub countIn : List ℕ → Field
 countIn part = numberOf fileWidth 0 64 part
 
+-- "one record, 1 to 65,535"
+abbrev pub recordIn : List ℕ → Field
+recordIn part = numberOf recordWidth 1 65535 part
+
 -- "Each field is read from a part of the line that begins at its column."
 unfoldable pub programField : List ℕ → Field
 programField l = programIn (take programWidth (drop programAt l))
@@ -69,6 +73,12 @@ wField l = countIn (take fileWidth (drop wAt l))
 
 unfoldable pub rField : List ℕ → Field
 rField l = countIn (take fileWidth (drop rAt l))
+
+unfoldable pub jField : List ℕ → Field
+jField l = countIn (take fileWidth (drop jAt l))
+
+unfoldable pub recordField : List ℕ → Field
+recordField l = recordIn (take recordWidth (drop recordAt l))
 
 -- a label byte is from 32 to 126
 abbrev pub labelByte : ℕ → Bool
@@ -105,21 +115,23 @@ setOf fs = addingAll noFiles fs
 
 -- ---- reading, by the shape of the verb
 
--- ENTER, after columns 7–23 and the length: "then w files of V and r of Q"
-unfoldable pub entryFiles : Verb → List ℕ → ℕ → ℕ → ℕ → Request
-entryFiles v l p w r =
+-- ENTER, after columns 7–26 and the length: "then w files of V and r of Q", "and the J files last"
+unfoldable pub entryFiles : Verb → List ℕ → ℕ → ℕ → ℕ → ℕ → Request
+entryFiles v l p w r j =
     withFound (filesIn w (drop filesAt l)) (refused Refusal.BadNumber) (λ vs.
     withFound (filesIn r (drop (entryLength w) l)) (refused Refusal.BadNumber) (λ qs.
-    cond (rises vs && rises qs) (taken v p 0 (setOf vs) (setOf qs)) (refused Refusal.NotRising)))
+    withFound (filesIn j (drop (entryLength (w + r)) l)) (refused Refusal.BadNumber) (λ js.
+    cond (rises vs && rises qs && rises js) (taken v p 0 0 (setOf vs) (setOf qs) (setOf js)) (refused Refusal.NotRising))))
 
--- ENTER, after the label: the counts w and r, then the length
+-- ENTER, after the label: the counts w, r and j, then the length
 unfoldable pub entryCounts : Verb → List ℕ → ℕ → Request
 entryCounts v l p =
     onNumber (wField l) (refused Refusal.BadNumber) (λ w.
     onNumber (rField l) (refused Refusal.BadNumber) (λ r.
-    cond (eqb (length l) (entryLength (w + r))) (entryFiles v l p w r) (refused Refusal.BadLength)))
+    onNumber (jField l) (refused Refusal.BadNumber) (λ j.
+    cond (eqb (length l) (entryLength (w + r + j))) (entryFiles v l p w r j) (refused Refusal.BadLength))))
 
--- ENTER "is read left to right: program, label, w, r, then the length, then the files"; "ENTER under 23" is of another length
+-- ENTER "is read left to right: program, label, w, r", the third count, "then the length, then the files"; under 26 is of another length
 unfoldable pub entryLine : Verb → List ℕ → Request
 entryLine v l =
     cond (ltb (length l) filesAt) (refused Refusal.BadLength)
@@ -132,20 +144,31 @@ fileLine v l =
     cond (eqb (length l) fileLength)
     (onNumber (programField l) (refused Refusal.BadNumber) (λ p.
     onNumber (fileField l) (refused Refusal.BadNumber) (λ f.
-    taken v p f noFiles noFiles)))
+    taken v p f 0 noFiles noFiles noFiles)))
     (refused Refusal.BadLength)
 
--- LEAVE, CANCEL: the program alone
+-- FETCH: program, file and record
+unfoldable pub recordLine : Verb → List ℕ → Request
+recordLine v l =
+    cond (eqb (length l) recordLength)
+    (onNumber (programField l) (refused Refusal.BadNumber) (λ p.
+    onNumber (fileField l) (refused Refusal.BadNumber) (λ f.
+    onNumber (recordField l) (refused Refusal.BadNumber) (λ n.
+    taken v p f n noFiles noFiles noFiles))))
+    (refused Refusal.BadLength)
+
+-- LEAVE, CANCEL, RETURN: the program alone
 unfoldable pub aloneLine : Verb → List ℕ → Request
 aloneLine v l =
     cond (eqb (length l) aloneLength)
-    (onNumber (programField l) (refused Refusal.BadNumber) (λ p. taken v p 0 noFiles noFiles))
+    (onNumber (programField l) (refused Refusal.BadNumber) (λ p. taken v p 0 0 noFiles noFiles noFiles))
     (refused Refusal.BadLength)
 
 -- what a line of this shape says
 abbrev pub readAs : Shape → Verb → List ℕ → Request
 readAs Shape.Entry v l = entryLine v l
 readAs Shape.File v l = fileLine v l
+readAs Shape.Record v l = recordLine v l
 readAs Shape.Alone v l = aloneLine v l
 
 -- the verb that a line begins with
@@ -165,6 +188,7 @@ requestOf l = withFound (verbOf l) (refused Refusal.NoVerb) (λ v. readAs (shape
 abbrev pub hasLabel : Shape → Bool
 hasLabel Shape.Entry = true
 hasLabel Shape.File = false
+hasLabel Shape.Record = false
 hasLabel Shape.Alone = false
 
 -- the line is taken, and has a label
@@ -191,14 +215,17 @@ filesColumns fs = flat (columnsOf fileWidth) fs
 
 -- how a line asks for a call: all that does not apply is 0 or empty
 abbrev pub askedBy : Call → Asked
-askedBy (Enter p v q) = asking Verb.Enter p 0 v q
-askedBy (Open p f) = asking Verb.Open p f noFiles noFiles
-askedBy (Close p f) = asking Verb.Close p f noFiles noFiles
-askedBy (Drop p f) = asking Verb.Drop p f noFiles noFiles
-askedBy (Leave p) = asking Verb.Leave p 0 noFiles noFiles
-askedBy (Cancel p) = asking Verb.Cancel p 0 noFiles noFiles
+askedBy (Enter p v q j) = asking Verb.Enter p 0 0 v q j
+askedBy (Open p f) = asking Verb.Open p f 0 noFiles noFiles noFiles
+askedBy (Close p f) = asking Verb.Close p f 0 noFiles noFiles noFiles
+askedBy (Drop p f) = asking Verb.Drop p f 0 noFiles noFiles noFiles
+askedBy (Leave p) = asking Verb.Leave p 0 0 noFiles noFiles noFiles
+askedBy (Cancel p) = asking Verb.Cancel p 0 0 noFiles noFiles noFiles
+askedBy (Fetch p f r) = asking Verb.Fetch p f r noFiles noFiles noFiles
+askedBy (Return p) = asking Verb.Return p 0 0 noFiles noFiles noFiles
 
--- a line of this shape; "ENTER: 10–17 label, 18–20 count w, 21–23 count r .., then w files of V and r of Q"
+-- a line of this shape; "ENTER: 10–17 label, 18–20 count w, 21–23 count r .., then w files of V and r of Q", with "a third count in columns
+-- 24–26 and the J files last"
 abbrev pub lineAs : Shape → Asked → List ℕ → List ℕ
 lineAs Shape.Entry a label =
     verbColumns (a .verb)
@@ -206,9 +233,13 @@ lineAs Shape.Entry a label =
     ++ (label
     ++ (columnsOf fileWidth (length (filesOf (a .writable)))
     ++ (columnsOf fileWidth (length (filesOf (a .readable)))
+    ++ (columnsOf fileWidth (length (filesOf (a .inquirable)))
     ++ (filesColumns (filesOf (a .writable))
-    ++ filesColumns (filesOf (a .readable)))))))
+    ++ (filesColumns (filesOf (a .readable))
+    ++ filesColumns (filesOf (a .inquirable)))))))))
 lineAs Shape.File a label = verbColumns (a .verb) ++ (columnsOf programWidth (a .program) ++ columnsOf fileWidth (a .file))
+lineAs Shape.Record a label =
+    verbColumns (a .verb) ++ (columnsOf programWidth (a .program) ++ (columnsOf fileWidth (a .file) ++ columnsOf recordWidth (a .item)))
 lineAs Shape.Alone a label = verbColumns (a .verb) ++ columnsOf programWidth (a .program)
 
 -- the line that says what is asked for

@@ -13,6 +13,7 @@ ghost use Rattle.columns.specs.Columns.{fileWidth};
 ghost use Rattle.request.specs.Verbs.{rowOf, verbs, verbColumns, shapeOf, aloneLength, filesAt, entryLength};
 ghost use Rattle.request.specs.Groups.{noGroup, joined, groupFrom};
 ghost use Rattle.request.specs.Requests.{refused, taken, begins, programField, fileIn, labelByte, entryFiles, entryCounts, entryLine, fileLine};
+ghost use Rattle.request.specs.Requests.{recordLine};
 ghost use Rattle.request.specs.Requests.{aloneLine, readAs, verbOf, begun, requestOf, hasLabel, isEntry, labelOf};
 
 // How many columns stand before each field, as `Verbs` has them.
@@ -22,16 +23,20 @@ pub const ALONE_LEN: usize = PROGRAM_AT + columns::PROGRAM_WIDTH;
 
 pub const FILE_LEN: usize = ALONE_LEN + columns::FILE_WIDTH;
 
+pub const RECORD_LEN: usize = FILE_LEN + columns::RECORD_WIDTH;
+
 pub const LABEL_LEN: usize = 8;
 
 const W_AT: usize = ALONE_LEN + LABEL_LEN;
 
 const R_AT: usize = W_AT + columns::FILE_WIDTH;
 
-pub const FILES_AT: usize = R_AT + columns::FILE_WIDTH;
+const J_AT: usize = R_AT + columns::FILE_WIDTH;
+
+pub const FILES_AT: usize = J_AT + columns::FILE_WIDTH;
 
 // The longest line in form, and what a longer one is cut to.
-pub const LONGEST_LINE: usize = FILES_AT + columns::FILE_WIDTH * 128;
+pub const LONGEST_LINE: usize = FILES_AT + columns::FILE_WIDTH * 192;
 
 pub const CUT_LINE: usize = LONGEST_LINE + 1;
 
@@ -47,10 +52,11 @@ pub enum Beginning {
     Unknown,
 }
 
-// How a line goes on after its verb: as ENTER, with program and file, or with the program alone.
+// How a line goes on after its verb: as ENTER, with program and file, with program, file and record, or with the program alone.
 pub enum Shape {
     Entry,
     File,
+    Record,
     Alone,
 }
 
@@ -82,8 +88,10 @@ fn refusing(r: Refusal) -> Request
         verb: Verb::Enter,
         program: 0,
         file: 0,
+        item: 0,
         writable: FileSet::EMPTY,
         readable: FileSet::EMPTY,
+        inquirable: FileSet::EMPTY,
     };
     Request {
         reading: Reading::Refused(r),
@@ -122,6 +130,14 @@ fn row_of(v: Verb) -> Row
             word: [67, 65, 78, 67, 69, 76],
             shape: Shape::Alone,
         },
+        Verb::Fetch => Row {
+            word: [70, 69, 84, 67, 72, 32],
+            shape: Shape::Record,
+        },
+        Verb::Return => Row {
+            word: [82, 69, 84, 85, 82, 78],
+            shape: Shape::Alone,
+        },
     }
 }
 
@@ -141,6 +157,19 @@ pub fn shape_of(v: Verb) -> Shape
     row.shape
 }
 
+// The verbs from place 4 on.
+fn later_verb(i: usize) -> Verb
+    requires { ⌜ (4 ≤ i) × (i < length verbs) ⌝ }
+    ensures { λ r. ⌜ r ≡ getD verbs i Verb.Enter ⌝ }
+{
+    match i {
+        4 => Verb::Leave,
+        5 => Verb::Cancel,
+        6 => Verb::Fetch,
+        _ => Verb::Return,
+    }
+}
+
 // The verbs in the order of the papers, from place 0 on.
 pub fn verb_at(i: usize) -> Verb
     requires { ⌜ i < length verbs ⌝ }
@@ -151,13 +180,12 @@ pub fn verb_at(i: usize) -> Verb
         1 => Verb::Open,
         2 => Verb::Close,
         3 => Verb::Drop,
-        4 => Verb::Leave,
-        _ => Verb::Cancel,
+        _ => later_verb(i),
     }
 }
 
 // How many verbs there are.
-pub const VERBS: usize = 6;
+pub const VERBS: usize = 8;
 
 // Whether columns 1 to 6 are those of the verb.
 fn is_verb(line: &[u8], v: Verb) -> bool
@@ -274,16 +302,18 @@ fn read_group(line: &[u8], start: usize, count: usize) -> Group
 
 // ---- lines, by the shape of the verb
 
-// A line that is taken, with no file and these claims, or with no claims.
-fn taking(verb: Verb, program: u64, file: u64, writable: FileSet, readable: FileSet) -> Request
-    ensures { λ q. ⌜ q ≡ taken verb program file writable readable ⌝ }
+// A line that is taken, with these numbers and claims; what does not apply is 0 or empty.
+fn taking(verb: Verb, program: u64, file: u64, item: u64, writable: FileSet, readable: FileSet, inquirable: FileSet) -> Request
+    ensures { λ q. ⌜ q ≡ taken verb program file item writable readable inquirable ⌝ }
 {
     let asked = Asked {
         verb,
         program,
         file,
+        item,
         writable,
         readable,
+        inquirable,
     };
     Request {
         reading: Reading::Taken,
@@ -291,10 +321,10 @@ fn taking(verb: Verb, program: u64, file: u64, writable: FileSet, readable: File
     }
 }
 
-// ENTER, after columns 7 to 23 and the length.
-fn read_files(line: &[u8], verb: Verb, program: u64, w: usize, r: usize) -> Request
-    requires { ⌜ length (now line) ≡ entryLength (w + r) ⌝ }
-    ensures { λ q. ⌜ q ≡ entryFiles verb (now (line .entry)) program w r ⌝ }
+// ENTER, after columns 7 to 26 and the length.
+fn read_files(line: &[u8], verb: Verb, program: u64, w: usize, r: usize, j: usize) -> Request
+    requires { ⌜ length (now line) ≡ entryLength (w + r + j) ⌝ }
+    ensures { λ q. ⌜ q ≡ entryFiles verb (now (line .entry)) program w r j ⌝ }
 {
     let v = read_group(line, FILES_AT, w);
     if !v.good {
@@ -304,15 +334,23 @@ fn read_files(line: &[u8], verb: Verb, program: u64, w: usize, r: usize) -> Requ
     if !q.good {
         return refusing(Refusal::BadNumber);
     }
+    let i = read_group(line, FILES_AT + columns::FILE_WIDTH * (w + r), j);
+    if !i.good {
+        return refusing(Refusal::BadNumber);
+    }
     if !v.rising {
         return refusing(Refusal::NotRising);
     }
     if !q.rising {
         return refusing(Refusal::NotRising);
     }
+    if !i.rising {
+        return refusing(Refusal::NotRising);
+    }
     let writable = v.files;
     let readable = q.files;
-    taking(verb, program, 0, writable, readable)
+    let inquirable = i.files;
+    taking(verb, program, 0, 0, writable, readable, inquirable)
 }
 
 // ENTER, after the label: the counts, then the length.
@@ -324,15 +362,19 @@ fn read_counts(line: &[u8], verb: Verb, program: u64) -> Request
     let Field::Number(w) = first else {
         return refusing(Refusal::BadNumber);
     };
-    let second = columns::read_number(&line[R_AT..FILES_AT], columns::FILE_WIDTH, 0, 64);
+    let second = columns::read_number(&line[R_AT..J_AT], columns::FILE_WIDTH, 0, 64);
     let Field::Number(r) = second else {
         return refusing(Refusal::BadNumber);
     };
-    let files = (w + r) as usize;
+    let third = columns::read_number(&line[J_AT..FILES_AT], columns::FILE_WIDTH, 0, 64);
+    let Field::Number(j) = third else {
+        return refusing(Refusal::BadNumber);
+    };
+    let files = (w + r + j) as usize;
     if line.len() != FILES_AT + columns::FILE_WIDTH * files {
         return refusing(Refusal::BadLength);
     }
-    read_files(line, verb, program, w as usize, r as usize)
+    read_files(line, verb, program, w as usize, r as usize, j as usize)
 }
 
 // ENTER, from left to right.
@@ -367,10 +409,32 @@ fn read_file(line: &[u8], verb: Verb) -> Request
     let Field::Number(f) = second else {
         return refusing(Refusal::BadNumber);
     };
-    taking(verb, p, f, FileSet::EMPTY, FileSet::EMPTY)
+    taking(verb, p, f, 0, FileSet::EMPTY, FileSet::EMPTY, FileSet::EMPTY)
 }
 
-// LEAVE and CANCEL: the program alone.
+// FETCH: program, file and record.
+fn read_record(line: &[u8], verb: Verb) -> Request
+    ensures { λ q. ⌜ q ≡ recordLine verb (now (line .entry)) ⌝ }
+{
+    if line.len() != RECORD_LEN {
+        return refusing(Refusal::BadLength);
+    }
+    let first = read_program(line);
+    let Field::Number(p) = first else {
+        return refusing(Refusal::BadNumber);
+    };
+    let second = columns::read_number(&line[ALONE_LEN..FILE_LEN], columns::FILE_WIDTH, 1, 64);
+    let Field::Number(f) = second else {
+        return refusing(Refusal::BadNumber);
+    };
+    let third = columns::read_number(&line[FILE_LEN..RECORD_LEN], columns::RECORD_WIDTH, 1, 65535);
+    let Field::Number(n) = third else {
+        return refusing(Refusal::BadNumber);
+    };
+    taking(verb, p, f, n, FileSet::EMPTY, FileSet::EMPTY, FileSet::EMPTY)
+}
+
+// LEAVE, CANCEL and RETURN: the program alone.
 fn read_alone(line: &[u8], verb: Verb) -> Request
     ensures { λ q. ⌜ q ≡ aloneLine verb (now (line .entry)) ⌝ }
 {
@@ -381,7 +445,7 @@ fn read_alone(line: &[u8], verb: Verb) -> Request
     let Field::Number(p) = field else {
         return refusing(Refusal::BadNumber);
     };
-    taking(verb, p, 0, FileSet::EMPTY, FileSet::EMPTY)
+    taking(verb, p, 0, 0, FileSet::EMPTY, FileSet::EMPTY, FileSet::EMPTY)
 }
 
 // What a line says that begins with the verb.
@@ -392,6 +456,7 @@ fn read_as(line: &[u8], verb: Verb) -> Request
     match shape {
         Shape::Entry => read_entry(line, verb),
         Shape::File => read_file(line, verb),
+        Shape::Record => read_record(line, verb),
         Shape::Alone => read_alone(line, verb),
     }
 }
@@ -416,6 +481,7 @@ fn has_label(shape: Shape) -> bool
     match shape {
         Shape::Entry => true,
         Shape::File => false,
+        Shape::Record => false,
         Shape::Alone => false,
     }
 }

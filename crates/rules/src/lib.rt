@@ -118,9 +118,9 @@ pub enum Word {
 // A journal line; 0 where there is no file, no refusal or no record.
 pub struct Line {
     pub word: Word,
-    pub program: u8,
-    pub file: u8,
-    pub refusal: u8,
+    pub program: u16,
+    pub file: u16,
+    pub refusal: u16,
     pub item: u16,
 }
 

@@ -10,7 +10,10 @@ use borrow.Author.Needs.{needs}
 use Rattle.journal.proofs.put_line.Statement.{statement}
 use Rattle.journal.proofs.put_line.Tie as tie
 
--- where the second number is written, the first, the word, and where its columns are known
+-- where the third number is written, the second, the first, the word, and where its columns are known
+abbrev third : tie.After-put-number4 → tie.After-put-number3
+third n = n .before .before .before .before .before
+
 abbrev second : tie.After-put-number3 → tie.After-put-number2
 second n = n .before .before .before .before .before
 
@@ -23,21 +26,22 @@ copied n = n .before .before .before .before .before
 abbrev worded : tie.After-copy → tie.After-word-bytes
 worded k = k .before .before .before
 
-abbrev start : tie.After-put-number3 → tie.Start
-start n = worded (copied (first (second n))) .before .before
+abbrev start : tie.After-put-number4 → tie.Start
+start n = worded (copied (first (second (third n)))) .before .before
 
 returns : tie.Need-returns
 returns c =
-    let n₃ = c .before .before in
+    let n₄ = c .before .before in
+    let n₃ = third n₄ in
     let n₂ = second n₃ in
     let n₁ = first n₂ in
     let k = copied n₁ in
     let w = worded k in
-    let a = start n₃ .args in
-    line-put (a .l) (a .part .now) _ _ _ _ (start n₃ .pre)
+    let a = start n₄ .args in
+    line-put (a .l) (a .part .now) _ _ _ _ _ (start n₄ .pre)
     (copied-front wordWidth (wordColumns (a .l .word)) (w .word-bytes .result) (a .part .now) _
     (w .word-bytes .ensures) (word-length (a .l .word)) (k .copy .ensures .1))
-    (n₁ .put-number .ensures) (n₂ .put-number2 .ensures) (n₃ .put-number3 .ensures)
+    (n₁ .put-number .ensures) (n₂ .put-number2 .ensures) (n₃ .put-number3 .ensures) (n₄ .put-number4 .ensures)
 
 same-length : tie.Need-same-length
 same-length c = let s = start (c .before .before) in let a = s .args in
@@ -49,6 +53,11 @@ put-line-spec =
     tie.close
     (tie.spec
     (λ c κs. search needs)
+    (λ c. search needs)
+    (λ c κs. search needs)
+    (λ c. search needs)
+    (λ c. search needs)
+    (λ c. search needs)
     (λ c. search needs)
     (λ c κs. search needs)
     (λ c. search needs)

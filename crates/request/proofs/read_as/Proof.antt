@@ -16,7 +16,11 @@ returns-2 c = let s = c .before .before .before in let a = s .before .before .ar
 
 returns-3 : tie.Need-returns-3
 returns-3 c = let s = c .before .before .before in let a = s .before .before .args in
-    c .read-alone .ensures ∙ ap (λ (x : Shape). readAs x (a .verb) (a .line .now)) (sym (c .before .enum-told3 .given .1) ∙ s .shape-of .ensures)
+    c .read-record .ensures ∙ ap (λ (x : Shape). readAs x (a .verb) (a .line .now)) (sym (c .before .enum-told3 .given .1) ∙ s .shape-of .ensures)
+
+returns-4 : tie.Need-returns-4
+returns-4 c = let s = c .before .before .before in let a = s .before .before .args in
+    c .read-alone .ensures ∙ ap (λ (x : Shape). readAs x (a .verb) (a .line .now)) (sym (c .before .enum-told4 .given .1) ∙ s .shape-of .ensures)
 
 pub read-as-spec : {M : Type 1} → statement M
 read-as-spec =
@@ -29,6 +33,9 @@ read-as-spec =
     (λ c κs. search needs)
     (λ c. search needs)
     (λ c κs. search needs)
+    (λ c. search needs)
+    (λ c κs. search needs)
     returns
     returns-2
-    returns-3)
+    returns-3
+    returns-4)
