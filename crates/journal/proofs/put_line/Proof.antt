@@ -5,7 +5,7 @@ use lib.Seq.{length-front, length-take-le}
 use Rattle.columns.proofs.Rows.{copied-front}
 use Rattle.columns.specs.Columns.{wordWidth}
 use Rattle.journal.specs.Journal.{wordColumns, journalLine, lineBytes}
-use Rattle.journal.proofs.Laws.{word-length, line-length, line-put}
+use Rattle.journal.proofs.Laws.{word-length, line-length, line-put, end-in}
 use borrow.Author.Needs.{needs}
 use Rattle.journal.proofs.put_line.Statement.{statement}
 use Rattle.journal.proofs.put_line.Tie as tie
@@ -43,6 +43,16 @@ returns c =
     (w .word-bytes .ensures) (word-length (a .l .word)) (k .copy .ensures .1))
     (n₁ .put-number .ensures) (n₂ .put-number2 .ensures) (n₃ .put-number3 .ensures) (n₄ .put-number4 .ensures)
 
+end-there : tie.Need-slice-write-part
+end-there c =
+    let n₄ = c .before .before in
+    let n₃ = third n₄ in
+    let n₂ = second n₃ in
+    let n₁ = first n₂ in
+    end-in (start n₄ .args .part .now) (copied n₁ .copy .last .1 .0) (n₁ .put-number .last .0) (n₂ .put-number2 .last .0)
+    (n₃ .put-number3 .last .0) (n₄ .put-number4 .last .0) (copied n₁ .copy .kept .1 .0) (n₁ .put-number .kept .0) (n₂ .put-number2 .kept .0)
+    (n₃ .put-number3 .kept .0) (n₄ .put-number4 .kept .0) (start n₄ .pre)
+
 same-length : tie.Need-same-length
 same-length c = let s = start (c .before .before) in let a = s .args in
     ap length (returns c) ∙ length-front (a .part .now) (lineBytes (a .l)) journalLine
@@ -75,6 +85,6 @@ put-line-spec =
     (λ c. search needs)
     (λ c. search needs)
     (λ c κs. search needs)
-    (λ c. search needs)
+    end-there
     same-length
     returns)
