@@ -3,13 +3,13 @@ use Prim.Native.Nat.{ℕ, _-_, _/_, _≤_, _<_}
 use native.Mathlib.Omega.{arith}
 use mathlib.Core.Path.{_≡_, refl, sym, ap, _∙_}
 use mathlib.Core.Logic.{_≢_}
-use mathlib.Core.Bool.{true}
+use mathlib.Core.Bool.{true, false}
 use mathlib.Core.List.{List, []}
 use lib.Dec.{eqb}
 use lib.ListN.{length, getD, set, length-set}
 use lib.Seq.{ext-getD, getD-set-same, getD-set-other}
 use borrow.Author.Tests.{eqb-true, eqb-false}
-use Rattle.laws.specs.Tests.{by-test}
+use Rattle.laws.specs.Tests.{by-test, never}
 use Rattle.files.specs.declared.FileSet.{FileSet}
 use Rattle.files.specs.Sets.{isFile, removing}
 use Rattle.files.specs.Words.{setOf, withFile, withoutFile}
@@ -18,32 +18,34 @@ use Rattle.files.proofs.Rows.{words-without, length-without}
 use Rattle.rules.specs.declared.Standing.{Standing}
 use Rattle.rules.specs.declared.Program.{Program}
 use Rattle.rules.specs.declared.Board.{Board}
-use Rattle.rules.specs.Modes.{Mode, Write, Read, claimOf, openOf}
-use Rattle.rules.specs.Boards.{noProgram, at, setProgram, setStanding, opening, closing, dropping}
+use Rattle.rules.specs.Modes.{Mode, Write, Read, Inquiry, isMode, claimOf, openOf}
+use Rattle.rules.specs.Boards.{noProgram, at, setProgram, setStanding, setItem, opening, closing, dropping}
+use Rattle.theory.specs.Modes.{closing-claim, closing-open, dropping-claim, dropping-open}
 use Rattle.theory.specs.Programs.{Is}
 use Rattle.store.specs.declared.Seat.{Seat}
 use Rattle.store.specs.declared.Rest.{Rest}
 use Rattle.store.specs.Sets.{Sets, IsStore, claimPlace, openPlace, rowIn, setIn, inPlace, SetsOf, PutAt, leftIn, modeAt, closedAt, droppedAt, givenAt}
-use Rattle.store.specs.Store.{noSeat, standingAt, withSeats, seatedAt, boardOf}
-use Rattle.store.proofs.Laws.{claim-apart, open-apart, put-row, claim-is, open-is}
+use Rattle.store.specs.Store.{noSeat, seatAt, seatOf, standingAt, withSeats, putSeat, seatedAt, boardOf}
+use Rattle.store.proofs.Laws.{claim-apart, open-apart, claims-apart, claim-place, open-place, put-row, claim-is, open-is}
 use Rattle.store.proofs.Given.{given-store, sets-given}
 use Rattle.store.proofs.Boards.{board-size, board-in, board-at, board-sets, same-board}
 
 -- ---- a program put anew
 
 module _ (q : Program) (p : ℕ) (before after : Sets) (r : Rest) (h : 1 ≤ p) (k : p ≤ 32) (a : PutAt q (p - 1) before after) where
-  module _ (seats : List Seat) (here : getD seats (p - 1) noSeat .standing ≡ q .standing)
-      (there : (i : ℕ) → i ≢ p - 1 → getD seats i noSeat .standing ≡ getD (r .seats) i noSeat .standing) where
+  module _ (seats : List Seat) (here : getD seats (p - 1) noSeat ≡ seatOf q)
+      (there : (i : ℕ) → i ≢ p - 1 → getD seats i noSeat ≡ getD (r .seats) i noSeat) where
     abbrev then : Rest
     then = withSeats r seats
 
     put-here : inPlace (boardOf after then) (p - 1) ≡ q
     put-here = board-in after then (p - 1) (omega arith)
-        ∙ rw (here, a .here Write .0, a .here Write .1, a .here Read .0, a .here Read .1) refl
+        ∙ rw (here, a .here Write .0, a .here Write .1, a .here Read .0, a .here Read .1, a .here Inquiry .0, a .here Inquiry .1) refl
 
     put-there : (i : ℕ) → i < 32 → i ≢ p - 1 → inPlace (boardOf after then) i ≡ inPlace (boardOf before r) i
     put-there i l d = board-in after then i l
-        ∙ rw (there i d, a .there i l d Write .0, a .there i l d Write .1, a .there i l d Read .0, a .there i l d Read .1) refl
+        ∙ rw (there i d, a .there i l d Write .0, a .there i l d Write .1, a .there i l d Read .0, a .there i l d Read .1,
+        a .there i l d Inquiry .0, a .there i l d Inquiry .1) refl
         ∙ sym (board-in before r i l)
 
     put-programs : boardOf after then .programs ≡ set (boardOf before r .programs) (p - 1) q
@@ -59,17 +61,17 @@ module _ (q : Program) (p : ℕ) (before after : Sets) (r : Rest) (h : 1 ≤ p) 
     unfolding boardOf
     put-with = same-board (boardOf after then) (setProgram (boardOf before r) p q) put-programs refl refl refl refl refl refl
 
-  -- its sets are put, and its standing
-  pub put-board : length (r .seats) ≡ 32 → boardOf after (seatedAt r p (q .standing)) ≡ setProgram (boardOf before r) p q
-  put-board n = put-with (seatedAt r p (q .standing) .seats)
-      (ap (λ (s : Seat). s .standing) (getD-set-same (r .seats) (p - 1) (record { standing = q .standing }) noSeat (omega (arith, n))))
-      (λ i d. ap (λ (s : Seat). s .standing) (getD-set-other (r .seats) (p - 1) i (record { standing = q .standing }) noSeat d))
+  -- its sets are put, and its seat
+  pub put-board : length (r .seats) ≡ 32 → boardOf after (putSeat r p (seatOf q)) ≡ setProgram (boardOf before r) p q
+  put-board n = put-with (putSeat r p (seatOf q) .seats)
+      (getD-set-same (r .seats) (p - 1) (seatOf q) noSeat (omega (arith, n)))
+      (λ i d. getD-set-other (r .seats) (p - 1) i (seatOf q) noSeat d)
 
-  -- its sets are put, and its standing is as it was
-  pub keep-board : standingAt r p ≡ q .standing → boardOf after r ≡ setProgram (boardOf before r) p q
+  -- its sets are put, and its seat is as it was
+  pub keep-board : seatAt r p ≡ seatOf q → boardOf after r ≡ setProgram (boardOf before r) p q
   keep-board e = put-with (r .seats) e (λ i d. refl)
 
--- the standing changes, and no set
+-- the seat changes, and no set
 module _ (sets : Sets) (r : Rest) (p : ℕ) (h : 1 ≤ p) (k : p ≤ 32) (st : IsStore sets) where
   abbrev now-at : Program
   now-at = at (boardOf sets r) p
@@ -83,20 +85,39 @@ module _ (sets : Sets) (r : Rest) (p : ℕ) (h : 1 ≤ p) (k : p ≤ 32) (st : I
     there = λ j l d m. (refl, refl);
   }
 
-  same-both : (s : Standing) (m : Mode) → (claimOf m (setStanding now-at s) ≡ claimOf m now-at) × (openOf m (setStanding now-at s) ≡ openOf m now-at)
-  same-both s Write = (refl, refl)
-  same-both s Read = (refl, refl)
+  -- the program with another seat
+  abbrev pub reseated : Seat → Program
+  reseated t = setItem (setStanding now-at (t .standing)) (t .file) (t .item)
 
-  pub seat-board : (s : Standing) → length (r .seats) ≡ 32 → boardOf sets (seatedAt r p s) ≡ setProgram (boardOf sets r) p (setStanding now-at s)
-  seat-board s n = put-board (setStanding now-at s) p sets sets r h k (as-they-are (setStanding now-at s) (same-both s)) n
+  same-both : (t : Seat) (m : Mode) → (claimOf m (reseated t) ≡ claimOf m now-at) × (openOf m (reseated t) ≡ openOf m now-at)
+  same-both t Write = (refl, refl)
+  same-both t Read = (refl, refl)
+  same-both t Inquiry = (refl, refl)
 
-  -- the standing of a program of the board
+  pub reseat-board : (t : Seat) → length (r .seats) ≡ 32 → boardOf sets (putSeat r p t) ≡ setProgram (boardOf sets r) p (reseated t)
+  reseat-board t n = put-board (reseated t) p sets sets r h k (as-they-are (reseated t) (same-both t)) n
+
+  -- the seat of a program of the board
+  pub seat-is : seatOf (at (boardOf sets r) p) ≡ seatAt r p
+  seat-is = ap seatOf (board-at sets r p h k)
+
   pub standing-is : at (boardOf sets r) p .standing ≡ standingAt r p
-  standing-is = ap (λ (q : Program). q .standing) (board-at sets r p h k)
+  standing-is = ap (λ (t : Seat). t .standing) seat-is
 
--- ---- a file leaves two sets
+  pub item-is : at (boardOf sets r) p .item ≡ seatAt r p .item
+  item-is = ap (λ (t : Seat). t .item) seat-is
 
-module _ (sets : Sets) (k f : ℕ) (s : IsStore sets) (h : k < 128) where
+  pub file-is : at (boardOf sets r) p .file ≡ seatAt r p .file
+  file-is = ap (λ (t : Seat). t .file) seat-is
+
+  -- the standing alone
+  pub seat-board : (s : Standing) → length (r .seats) ≡ 32 → boardOf sets (seatedAt r p s) ≡ setProgram (boardOf sets r) p (setStanding now-at s)
+  seat-board s n = ap (λ (t : Seat). boardOf sets (putSeat r p (record { standing = s; file = t .file; item = t .item }))) (sym seat-is)
+      ∙ reseat-board (record { standing = s; file = now-at .file; item = now-at .item }) n
+
+-- ---- a file leaves three sets
+
+module _ (sets : Sets) (k f : ℕ) (s : IsStore sets) (h : k < 192) where
   word : isFile f ≡ true → (f - 1) / 64 < length (rowIn sets k)
   word e = let m = most 64 f e in let n = s .words-are k h in omega arith
 
@@ -110,25 +131,45 @@ module _ (sets : Sets) (k f : ℕ) (s : IsStore sets) (h : k < 128) where
   left-there : (j : ℕ) → j ≢ k → rowIn (leftIn sets k f) j ≡ rowIn sets j
   left-there j d = getD-set-other sets k j (withoutFile (rowIn sets k) f) [] d
 
-module _ (sets : Sets) (x y f : ℕ) (s : IsStore sets) (hx : x < 128) (hy : y < 128) (d : x ≢ y) where
-  abbrev both : Sets
-  both = leftIn (leftIn sets x f) y f
+-- f leaves the sets in three places, one for each mode
+module _ (sets : Sets) (at-mode : Mode → ℕ) (f : ℕ) (s : IsStore sets) (low : (m : Mode) → at-mode m < 192)
+    (apart : (m n : Mode) → (isMode m n ≡ true → ⊥) → at-mode m ≢ at-mode n) where
+  abbrev one-left : Sets
+  one-left = leftIn sets (at-mode Write) f
 
-  abbrev one-left : IsStore (leftIn sets x f)
-  one-left = left-store sets x f s hx
+  abbrev two-left : Sets
+  two-left = leftIn one-left (at-mode Read) f
 
-  both-store : IsStore both
-  both-store = left-store (leftIn sets x f) y f one-left hy
+  abbrev all-left : Sets
+  all-left = leftIn two-left (at-mode Inquiry) f
 
-  first-left : setIn both x ≡ removing (setIn sets x) f
-  first-left = ap setOf (left-there (leftIn sets x f) y f one-left hy x d) ∙ left-here sets x f s hx
+  one-store : IsStore one-left
+  one-store = left-store sets (at-mode Write) f s (low Write)
 
-  second-left : setIn both y ≡ removing (setIn sets y) f
-  second-left = left-here (leftIn sets x f) y f one-left hy
-      ∙ ap (λ (w : FileSet). removing w f) (ap setOf (left-there sets x f s hx y (λ e. d (sym e))))
+  two-store : IsStore two-left
+  two-store = left-store one-left (at-mode Read) f one-store (low Read)
 
-  others-left : (k : ℕ) → k ≢ x → k ≢ y → rowIn both k ≡ rowIn sets k
-  others-left k u v = left-there (leftIn sets x f) y f one-left hy k v ∙ left-there sets x f s hx k u
+  all-store : IsStore all-left
+  all-store = left-store two-left (at-mode Inquiry) f two-store (low Inquiry)
+
+  no-mode : false ≡ true → ⊥
+  no-mode e = never {t = false} e refl
+
+  all-here : (m : Mode) → setIn all-left (at-mode m) ≡ removing (setIn sets (at-mode m)) f
+  all-here Write = ap setOf (left-there two-left (at-mode Inquiry) f two-store (low Inquiry) (at-mode Write) (apart Write Inquiry no-mode)
+      ∙ left-there one-left (at-mode Read) f one-store (low Read) (at-mode Write) (apart Write Read no-mode))
+      ∙ left-here sets (at-mode Write) f s (low Write)
+  all-here Read = ap setOf (left-there two-left (at-mode Inquiry) f two-store (low Inquiry) (at-mode Read) (apart Read Inquiry no-mode))
+      ∙ left-here one-left (at-mode Read) f one-store (low Read)
+      ∙ ap (λ (w : FileSet). removing w f) (ap setOf (left-there sets (at-mode Write) f s (low Write) (at-mode Read) (apart Read Write no-mode)))
+  all-here Inquiry = left-here two-left (at-mode Inquiry) f two-store (low Inquiry)
+      ∙ ap (λ (w : FileSet). removing w f) (ap setOf
+      (left-there one-left (at-mode Read) f one-store (low Read) (at-mode Inquiry) (apart Inquiry Read no-mode)
+      ∙ left-there sets (at-mode Write) f s (low Write) (at-mode Inquiry) (apart Inquiry Write no-mode)))
+
+  all-others : (k : ℕ) → ((m : Mode) → k ≢ at-mode m) → rowIn all-left k ≡ rowIn sets k
+  all-others k d = left-there two-left (at-mode Inquiry) f two-store (low Inquiry) k (d Inquiry)
+      ∙ left-there one-left (at-mode Read) f one-store (low Read) k (d Read) ∙ left-there sets (at-mode Write) f s (low Write) k (d Write)
 
 -- ---- a file is closed, dropped, given
 
@@ -150,99 +191,77 @@ module _ (sets : Sets) (r : Rest) (p f : ℕ) (h : 1 ≤ p) (k : p ≤ 32) (s : 
 
   -- f is closed
   module _ where
-    l₁ : openPlace Write i < 128
-    l₁ = omega arith
+    abbrev opens : Mode → ℕ
+    opens m = openPlace m i
 
-    l₂ : openPlace Read i < 128
-    l₂ = omega arith
+    low-open : (m : Mode) → opens m < 192
+    low-open m = open-place m i lt
 
-    ne : openPlace Write i ≢ openPlace Read i
-    ne e = omega arith
+    apart-open : (m n : Mode) → (isMode m n ≡ true → ⊥) → opens m ≢ opens n
+    apart-open m n d = open-apart i i lt lt m n (λ e. absurd (d e))
 
     pub closed-store : IsStore (closedAt sets p f)
-    closed-store = both-store sets (openPlace Write i) (openPlace Read i) f s l₁ l₂ ne
+    closed-store = all-store sets opens f s low-open apart-open
 
-    others-closed : (j : ℕ) → j ≢ openPlace Write i → j ≢ openPlace Read i → rowIn (closedAt sets p f) j ≡ rowIn sets j
-    others-closed = others-left sets (openPlace Write i) (openPlace Read i) f s l₁ l₂ ne
+    others-closed : (j : ℕ) → ((m : Mode) → j ≢ opens m) → rowIn (closedAt sets p f) j ≡ rowIn sets j
+    others-closed = all-others sets opens f s low-open apart-open
 
-    closed-here : (m : Mode) → (setIn (closedAt sets p f) (claimPlace m i) ≡ claimOf m (closing q f))
-        × (setIn (closedAt sets p f) (openPlace m i) ≡ openOf m (closing q f))
+    closed-put : PutAt (closing q f) i sets (closedAt sets p f)
+    closed-put = record {
+      is-store = closed-store;
+      here = λ m. (
+        ap setOf (others-closed (claimPlace m i) (λ n. claim-apart i i lt lt m n)) ∙ claim-now m ∙ sym (closing-claim m q f),
+        all-here sets opens f s low-open apart-open m ∙ ap (λ (x : FileSet). removing x f) (open-now m) ∙ sym (closing-open m q f),
+      );
+      there = λ j l d m. (
+        others-closed (claimPlace m j) (λ n. claim-apart j i l lt m n),
+        others-closed (openPlace m j) (λ n. open-apart j i l lt m n (λ _. d)),
+      );
+    }
+
+    closed-stays : seatAt r p ≡ seatOf (closing q f)
     unfolding closing
-    closed-here Write = (
-      ap setOf (others-closed i (λ e. omega arith) (λ e. omega arith)) ∙ claim-now Write,
-      first-left sets (openPlace Write i) (openPlace Read i) f s l₁ l₂ ne ∙ ap (λ (x : FileSet). removing x f) (open-now Write),
-    )
-    closed-here Read = (
-      ap setOf (others-closed (claimPlace Read i) (λ e. omega arith) (λ e. omega arith)) ∙ claim-now Read,
-      second-left sets (openPlace Write i) (openPlace Read i) f s l₁ l₂ ne ∙ ap (λ (x : FileSet). removing x f) (open-now Read),
-    )
-
-    closed-there : (j : ℕ) → j < 32 → j ≢ i → (m : Mode) → (rowIn (closedAt sets p f) (claimPlace m j) ≡ rowIn sets (claimPlace m j))
-        × (rowIn (closedAt sets p f) (openPlace m j) ≡ rowIn sets (openPlace m j))
-    closed-there j l d Write = (
-      others-closed j (λ e. omega arith) (λ e. omega arith),
-      others-closed (openPlace Write j) (λ e. d (omega arith)) (λ e. omega arith),
-    )
-    closed-there j l d Read = (
-      others-closed (claimPlace Read j) (λ e. omega arith) (λ e. omega arith),
-      others-closed (openPlace Read j) (λ e. omega arith) (λ e. d (omega arith)),
-    )
-
-    closed-stays : standingAt r p ≡ closing q f .standing
-    unfolding closing
-    closed-stays = sym (standing-is sets r p h k s)
+    closed-stays = sym (seat-is sets r p h k s)
 
     pub closed-board : boardOf (closedAt sets p f) r ≡ setProgram (boardOf sets r) p (closing q f)
-    closed-board = keep-board (closing q f) p sets (closedAt sets p f) r h k
-        (record { is-store = closed-store; here = closed-here; there = closed-there }) closed-stays
+    closed-board = keep-board (closing q f) p sets (closedAt sets p f) r h k closed-put closed-stays
 
   -- f is dropped
   module _ where
-    m₁ : claimPlace Write i < 128
-    m₁ = omega arith
+    abbrev claims : Mode → ℕ
+    claims m = claimPlace m i
 
-    m₂ : claimPlace Read i < 128
-    m₂ = omega arith
+    low-claim : (m : Mode) → claims m < 192
+    low-claim m = claim-place m i lt
 
-    nf : claimPlace Write i ≢ claimPlace Read i
-    nf e = omega arith
+    apart-claim : (m n : Mode) → (isMode m n ≡ true → ⊥) → claims m ≢ claims n
+    apart-claim m n d = claims-apart i i lt lt m n (λ e. absurd (d e))
 
     pub dropped-store : IsStore (droppedAt sets p f)
-    dropped-store = both-store sets (claimPlace Write i) (claimPlace Read i) f s m₁ m₂ nf
+    dropped-store = all-store sets claims f s low-claim apart-claim
 
-    others-dropped : (j : ℕ) → j ≢ claimPlace Write i → j ≢ claimPlace Read i → rowIn (droppedAt sets p f) j ≡ rowIn sets j
-    others-dropped = others-left sets (claimPlace Write i) (claimPlace Read i) f s m₁ m₂ nf
+    others-dropped : (j : ℕ) → ((m : Mode) → j ≢ claims m) → rowIn (droppedAt sets p f) j ≡ rowIn sets j
+    others-dropped = all-others sets claims f s low-claim apart-claim
 
-    dropped-here : (m : Mode) → (setIn (droppedAt sets p f) (claimPlace m i) ≡ claimOf m (dropping q f))
-        × (setIn (droppedAt sets p f) (openPlace m i) ≡ openOf m (dropping q f))
+    dropped-put : PutAt (dropping q f) i sets (droppedAt sets p f)
+    dropped-put = record {
+      is-store = dropped-store;
+      here = λ m. (
+        all-here sets claims f s low-claim apart-claim m ∙ ap (λ (x : FileSet). removing x f) (claim-now m) ∙ sym (dropping-claim m q f),
+        ap setOf (others-dropped (openPlace m i) (λ n e. claim-apart i i lt lt n m (sym e))) ∙ open-now m ∙ sym (dropping-open m q f),
+      );
+      there = λ j l d m. (
+        others-dropped (claimPlace m j) (λ n. claims-apart j i l lt m n (λ _. d)),
+        others-dropped (openPlace m j) (λ n e. claim-apart i j lt l n m (sym e)),
+      );
+    }
+
+    dropped-stays : seatAt r p ≡ seatOf (dropping q f)
     unfolding dropping
-    dropped-here Write = (
-      first-left sets (claimPlace Write i) (claimPlace Read i) f s m₁ m₂ nf ∙ ap (λ (x : FileSet). removing x f) (claim-now Write),
-      ap setOf (others-dropped (openPlace Write i) (λ e. omega arith) (λ e. omega arith)) ∙ open-now Write,
-    )
-    dropped-here Read = (
-      second-left sets (claimPlace Write i) (claimPlace Read i) f s m₁ m₂ nf ∙ ap (λ (x : FileSet). removing x f) (claim-now Read),
-      ap setOf (others-dropped (openPlace Read i) (λ e. omega arith) (λ e. omega arith)) ∙ open-now Read,
-    )
-
-    dropped-there : (j : ℕ) → j < 32 → j ≢ i → (m : Mode) → (rowIn (droppedAt sets p f) (claimPlace m j) ≡ rowIn sets (claimPlace m j))
-        × (rowIn (droppedAt sets p f) (openPlace m j) ≡ rowIn sets (openPlace m j))
-    dropped-there j l d Write = (
-      others-dropped j (λ e. d (omega arith)) (λ e. omega arith),
-      others-dropped (openPlace Write j) (λ e. omega arith) (λ e. omega arith),
-    )
-    dropped-there j l d Read = (
-      others-dropped (claimPlace Read j) (λ e. omega arith) (λ e. d (omega arith)),
-      others-dropped (openPlace Read j) (λ e. omega arith) (λ e. omega arith),
-    )
-
-    dropped-stays : standingAt r p ≡ dropping q f .standing
-    unfolding dropping
-    dropped-stays = sym (standing-is sets r p h k s)
+    dropped-stays = sym (seat-is sets r p h k s)
 
     pub dropped-board : boardOf (droppedAt sets p f) r ≡ setProgram (boardOf sets r) p (dropping q f)
-    dropped-board = keep-board (dropping q f) p sets (droppedAt sets p f) r h k
-        (record { is-store = dropped-store; here = dropped-here; there = dropped-there }) dropped-stays
+    dropped-board = keep-board (dropping q f) p sets (droppedAt sets p f) r h k dropped-put dropped-stays
 
   -- f is given
   module _ where
@@ -266,9 +285,9 @@ module _ (sets : Sets) (r : Rest) (p f : ℕ) (h : 1 ≤ p) (k : p ≤ 32) (s : 
       );
     }
 
-    given-stays : standingAt r p ≡ opening q f .standing
+    given-stays : seatAt r p ≡ seatOf (opening q f)
     unfolding opening
-    given-stays = sym (standing-is sets r p h k s)
+    given-stays = sym (seat-is sets r p h k s)
 
     pub given-board : boardOf (givenAt sets p f) r ≡ setProgram (boardOf sets r) p (opening q f)
     given-board = keep-board (opening q f) p sets (givenAt sets p f) r h k given-put given-stays
@@ -285,7 +304,11 @@ module _ (sets : Sets) (r : Rest) (p f : ℕ) (h : 1 ≤ p) (k : p ≤ 32) (s : 
             × (openOf m (opening q f) ≡ openOf m (setStanding (opening q f) t))
         same-sets t Write = (refl, refl)
         same-sets t Read = (refl, refl)
+        same-sets t Inquiry = (refl, refl)
 
     pub served-board : (t : Standing) → length (r .seats) ≡ 32
         → boardOf (givenAt sets p f) (seatedAt r p t) ≡ setProgram (boardOf sets r) p (setStanding (opening q f) t)
-    served-board t n = put-board (setStanding (opening q f) t) p sets (givenAt sets p f) r h k (served-put t) n
+    unfolding opening
+    served-board t n =
+        ap (λ (x : Seat). boardOf (givenAt sets p f) (putSeat r p (record { standing = t; file = x .file; item = x .item }))) given-stays
+        ∙ put-board (setStanding (opening q f) t) p sets (givenAt sets p f) r h k (served-put t) n

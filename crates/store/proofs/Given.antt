@@ -17,7 +17,7 @@ use Rattle.files.specs.Words.{setOf, withFile}
 use Rattle.files.proofs.Rows.{words-with, length-with}
 use Rattle.rules.specs.declared.Program.{Program}
 use Rattle.rules.specs.declared.Board.{Board}
-use Rattle.rules.specs.Modes.{Mode, Write, Read, isMode, claimOf, openOf, modeOf}
+use Rattle.rules.specs.Modes.{Mode, Write, Read, Inquiry, isMode, claimOf, openOf, modeOf}
 use Rattle.rules.specs.Boards.{noProgram, at, opened, opening}
 use Rattle.theory.specs.Modes.{mode-is, opened-claim, opened-open, opened-same}
 use Rattle.theory.specs.Programs.{Is, Sized, SameSets}
@@ -25,7 +25,7 @@ use Rattle.store.specs.Sets.{Sets, IsStore, claimPlace, openPlace, rowIn
 use Rattle.store.proofs.Laws.{claim-apart, open-apart, open-place, put-row, open-is, mode-at}
 
 -- a file joins the set in a place
-module _ (sets : Sets) (k f : ℕ) (s : IsStore sets) (h : k < 128) where
+module _ (sets : Sets) (k f : ℕ) (s : IsStore sets) (h : k < 192) where
   abbrev joined : List ℕ
   joined = withFile (rowIn sets k) f
 
@@ -102,24 +102,36 @@ sets-given c d g p f sets z i ed k (n, s) = (
 -- ---- a file given, and the rows put back
 
 module _ (sets : Sets) (p f : ℕ) (h : 1 ≤ p) (k : p ≤ 32) where
-  abbrev w : ℕ
-  w = openPlace Write (p - 1)
+  -- the place of what p has open in a mode, and what stands there
+  abbrev place : Mode → ℕ
+  place m = openPlace m (p - 1)
 
-  abbrev r : ℕ
-  r = openPlace Read (p - 1)
+  abbrev row : Mode → List ℕ
+  row m = rowIn sets (place m)
 
-  apart : w ≢ r
-  apart e = omega arith
+  -- the three rows as they were
+  abbrev back : Sets → Sets
+  back l = set (set (set l (place Write) (row Write)) (place Read) (row Read)) (place Inquiry) (row Inquiry)
 
-  rows-back : set (set sets w (rowIn sets w)) r (rowIn sets r) ≡ sets
-  rows-back = ap (λ (l : Sets). set l r (rowIn sets r)) (set-getD sets w []) ∙ set-getD sets r []
+  rows-back : back sets ≡ sets
+  rows-back = ap (λ (l : Sets). set (set l (place Read) (row Read)) (place Inquiry) (row Inquiry)) (set-getD sets (place Write) [])
+      ∙ ap (λ (l : Sets). set l (place Inquiry) (row Inquiry)) (set-getD sets (place Read) []) ∙ set-getD sets (place Inquiry) []
 
-  back-from : (m : Mode) (x : List ℕ) → set (set (set sets (openPlace m (p - 1)) x) w (rowIn sets w)) r (rowIn sets r) ≡ sets
-  back-from Write x = ap (λ (l : Sets). set l r (rowIn sets r)) (set-set sets w x (rowIn sets w)) ∙ rows-back
-  back-from Read x = set-comm (set sets r x) w r (rowIn sets w) (rowIn sets r) apart
-      ∙ ap (λ (l : Sets). set l w (rowIn sets w)) (set-set sets r x (rowIn sets r))
-      ∙ set-comm sets r w (rowIn sets r) (rowIn sets w) (λ e. apart (sym e)) ∙ rows-back
+  -- a row that is put back was free to change
+  back-from : (m : Mode) (x : List ℕ) → back (set sets (place m) x) ≡ sets
+  back-from Write x =
+      ap (λ (l : Sets). set (set l (place Read) (row Read)) (place Inquiry) (row Inquiry)) (set-set sets (place Write) x (row Write)) ∙ rows-back
+  back-from Read x =
+      ap (λ (l : Sets). set (set l (place Read) (row Read)) (place Inquiry) (row Inquiry))
+      (set-comm sets (place Read) (place Write) x (row Write) (λ e. omega arith))
+      ∙ ap (λ (l : Sets). set l (place Inquiry) (row Inquiry)) (set-set (set sets (place Write) (row Write)) (place Read) x (row Read)) ∙ rows-back
+  back-from Inquiry x =
+      ap (λ (l : Sets). set (set l (place Read) (row Read)) (place Inquiry) (row Inquiry))
+      (set-comm sets (place Inquiry) (place Write) x (row Write) (λ e. omega arith))
+      ∙ ap (λ (l : Sets). set l (place Inquiry) (row Inquiry))
+      (set-comm (set sets (place Write) (row Write)) (place Inquiry) (place Read) x (row Read) (λ e. omega arith))
+      ∙ set-set (set (set sets (place Write) (row Write)) (place Read) (row Read)) (place Inquiry) x (row Inquiry) ∙ rows-back
 
   -- the sets are as they were
-  pub given-back : set (set (givenAt sets p f) w (rowIn sets w)) r (rowIn sets r) ≡ sets
+  pub given-back : back (givenAt sets p f) ≡ sets
   given-back = back-from (modeAt sets p f) (withFile (rowIn sets (openPlace (modeAt sets p f) (p - 1))) f)

@@ -1,5 +1,5 @@
 -- Laws of the sets in their places, and from there to boards. Assumes nothing.
-use mathlib.Core.Path.{_≡_, refl, ap, _∙_}
+use mathlib.Core.Path.{_≡_, refl, sym, ap, ap₂, _∙_}
 use mathlib.Core.Logic.{_≢_}
 use mathlib.Core.Bool.{true, cond, _&&_}
 use mathlib.Core.List.{List, []}
@@ -16,12 +16,12 @@ use Rattle.laws.specs.Tests.{by-test}
 use Rattle.laws.specs.Tables.{fresh-table, put-in}
 use Rattle.rules.specs.declared.Program.{Program}
 use Rattle.rules.specs.declared.Board.{Board}
-use Rattle.rules.specs.Modes.{Mode, Write, Read, isMode, clashing, someMode, claimOf, openOf, modeOf}
+use Rattle.rules.specs.Modes.{Mode, Write, Read, Inquiry, byMode, isMode, clashing, someMode, claimOf, openOf, modeOf}
 use Rattle.rules.specs.Boards.{at}
 use Rattle.rules.specs.Orders.{holdsBack}
 use Rattle.theory.specs.Modes.{same-mode, touching-same}
 use Rattle.store.specs.Sets.{Sets, IsStore, claimPlace, openPlace, rowIn, setIn, inPlace, SetsTo, SetsOf, PutAt}
-use Rattle.store.specs.Sets.{claimAt, openAt, modeAt, claimsAt, holdsOne}
+use Rattle.store.specs.Sets.{claimAt, openAt, modeAt, claimsAt, holdsOne, modePlace, PutsFrom}
 
 -- ---- places
 
@@ -32,6 +32,11 @@ module _ (i j : ℕ) (h : i < 32) (k : j < 32) where
   claim-apart Write Read e = omega arith
   claim-apart Read Write e = omega arith
   claim-apart Read Read e = omega arith
+  claim-apart Write Inquiry e = omega arith
+  claim-apart Read Inquiry e = omega arith
+  claim-apart Inquiry Write e = omega arith
+  claim-apart Inquiry Read e = omega arith
+  claim-apart Inquiry Inquiry e = omega arith
 
   -- what is open in different modes, or of different programs, stands in different places
   pub open-apart : (m n : Mode) → (isMode m n ≡ true → i ≢ j) → openPlace m i ≢ openPlace n j
@@ -39,98 +44,122 @@ module _ (i j : ℕ) (h : i < 32) (k : j < 32) where
   open-apart Write Read d e = omega arith
   open-apart Read Write d e = omega arith
   open-apart Read Read d e = d refl (omega arith)
+  open-apart Write Inquiry d e = omega arith
+  open-apart Read Inquiry d e = omega arith
+  open-apart Inquiry Write d e = omega arith
+  open-apart Inquiry Read d e = omega arith
+  open-apart Inquiry Inquiry d e = d refl (omega arith)
 
--- every place is among the 128
-pub claim-place : (m : Mode) (i : ℕ) → i < 32 → claimPlace m i < 128
+module _ (i j : ℕ) (h : i < 32) (k : j < 32) where
+  -- and claims in different modes, or of different programs
+  pub claims-apart : (m n : Mode) → (isMode m n ≡ true → i ≢ j) → claimPlace m i ≢ claimPlace n j
+  claims-apart Write Write d e = d refl (omega arith)
+  claims-apart Write Read d e = omega arith
+  claims-apart Write Inquiry d e = omega arith
+  claims-apart Read Write d e = omega arith
+  claims-apart Read Read d e = d refl (omega arith)
+  claims-apart Read Inquiry d e = omega arith
+  claims-apart Inquiry Write d e = omega arith
+  claims-apart Inquiry Read d e = omega arith
+  claims-apart Inquiry Inquiry d e = d refl (omega arith)
+
+-- every place is among the 192
+pub claim-place : (m : Mode) (i : ℕ) → i < 32 → claimPlace m i < 192
 claim-place Write i h = omega arith
 claim-place Read i h = omega arith
+claim-place Inquiry i h = omega arith
 
-pub open-place : (m : Mode) (i : ℕ) → i < 32 → openPlace m i < 128
+pub open-place : (m : Mode) (i : ℕ) → i < 32 → openPlace m i < 192
 open-place Write i h = omega arith
 open-place Read i h = omega arith
+open-place Inquiry i h = omega arith
 
 -- ---- rows
 
 -- an array of empty sets
-pub fresh-store : IsStore (replicate 128 (replicate {A = ℕ} wordCount 0))
-fresh-store = fresh-table 128 wordCount
+pub fresh-store : IsStore (replicate 192 (replicate {A = ℕ} wordCount 0))
+fresh-store = fresh-table 192 wordCount
 
 -- a row is put in a place
 pub put-row : (sets : Sets) (k : ℕ) (r : List ℕ) → IsStore sets → length r ≡ wordCount → IsStore (set sets k r)
-put-row = put-in 128 wordCount
+put-row = put-in 192 wordCount
 
 -- ---- one program after another
 
--- the four rows of one program are put
-abbrev pub putRows : Sets → ℕ → List ℕ → List ℕ → List ℕ → List ℕ → Sets
-putRows l i v q w r = set (set (set (set l i v) (claimPlace Read i) q) (openPlace Write i) w) (openPlace Read i) r
-
-module _ (p : Program) (i : ℕ) (l : Sets) (v q w r : List ℕ) (h : i < 32) (s : IsStore l)
-    (ev : setOf v ≡ p .writable) (eq : setOf q ≡ p .readable) (ew : setOf w ≡ p .writing) (er : setOf r ≡ p .reading)
-    (nv : length v ≡ wordCount) (nq : length q ≡ wordCount) (nw : length w ≡ wordCount) (nr : length r ≡ wordCount) where
+-- three rows are put, by mode
+module _ (k : ℕ) (x y z : FileSet) (l : Sets) (v q j : List ℕ) (h : k < 128) (s : IsStore l)
+    (ev : setOf v ≡ x) (eq : setOf q ≡ y) (ej : setOf j ≡ z)
+    (nv : length v ≡ wordCount) (nq : length q ≡ wordCount) (nj : length j ≡ wordCount) where
   abbrev l₁ : Sets
-  l₁ = set l i v
+  l₁ = set l k v
 
   abbrev l₂ : Sets
-  l₂ = set l₁ (claimPlace Read i) q
+  l₂ = set l₁ (32 + k) q
 
   abbrev l₃ : Sets
-  l₃ = set l₂ (openPlace Write i) w
-
-  abbrev l₄ : Sets
-  l₄ = putRows l i v q w r
+  l₃ = set l₂ (64 + k) j
 
   s₁ : IsStore l₁
-  s₁ = put-row l i v s nv
+  s₁ = put-row l k v s nv
 
   s₂ : IsStore l₂
-  s₂ = put-row l₁ (claimPlace Read i) q s₁ nq
+  s₂ = put-row l₁ (32 + k) q s₁ nq
 
-  s₃ : IsStore l₃
-  s₃ = put-row l₂ (openPlace Write i) w s₂ nw
+  pub three-put : PutsFrom k (byMode x y z) l l₃
+  three-put = record {
+    are-store = put-row l₂ (64 + k) j s₂ nj;
+    put-here = mine;
+    put-there = λ i d. getD-set-other l₂ (64 + k) i j [] (d Inquiry) ∙ getD-set-other l₁ (32 + k) i q [] (d Read) ∙ getD-set-other l k i v [] (d Write);
+  }
+    where
+      mine : (m : Mode) → setIn l₃ (modePlace k m) ≡ byMode x y z m
+      mine Write = ap setOf (getD-set-other l₂ (64 + k) k j [] (λ e. omega arith) ∙ getD-set-other l₁ (32 + k) k q [] (λ e. omega arith)
+          ∙ getD-set-same l k v [] (omega (arith, s .places-are))) ∙ ev
+      mine Read = ap setOf (getD-set-other l₂ (64 + k) (32 + k) j [] (λ e. omega arith)
+          ∙ getD-set-same l₁ (32 + k) q [] (omega (arith, s₁ .places-are))) ∙ eq
+      mine Inquiry = ap setOf (getD-set-same l₂ (64 + k) j [] (omega (arith, s₂ .places-are))) ∙ ej
 
-  last : (k : ℕ) → k ≢ openPlace Read i → rowIn l₄ k ≡ rowIn l₃ k
-  last k d = getD-set-other l₃ (openPlace Read i) k r [] d
+-- claims and open files stand by mode
+claim-mode : (m : Mode) (i : ℕ) → claimPlace m i ≡ modePlace i m
+claim-mode Write i = refl
+claim-mode Read i = refl
+claim-mode Inquiry i = refl
 
-  third : (k : ℕ) → k ≢ openPlace Write i → rowIn l₃ k ≡ rowIn l₂ k
-  third k d = getD-set-other l₂ (openPlace Write i) k w [] d
+open-mode : (m : Mode) (i : ℕ) → openPlace m i ≡ modePlace (96 + i) m
+open-mode Write i = refl
+open-mode Read i = omega arith
+open-mode Inquiry i = omega arith
 
-  second : (k : ℕ) → k ≢ claimPlace Read i → rowIn l₂ k ≡ rowIn l₁ k
-  second k d = getD-set-other l₁ (claimPlace Read i) k q [] d
+claim-by : (m : Mode) (p : Program) → byMode (p .writable) (p .readable) (p .inquirable) m ≡ claimOf m p
+claim-by Write p = refl
+claim-by Read p = refl
+claim-by Inquiry p = refl
 
-  one : (k : ℕ) → k ≢ i → rowIn l₁ k ≡ rowIn l k
-  one k d = getD-set-other l i k v [] d
+open-by : (m : Mode) (p : Program) → byMode (p .writing) (p .reading) (p .inquiring) m ≡ openOf m p
+open-by Write p = refl
+open-by Read p = refl
+open-by Inquiry p = refl
 
-  elsewhere : (k : ℕ) → k ≢ openPlace Read i → k ≢ openPlace Write i → k ≢ claimPlace Read i → k ≢ i → rowIn l₄ k ≡ rowIn l k
-  elsewhere k x y z u = last k x ∙ third k y ∙ second k z ∙ one k u
+-- the claims of a program are put, then what it has open
+pub rows-put : (p : Program) (i : ℕ) (l l′ l″ : Sets) → i < 32 → PutsFrom i (byMode (p .writable) (p .readable) (p .inquirable)) l l′
+    → PutsFrom (96 + i) (byMode (p .writing) (p .reading) (p .inquiring)) l′ l″ → PutAt p i l l″
+rows-put p i l l′ l″ h a b = record {
+  is-store = b .are-store;
+  here = λ m. (
+    ap setOf (opens-there (claimPlace m i) (λ n. claim-apart i i h h m n)) ∙ ap (setIn l′) (claim-mode m i) ∙ a .put-here m ∙ claim-by m p,
+    ap (setIn l″) (open-mode m i) ∙ b .put-here m ∙ open-by m p,
+  );
+  there = λ k z d m. (
+    opens-there (claimPlace m k) (λ n. claim-apart k i z h m n) ∙ claims-there (claimPlace m k) (λ n. claims-apart k i z h m n (λ _. d)),
+    opens-there (openPlace m k) (λ n. open-apart k i z h m n (λ _. d)) ∙ claims-there (openPlace m k) (λ n e. claim-apart i k h z n m (sym e)),
+  );
+}
+  where
+    opens-there : (k : ℕ) → ((m : Mode) → k ≢ openPlace m i) → rowIn l″ k ≡ rowIn l′ k
+    opens-there k d = b .put-there k (λ m e. d m (e ∙ sym (open-mode m i)))
 
-  -- at its own places
-  mine : (m : Mode) → (setIn l₄ (claimPlace m i) ≡ claimOf m p) × (setIn l₄ (openPlace m i) ≡ openOf m p)
-  mine Write = (
-    ap setOf (last i (omega arith) ∙ third i (omega arith) ∙ second i (omega arith)
-        ∙ getD-set-same l i v [] (omega (arith, s .places-are))) ∙ ev,
-    ap setOf (last (openPlace Write i) (omega arith) ∙ getD-set-same l₂ (openPlace Write i) w [] (omega (arith, s₂ .places-are))) ∙ ew,
-  )
-  mine Read = (
-    ap setOf (last (claimPlace Read i) (omega arith) ∙ third (claimPlace Read i) (omega arith)
-        ∙ getD-set-same l₁ (claimPlace Read i) q [] (omega (arith, s₁ .places-are))) ∙ eq,
-    ap setOf (getD-set-same l₃ (openPlace Read i) r [] (omega (arith, s₃ .places-are))) ∙ er,
-  )
-
-  -- and at those of another program
-  theirs : (k : ℕ) → k < 32 → k ≢ i → (m : Mode)
-      → (rowIn l₄ (claimPlace m k) ≡ rowIn l (claimPlace m k)) × (rowIn l₄ (openPlace m k) ≡ rowIn l (openPlace m k))
-  theirs k z d Write = (
-    elsewhere k (omega arith) (omega arith) (omega arith) (omega arith),
-    elsewhere (openPlace Write k) (omega arith) (omega arith) (omega arith) (omega arith),
-  )
-  theirs k z d Read = (
-    elsewhere (claimPlace Read k) (omega arith) (omega arith) (omega arith) (omega arith),
-    elsewhere (openPlace Read k) (omega arith) (omega arith) (omega arith) (omega arith),
-  )
-
-  pub rows-put : PutAt p i l l₄
-  rows-put = record { is-store = put-row l₃ (openPlace Read i) r s₃ nr; here = mine; there = theirs }
+    claims-there : (k : ℕ) → ((m : Mode) → k ≢ claimPlace m i) → rowIn l′ k ≡ rowIn l k
+    claims-there k d = a .put-there k (λ m e. d m (e ∙ sym (claim-mode m i)))
 
 -- the sets of one program more
 pub sets-more : (b : Board) (i : ℕ) (l l′ : Sets) → i < 32 → PutAt (inPlace b i) i l l′ → SetsTo b i l → SetsTo b (i + 1) l′
@@ -150,7 +179,7 @@ module _ (b : Board) (sets : Sets) (s : SetsOf b sets) where
 
   -- the mode in which a file is opened
   pub mode-at : (p f : ℕ) → 1 ≤ p → p ≤ 32 → modeAt sets p f ≡ modeOf (at b p) f
-  mode-at p f h k = ap (λ (x : FileSet). cond (member x f) Write Read) (claim-is p h k Write)
+  mode-at p f h k = ap₂ (λ (x y : FileSet). cond (member x f) Write (cond (member y f) Read Inquiry)) (claim-is p h k Write) (claim-is p h k Read)
 
   -- who claims a file in a mode that clashes
   pub claims-is : (f p : ℕ) (m : Mode) → 1 ≤ p → p ≤ 32

@@ -8,32 +8,44 @@ use Rattle.files.specs.Words.{wordCount}
 use Rattle.rules.specs.declared.Standing.{Standing}
 use Rattle.rules.specs.declared.Program.{Program}
 use Rattle.rules.specs.declared.Board.{Board}
-use Rattle.rules.specs.Modes.{Write, Read}
+use Rattle.rules.specs.Modes.{Write, Read, Inquiry}
 use Rattle.store.specs.declared.Seat.{Seat}
 use Rattle.store.specs.declared.Rest.{Rest}
 use Rattle.store.specs.Sets.{Sets, setIn, claimPlace, openPlace, inPlace}
 
 -- the seat of an absent program
 abbrev pub noSeat : Seat
-noSeat = record { standing = Standing.Absent }
+noSeat = record { standing = Standing.Absent; file = 0; item = 0 }
+
+-- the seat of program p
+abbrev pub seatAt : Rest → ℕ → Seat
+seatAt r p = getD (r .seats) (p - 1) noSeat
+
+-- what a program has beside its sets
+abbrev pub seatOf : Program → Seat
+seatOf q = record { standing = q .standing; file = q .file; item = q .item }
 
 -- the standing of program p
 abbrev pub standingAt : Rest → ℕ → Standing
-standingAt r p = getD (r .seats) (p - 1) noSeat .standing
+standingAt r p = seatAt r p .standing
 
--- the program at index i, by its sets, at a standing
-abbrev pub programWith : Sets → ℕ → Standing → Program
+-- the program at index i, by its sets, with a seat
+abbrev pub programWith : Sets → ℕ → Seat → Program
 programWith sets i s =
     record {
       writable = setIn sets (claimPlace Write i);
       readable = setIn sets (claimPlace Read i);
+      inquirable = setIn sets (claimPlace Inquiry i);
       writing = setIn sets (openPlace Write i);
       reading = setIn sets (openPlace Read i);
-      standing = s;
+      inquiring = setIn sets (openPlace Inquiry i);
+      standing = s .standing;
+      file = s .file;
+      item = s .item;
     }
 
--- the n programs from index i on, by their sets, at these standings
-unfoldable pub programsFrom : Sets → (ℕ → Standing) → ℕ → ℕ → List Program
+-- the n programs from index i on, by their sets, with these seats
+unfoldable pub programsFrom : Sets → (ℕ → Seat) → ℕ → ℕ → List Program
 programsFrom sets s zero i = []
 programsFrom sets s (suc n) i = programWith sets i (s i) ∷ programsFrom sets s n (suc i)
 
@@ -41,7 +53,7 @@ programsFrom sets s (suc n) i = programWith sets i (s i) ∷ programsFrom sets s
 unfoldable pub boardOf : Sets → Rest → Board
 boardOf sets r =
     record {
-      programs = programsFrom sets (λ i. getD (r .seats) i noSeat .standing) 32 0;
+      programs = programsFrom sets (λ i. getD (r .seats) i noSeat) 32 0;
       waiting = r .waiting;
       entry = r .entry;
       favoured = r .favoured;
@@ -113,17 +125,21 @@ withPassed r l =
       passed = l;
     }
 
+-- the rest with a seat for p
+abbrev pub putSeat : Rest → ℕ → Seat → Rest
+putSeat r p t = withSeats r (set (r .seats) (p - 1) t)
+
 -- the rest with p at a standing
 abbrev pub seatedAt : Rest → ℕ → Standing → Rest
-seatedAt r p s = withSeats r (set (r .seats) (p - 1) (record { standing = s }))
+seatedAt r p s = putSeat r p (record { standing = s; file = seatAt r p .file; item = seatAt r p .item })
 
 -- ---- the rest of a board
 
--- the first n seats have the standings of the board's programs
+-- the first n seats are those of the board's programs
 abbrev pub SeatsTo : Board → ℕ → List Seat → Type 0
-SeatsTo b n seats = (i : ℕ) → i < n → getD seats i noSeat .standing ≡ inPlace b i .standing
+SeatsTo b n seats = (i : ℕ) → i < n → getD seats i noSeat ≡ seatOf (inPlace b i)
 
--- the rest has the standings, the lines, the numbers and the counts of the board
+-- the rest has the seats, the lines, the numbers and the counts of the board
 pub record RestOf (b : Board) (r : Rest) : Type 0 where
   pub seats-are : SeatsTo b 32 (r .seats)
   pub waiting-is : r .waiting ≡ b .waiting
@@ -137,7 +153,7 @@ pub record RestOf (b : Board) (r : Rest) : Type 0 where
 
 -- no file is in any set
 abbrev pub emptySets : Sets
-emptySets = replicate 128 (replicate {A = ℕ} wordCount 0)
+emptySets = replicate 192 (replicate {A = ℕ} wordCount 0)
 
 abbrev pub emptyRest : Rest
 emptyRest =

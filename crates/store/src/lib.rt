@@ -3,13 +3,17 @@
 use rules::Standing;
 ghost use mathlib.Core.Path.{_≡_};
 ghost use Prim.Native.Nat.{_≤_};
-ghost use Rattle.store.specs.Store.{standingAt, seatedAt};
+ghost use Rattle.store.specs.declared.Seat.{Seat};
+ghost use Rattle.store.specs.Store.{seatAt, standingAt, putSeat, seatedAt};
 
 pub mod sets;
 
-// What is kept of a program beside its sets.
+// What is kept of a program beside its sets: its standing, and its record (item) with the file: in use if the program runs, awaited if it
+// waits; 0 for none.
 pub struct Seat {
     pub standing: Standing,
+    pub file: u8,
+    pub item: u16,
 }
 
 // A board but for its programs' sets; program p has seat p - 1.
@@ -28,6 +32,8 @@ impl Rest {
     pub const EMPTY: Rest = Rest {
         seats: [Seat {
             standing: Standing::Absent,
+            file: 0,
+            item: 0,
         }; 32],
         waiting: [0; 32],
         entry: [0; 32],
@@ -36,6 +42,26 @@ impl Rest {
         leaves: 0,
         passed: [0; 32],
     };
+}
+
+// The seat of p.
+pub fn seat_at(rest: Rest, p: u8) -> Seat
+    requires { ⌜ (1 ≤ p) × (p ≤ 32) ⌝ }
+    ensures { λ r. ⌜ r ≡ seatAt rest p ⌝ }
+{
+    let i = (p - 1) as usize;
+    rest.seats[i]
+}
+
+// The rest with a seat for p.
+pub fn put_seat(rest: Rest, p: u8, t: Seat) -> Rest
+    requires { ⌜ (1 ≤ p) × (p ≤ 32) ⌝ }
+    ensures { λ r. ⌜ r ≡ putSeat rest p t ⌝ }
+{
+    let i = (p - 1) as usize;
+    let mut r = rest;
+    r.seats[i] = t;
+    r
 }
 
 // The standing of p.
@@ -54,7 +80,14 @@ pub fn seated(rest: Rest, p: u8, s: Standing) -> Rest
     ensures { λ r. ⌜ r ≡ seatedAt rest p s ⌝ }
 {
     let i = (p - 1) as usize;
+    let seat = rest.seats[i];
+    let f = seat.file;
+    let n = seat.item;
     let mut r = rest;
-    r.seats[i] = Seat { standing: s };
+    r.seats[i] = Seat {
+        standing: s,
+        file: f,
+        item: n,
+    };
     r
 }

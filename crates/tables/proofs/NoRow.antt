@@ -1,7 +1,7 @@
 -- Laws of the row of a program of whose open files the others claim nothing. Assumes nothing.
 use mathlib.Core.Path.{_≡_, sym, ap, _∙_}
 use mathlib.Core.Logic.{_≢_}
-use mathlib.Core.Bool.{true, false, _||_}
+use mathlib.Core.Bool.{Bool, true, false, _||_}
 use mathlib.Core.List.{List}
 use Prim.Native.Nat.{ℕ, _-_, _≤_}
 use native.Mathlib.Omega.{arith}
@@ -10,22 +10,36 @@ use lib.Dec.{eqb}
 use lib.ListN.{length}
 use borrow.Author.Tests.{eqb-true, eqb-false}
 use Rattle.files.specs.Sets.{meets}
-use Rattle.files.specs.Words.{wordCount, setOf}
+use Rattle.files.specs.Words.{wordCount, setOf, wordwise}
 use Rattle.files.proofs.Bits.{share-of, of-share, without-number-same, without-number-other}
 use Rattle.files.proofs.Rows.{or-words, length-wordwise}
-use Rattle.laws.specs.Tests.{by-test, never, no-true, and-false, or-left, or-right}
-use Rattle.rules.specs.Modes.{Mode, Write, Read}
+use Rattle.laws.specs.Tests.{by-test, never, no-true, and-false}
+use Rattle.rules.specs.Modes.{Mode, Write, Read, Inquiry}
 use Rattle.store.specs.Sets.{Sets, IsStore, claimPlace, openPlace, rowIn, claimAt, openAt, holdsOne}
 use Rattle.store.proofs.Laws.{claim-place, open-place}
-use Rattle.theory.specs.Modes.{by-touching}
+use Rattle.theory.specs.Modes.{by-touching, some-mode}
 use Rattle.theory.specs.Programs.{Is}
 use Rattle.tables.specs.declared.ProgramSet.{ProgramSet}
 use Rattle.tables.specs.declared.shared.Shared.{Shared}
 use Rattle.tables.specs.ProgramSets.{noPrograms, hasProgram, withoutProgram}
-use Rattle.tables.specs.Shared.{othersOf, openRow, claimedAt, openedAt, inWords, SharedBy}
+use Rattle.tables.specs.Shared.{othersOf, openRow, inAnyMode, claimedAt, openedAt, inWords, SharedBy}
 use Rattle.tables.specs.Tables.{heldBy, packed}
 use Rattle.tables.proofs.Laws.{packed-none, set-is}
 use Rattle.tables.proofs.Sharing.{of-others}
+
+-- three rows, by mode
+module _ (g : Mode → List ℕ) (n : (m : Mode) → length (g m) ≡ wordCount) where
+  two-words : length (wordwise bitOr (g Write) (g Read)) ≡ wordCount
+  two-words = length-wordwise bitOr (g Write) (g Read) ∙ n Write
+
+  any-words : length (inAnyMode g) ≡ wordCount
+  any-words = length-wordwise bitOr (wordwise bitOr (g Write) (g Read)) (g Inquiry) ∙ two-words
+
+  -- what is in one of them is in all together
+  in-any : (m : Mode) (x : ℕ) → inWords (g m) x ≡ true → inWords (inAnyMode g) x ≡ true
+  in-any m x d = or-words (wordwise bitOr (g Write) (g Read)) (g Inquiry) x (two-words ∙ sym (n Inquiry))
+      ∙ ap (λ (t : Bool). t || inWords (g Inquiry) x) (or-words (g Write) (g Read) x (n Write ∙ sym (n Read)))
+      ∙ some-mode (λ k. inWords (g k) x) m d
 
 -- the rows of a program have as many words as a set
 module _ (sets : Sets) (s : IsStore sets) (p : ℕ) (h : 1 ≤ p) (k : p ≤ 32) where
@@ -36,26 +50,15 @@ module _ (sets : Sets) (s : IsStore sets) (p : ℕ) (h : 1 ≤ p) (k : p ≤ 32)
   open-words m = s .words-are (openPlace m (p - 1)) (open-place m (p - 1) (omega arith))
 
   pub claimed-words : length (claimedAt sets p) ≡ wordCount
-  claimed-words = length-wordwise bitOr (rowIn sets (claimPlace Write (p - 1))) (rowIn sets (claimPlace Read (p - 1))) ∙ claim-words Write
+  claimed-words = any-words (λ m. rowIn sets (claimPlace m (p - 1))) claim-words
 
   -- what is open in a mode is open
   in-open : (m : Mode) (x : ℕ) → inWords (openRow sets m p) x ≡ true → inWords (openedAt sets p) x ≡ true
-  in-open m x d = or-words (openRow sets Write p) (openRow sets Read p) x (open-words Write ∙ sym (open-words Read)) ∙ either m d
-    where
-      either : (m : Mode) → inWords (openRow sets m p) x ≡ true → (inWords (openRow sets Write p) x || inWords (openRow sets Read p) x) ≡ true
-      either Write e = or-left (inWords (openRow sets Write p) x) (inWords (openRow sets Read p) x) e
-      either Read e = or-right (inWords (openRow sets Write p) x) (inWords (openRow sets Read p) x) e
+  in-open = in-any (λ m. openRow sets m p) open-words
 
   -- what is claimed in a mode is claimed
   in-claims : (m : Mode) (x : ℕ) → inWords (rowIn sets (claimPlace m (p - 1))) x ≡ true → inWords (claimedAt sets p) x ≡ true
-  in-claims m x d = or-words (claimRow Write) (claimRow Read) x (claim-words Write ∙ sym (claim-words Read)) ∙ either m d
-    where
-      claimRow : Mode → List ℕ
-      claimRow n = rowIn sets (claimPlace n (p - 1))
-
-      either : (m : Mode) → inWords (claimRow m) x ≡ true → (inWords (claimRow Write) x || inWords (claimRow Read) x) ≡ true
-      either Write e = or-left (inWords (claimRow Write) x) (inWords (claimRow Read) x) e
-      either Read e = or-right (inWords (claimRow Write) x) (inWords (claimRow Read) x) e
+  in-claims = in-any (λ m. rowIn sets (claimPlace m (p - 1))) claim-words
 
 module _ (sets : Sets) (s : IsStore sets) (a : ProgramSet) (k : Shared) (f : SharedBy (claimedAt sets) (hasProgram a) k) (p : ℕ)
     (e : hasProgram a p ≡ true) where

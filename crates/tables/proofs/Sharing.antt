@@ -18,7 +18,7 @@ use Rattle.files.proofs.Rows.{or-words, and-words, but-words, length-wordwise, 
 use Rattle.laws.specs.Tests.{by-test, never, no-true, not-true, true-not, same-test, and-left, and-right, and-both, or-cases, or-left, or-right}
 use Rattle.laws.specs.Lists.{any}
 use Rattle.laws.specs.Laws.{any-some, some-any}
-use Rattle.rules.specs.Modes.{Mode, Write, Read}
+use Rattle.rules.specs.Modes.{Mode, Write, Read, Inquiry}
 use Rattle.rules.specs.Boards.{isProgram, everyone}
 use Rattle.store.specs.Sets.{Sets}
 use Rattle.theory.specs.Programs.{is-of, of-is, mem-everyone, everyone-is}
@@ -29,6 +29,7 @@ use Rattle.tables.specs.Shared.{noneShared, sharing, sharedTo, sharedIn,
 pub shared-in : (sets : Sets) (m : Mode) → sharedIn m (openedIn sets) ≡ sharedTo (openRow sets m) 32
 shared-in sets Write = refl
 shared-in sets Read = refl
+shared-in sets Inquiry = refl
 
 -- nothing is in no words
 no-word : (x : ℕ) → inWords (noneShared .once) x ≡ false

@@ -9,7 +9,7 @@ use lib.Bits.{bitAnd, bitOr}
 use lib.ListN.{length, replicate}
 use Rattle.files.specs.Bits.{hasBit, lessBits}
 use Rattle.files.specs.Words.{wordCount, bitsOf, wordwise}
-use Rattle.rules.specs.Modes.{Mode, Write, Read}
+use Rattle.rules.specs.Modes.{Mode, Write, Read, Inquiry}
 use Rattle.store.specs.Sets.{Sets, rowIn, claimPlace, openPlace}
 use Rattle.tables.specs.declared.shared.Shared.{Shared}
 use Rattle.tables.specs.declared.shared.OpenFiles.{OpenFiles}
@@ -35,6 +35,7 @@ othersOf k own = wordwise bitOr (k .twice) (wordwise lessBits (k .once) own)
 abbrev pub sharedIn : Mode → OpenFiles → Shared
 sharedIn Write o = o .writing
 sharedIn Read o = o .reading
+sharedIn Inquiry o = o .inquiring
 
 -- by the sets: what p has open in a mode
 abbrev pub openRow : Sets → Mode → ℕ → List ℕ
@@ -42,15 +43,24 @@ openRow sets m p = rowIn sets (openPlace m (p - 1))
 
 -- what all programs have open
 abbrev pub openedIn : Sets → OpenFiles
-openedIn sets = record { writing = sharedTo (openRow sets Write) 32; reading = sharedTo (openRow sets Read) 32 }
+openedIn sets =
+    record {
+      writing = sharedTo (openRow sets Write) 32;
+      reading = sharedTo (openRow sets Read) 32;
+      inquiring = sharedTo (openRow sets Inquiry) 32;
+    }
+
+-- what stands in three rows, by mode
+abbrev pub inAnyMode : (Mode → List ℕ) → List ℕ
+inAnyMode g = wordwise bitOr (wordwise bitOr (g Write) (g Read)) (g Inquiry)
 
 -- what p claims, in any mode
 abbrev pub claimedAt : Sets → ℕ → List ℕ
-claimedAt sets p = wordwise bitOr (rowIn sets (claimPlace Write (p - 1))) (rowIn sets (claimPlace Read (p - 1)))
+claimedAt sets p = inAnyMode (λ m. rowIn sets (claimPlace m (p - 1)))
 
 -- what p has open, in any mode
 abbrev pub openedAt : Sets → ℕ → List ℕ
-openedAt sets p = wordwise bitOr (openRow sets Write p) (openRow sets Read p)
+openedAt sets p = inAnyMode (λ m. openRow sets m p)
 
 -- place x is in the words
 abbrev pub inWords : List ℕ → ℕ → Bool

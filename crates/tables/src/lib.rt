@@ -29,19 +29,21 @@ pub fn join(s: ProgramSet, p: u8, yes: bool) -> ProgramSet
 }
 
 // The test of an ordered pair: whether p holds back q. No other function makes it.
-pub fn holds_back(sets: &[[u64; WORDS]; 128], p: u8, q: u8) -> bool
+pub fn holds_back(sets: &[[u64; WORDS]; 192], p: u8, q: u8) -> bool
     requires { ⌜ ((1 ≤ p) × (p ≤ 32)) × ((1 ≤ q) × (q ≤ 32)) × IsStore (now sets) ⌝ }
     ensures { λ r. ⌜ r ≡ holdsOne (now (sets .entry)) q p ⌝ }
 {
     let w = sets::writing_at(p);
     let r = sets::reading_at(p);
+    let i = sets::inquiring_at(p);
     let v = sets::writable_at(q);
     let c = sets::readable_at(q);
-    modes::touches(&sets[w], &sets[r], &sets[v], &sets[c])
+    let j = sets::inquirable_at(q);
+    modes::touches(&sets[w], &sets[r], &sets[i], &sets[v], &sets[c], &sets[j])
 }
 
 // Those of a set that hold p back: one test for each of them.
-pub fn holders_of(sets: &[[u64; WORDS]; 128], p: u8, set: ProgramSet) -> ProgramSet
+pub fn holders_of(sets: &[[u64; WORDS]; 192], p: u8, set: ProgramSet) -> ProgramSet
     requires { ⌜ ((1 ≤ p) × (p ≤ 32)) × IsStore (now sets) ⌝ }
     ensures { λ r. ⌜ r ≡ packed (holdersOf (now (sets .entry)) p set) 32 ⌝ }
 {

@@ -9,10 +9,11 @@ pub struct Shared {
     pub twice: [u64; WORDS],
 }
 
-// What all programs have open, for writing and for reading.
+// What all programs have open, for writing, for reading and for inquiry.
 pub struct OpenFiles {
     pub writing: Shared,
     pub reading: Shared,
+    pub inquiring: Shared,
 }
 
 impl Shared {
@@ -48,18 +49,25 @@ impl Shared {
 }
 
 // What all programs have open.
-pub fn opened(sets: &[[u64; WORDS]; 128]) -> OpenFiles
+pub fn opened(sets: &[[u64; WORDS]; 192]) -> OpenFiles
     ensures { λ r. ⌜ r ≡ openedIn (now (sets .entry)) ⌝ }
 {
     let mut writing = Shared::NONE;
     let mut reading = Shared::NONE;
+    let mut inquiring = Shared::NONE;
     let mut p: u8 = 1;
     while p <= 32 {
         let w = store::sets::writing_at(p);
         writing = writing.with(sets[w]);
         let r = store::sets::reading_at(p);
         reading = reading.with(sets[r]);
+        let i = store::sets::inquiring_at(p);
+        inquiring = inquiring.with(sets[i]);
         p += 1;
     }
-    OpenFiles { writing, reading }
+    OpenFiles {
+        writing,
+        reading,
+        inquiring,
+    }
 }

@@ -13,9 +13,9 @@ seats-are t = sym (length-map (t .args .rest .seats) _) ∙ t .good .1 .0 .1 .1 
 
 returns : tie.Need-returns
 returns c = let s = c .before in let t = s .before .before in let a = t .args in (
-  ap (λ (r : Rest). boardOf (s .put-sets .last .0) r) (c .seated .ensures)
+  ap (λ (r : Rest). boardOf (s .put-sets .last .0) r) (c .put-seat .ensures)
       ∙ put-board (a .q) (a .p) (a .sets .now) _ (a .rest) (t .pre .0 .0) (t .pre .0 .1) (s .put-sets .ensures) (seats-are t),
-  (c .seated .ensures, s .put-sets .ensures .is-store),
+  (c .put-seat .ensures, s .put-sets .ensures .is-store),
 )
 
 pub put-spec : {M : Type 1} → statement M
