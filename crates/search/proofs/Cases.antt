@@ -20,7 +20,7 @@ use Rattle.search.specs.Stages.{stage, tests}
 -- 1 may write 1 and 4, and has 1 open; 2 may write 1 and 2, and has 2 open; 3 may read 2, and has nothing open; 4 is held, and may write 1.
 -- So 1 holds back 2, and 2 holds back 3.
 abbrev sets : Sets
-sets = map (λ w. w ∷ []) ((9 ∷ 3 ∷ 0 ∷ 1 ∷ replicate 28 0) ++ ((0 ∷ 0 ∷ 2 ∷ replicate 29 0) ++ ((1 ∷ 2 ∷ replicate 30 0) ++ replicate 32 0)))
+sets = map (λ w. w ∷ []) ((9 ∷ 3 ∷ 0 ∷ 1 ∷ replicate 28 0) ++ ((0 ∷ 0 ∷ 2 ∷ replicate 29 0) ++ (replicate 32 0 ++ ((1 ∷ 2 ∷ replicate 30 0) ++ replicate 64 0))))
 
 abbrev set : ℕ → ProgramSet
 set n = record { bits = n }

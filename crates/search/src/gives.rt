@@ -6,62 +6,80 @@ use files::words;
 use store::Rest;
 use store::sets;
 use tables::ProgramSet;
+use tables::shared::Shared;
 ghost use mathlib.Core.Path.{_≡_};
 ghost use mathlib.Core.Bool.{true};
-ghost use Prim.Native.Nat.{_≤_};
+ghost use Prim.Native.Nat.{_≤_, _<_};
 ghost use Rattle.search.specs.Gives.{usesIn, usedIn, holdersIn, safeIn, giveIn};
 ghost use Rattle.rules.specs.Orders.{carried, withGiven};
-ghost use Rattle.store.specs.Sets.{IsStore};
+ghost use Rattle.files.specs.Sets.{member};
+ghost use Rattle.files.specs.Words.{setOf};
+ghost use Rattle.store.specs.Sets.{IsStore, rowIn};
 ghost use Rattle.store.specs.Store.{boardOf};
 ghost use Rattle.search.specs.Rows.{asOrder};
 ghost use Rattle.tables.specs.ProgramSets.{hasProgram};
+ghost use Rattle.tables.specs.Shared.{othersOf};
 ghost use Rattle.tables.specs.Tables.{packed, rowsOf};
 
 // What is open, by the sets, with these admitted.
-pub fn uses_in(admitted: ProgramSet, sets: &[[u64; WORDS]; 128]) -> Uses
+pub fn uses_in(admitted: ProgramSet, sets: &[[u64; WORDS]; 192]) -> Uses
     ensures { λ r. ⌜ r ≡ usesIn admitted (now (sets .entry)) ⌝ }
 {
     let files = tables::shared::opened(sets);
     Uses { admitted, files }
 }
 
-// Whether another than p has f open for writing, or p wants it for writing and another has it open for reading: on a board
-// without conflict that is conflicting use.
-pub fn in_use(sets: &[[u64; WORDS]; 128], u: Uses, p: u8, f: u8) -> bool
+// Whether another has f than the one whose row of open files stands in this place, by what all have open in its mode.
+fn another_has(sets: &[[u64; WORDS]; 192], place: usize, all: Shared, f: u8) -> bool
+    requires { ⌜ (place < 192) × IsStore (now sets) ⌝ }
+    ensures { λ r. ⌜ r ≡ member (setOf (othersOf all (rowIn (now (sets .entry)) place))) f ⌝ }
+{
+    let others = all.by_others(sets[place]);
+    words::has(&others, f)
+}
+
+// Whether another than p has f open in a mode that clashes with the one in which p opens it: on a board without conflict that is
+// conflicting use.
+pub fn in_use(sets: &[[u64; WORDS]; 192], u: Uses, p: u8, f: u8) -> bool
     requires { ⌜ ((1 ≤ p) × (p ≤ 32)) × IsStore (now sets) ⌝ }
     ensures { λ r. ⌜ r ≡ usedIn (now (sets .entry)) u p f ⌝ }
 {
+    let mode = sets::mode_at(sets, p, f);
     let w = sets::writing_at(p);
-    let writing = u.files.writing;
-    let written = writing.by_others(sets[w]);
-    if words::has(&written, f) {
+    let written = u.files.writing;
+    if another_has(sets, w, written, f) {
         return true;
     }
-    let v = sets::writable_at(p);
-    if !words::has(&sets[v], f) {
-        return false;
+    let i = sets::inquiring_at(p);
+    let inquired = u.files.inquiring;
+    if mode == 1 {
+        return another_has(sets, i, inquired, f);
     }
     let r = sets::reading_at(p);
-    let reading = u.files.reading;
-    let read = reading.by_others(sets[r]);
-    words::has(&read, f)
+    let read = u.files.reading;
+    if another_has(sets, r, read, f) {
+        return true;
+    }
+    if mode != 0 {
+        return false;
+    }
+    another_has(sets, i, inquired, f)
 }
 
 // Whether giving f to p is safe: on a board that has an order, whether one comes back. Those that hold p back, directly or through
 // others, are found one after another, until one claims f so that p would hold it back, or there are no more. Who is found is
 // tested no more: each ordered pair is tested at most once.
-pub fn is_safe(sets: &[[u64; WORDS]; 128], admitted: ProgramSet, p: u8, f: u8) -> bool
+pub fn is_safe(sets: &[[u64; WORDS]; 192], admitted: ProgramSet, p: u8, f: u8) -> bool
     requires { ⌜ ((1 ≤ p) × (p ≤ 32)) × IsStore (now sets) ⌝ }
     ensures { λ r. ⌜ r ≡ safeIn (now (sets .entry)) admitted p f ⌝ }
 {
-    let v = sets::writable_at(p);
-    let write = words::has(&sets[v], f);
+    let mode = sets::mode_at(sets, p, f);
     let others = admitted.without(p);
     let mut found = tables::holders_of(sets, p, others);
     let mut rest = others.less(found);
     while found.bits != 0 {
         let q = found.lowest();
-        if sets::has_claim(sets, q, f, write) {
+        if sets::has_claim(sets, q, f, mode) {
             return false;
         }
         let more = tables::holders_of(sets, q, rest);
@@ -73,7 +91,7 @@ pub fn is_safe(sets: &[[u64; WORDS]; 128], admitted: ProgramSet, p: u8, f: u8) -
 }
 
 // Whether f can be given to p: on a sound board, where p has not f open, whether an open would give it.
-pub fn can_give(sets: &[[u64; WORDS]; 128], u: Uses, p: u8, f: u8) -> bool
+pub fn can_give(sets: &[[u64; WORDS]; 192], u: Uses, p: u8, f: u8) -> bool
     requires { ⌜ ((1 ≤ p) × (p ≤ 32)) × IsStore (now sets) ⌝ }
     ensures { λ r. ⌜ r ≡ giveIn (now (sets .entry)) u p f ⌝ }
 {
@@ -105,7 +123,7 @@ fn holders_in(rows: &[u32; 32], p: u8, set: ProgramSet) -> ProgramSet
 
 // The same as `is_safe`, of an admitted program, where the rows of the admitted are filled: who holds back whom is read from them.
 pub fn is_safe_by(
-    sets: &[[u64; WORDS]; 128],
+    sets: &[[u64; WORDS]; 192],
     rows: &[u32; 32],
     admitted: ProgramSet,
     p: u8,
@@ -114,14 +132,13 @@ pub fn is_safe_by(
     requires { ⌜ ((1 ≤ p) × (p ≤ 32)) × IsStore (now sets) × (hasProgram admitted p ≡ true) × (now rows ≡ rowsOf (now sets) admitted) ⌝ }
     ensures { λ r. ⌜ r ≡ safeIn (now (sets .entry)) admitted p f ⌝ }
 {
-    let v = sets::writable_at(p);
-    let write = words::has(&sets[v], f);
+    let mode = sets::mode_at(sets, p, f);
     let others = admitted.without(p);
     let mut found = holders_in(rows, p, others);
     let mut rest = others.less(found);
     while found.bits != 0 {
         let q = found.lowest();
-        if sets::has_claim(sets, q, f, write) {
+        if sets::has_claim(sets, q, f, mode) {
             return false;
         }
         let holders = holders_in(rows, q, rest);
@@ -133,7 +150,7 @@ pub fn is_safe_by(
 }
 
 // The same as `can_give`, of an admitted program, by the rows.
-pub fn can_give_by(sets: &[[u64; WORDS]; 128], rows: &[u32; 32], u: Uses, p: u8, f: u8) -> bool
+pub fn can_give_by(sets: &[[u64; WORDS]; 192], rows: &[u32; 32], u: Uses, p: u8, f: u8) -> bool
     requires { ⌜ ((1 ≤ p) × (p ≤ 32)) × IsStore (now sets) × (hasProgram (u .admitted) p ≡ true) × (now rows ≡ rowsOf (now sets) (u .admitted)) ⌝ }
     ensures { λ r. ⌜ r ≡ giveIn (now (sets .entry)) u p f ⌝ }
 {
@@ -145,18 +162,21 @@ pub fn can_give_by(sets: &[[u64; WORDS]; 128], rows: &[u32; 32], u: Uses, p: u8,
 }
 
 // The order with f given to p; the sets are then as they were.
-pub fn order_given(sets: &mut [[u64; WORDS]; 128], rest: Rest, p: u8, f: u8) -> Order
+pub fn order_given(sets: &mut [[u64; WORDS]; 192], rest: Rest, p: u8, f: u8) -> Order
     requires { ⌜ ((1 ≤ p) × (p ≤ 32)) × IsStore (now sets) ⌝ }
     ensures { λ r. ⌜ r ≡ asOrder (carried (withGiven (boardOf (now (sets .entry)) rest) p f)) ⌝ }
     ensures { λ _. ⌜ now (sets .exit) ≡ now (sets .entry) ⌝ }
 {
     let w = sets::writing_at(p);
     let r = sets::reading_at(p);
+    let i = sets::inquiring_at(p);
     let writing = sets[w];
     let reading = sets[r];
+    let inquiring = sets[i];
     sets::give(sets, p, f);
     let order = crate::carried_in(sets, rest);
     sets[w] = writing;
     sets[r] = reading;
+    sets[i] = inquiring;
     order
 }

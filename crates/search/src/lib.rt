@@ -147,7 +147,7 @@ pub fn order_in(rows: &[u32; 32], left: ProgramSet) -> Order
 }
 
 // The carried order of the board's admitted programs.
-pub fn carried_in(sets: &[[u64; WORDS]; 128], rest: Rest) -> Order
+pub fn carried_in(sets: &[[u64; WORDS]; 192], rest: Rest) -> Order
     requires { ⌜ IsStore (now sets) ⌝ }
     ensures { λ r. ⌜ r ≡ asOrder (carried (boardOf (now (sets .entry)) rest)) ⌝ }
 {
