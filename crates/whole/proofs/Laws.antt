@@ -30,7 +30,7 @@ word-set (v ∷ w ∷ s) n h = absurd (let m : suc (suc (length s)) ≡ 1 = n in
 
 -- the programs that sets and seats make
 abbrev pub made : Sets → List Seat → List Program
-made sets seats = programsFrom sets (λ i. getD seats i noSeat .standing) 32 0
+made sets seats = programsFrom sets (λ i. getD seats i noSeat) 32 0
 
 -- a rest with these seats
 abbrev seated : List Seat → Rest
@@ -40,7 +40,7 @@ pub made-size : (sets : Sets) (seats : List Seat) → length (made sets seats) �
 unfolding boardOf
 made-size sets seats = board-size sets (seated seats)
 
-pub made-in : (sets : Sets) (seats : List Seat) (i : ℕ) → i < 32 → getD (made sets seats) i noProgram ≡ programWith sets i (getD seats i noSeat .standing)
+pub made-in : (sets : Sets) (seats : List Seat) (i : ℕ) → i < 32 → getD (made sets seats) i noProgram ≡ programWith sets i (getD seats i noSeat)
 unfolding boardOf
 made-in sets seats = board-in sets (seated seats)
 

@@ -4,7 +4,6 @@ use files::FileSet;
 use files::WORDS;
 use rules::Board;
 use rules::Program;
-use rules::Standing;
 use store::Rest;
 use store::Seat;
 use store::sets;
@@ -24,54 +23,64 @@ fn set_of(s: &[u64]) -> FileSet
 }
 
 // The set in place k.
-pub fn set_at(sets: &[[u64; WORDS]; 128], k: usize) -> FileSet
-    requires { ⌜ (k < 128) × IsStore (now sets) ⌝ }
+pub fn set_at(sets: &[[u64; WORDS]; 192], k: usize) -> FileSet
+    requires { ⌜ (k < 192) × IsStore (now sets) ⌝ }
     ensures { λ r. ⌜ r ≡ setIn (now (sets .entry)) k ⌝ }
 {
     set_of(&sets[k])
 }
 
-// Program p, at a standing.
-fn program(sets: &[[u64; WORDS]; 128], p: u8, standing: Standing) -> Program
+// Program p, with a seat.
+fn program(sets: &[[u64; WORDS]; 192], p: u8, seat: Seat) -> Program
     requires { ⌜ ((1 ≤ p) × (p ≤ 32)) × IsStore (now sets) ⌝ }
-    ensures { λ r. ⌜ r ≡ programWith (now (sets .entry)) (p - 1) standing ⌝ }
+    ensures { λ r. ⌜ r ≡ programWith (now (sets .entry)) (p - 1) seat ⌝ }
 {
     let v = sets::writable_at(p);
     let q = sets::readable_at(p);
+    let j = sets::inquirable_at(p);
     let w = sets::writing_at(p);
     let r = sets::reading_at(p);
+    let i = sets::inquiring_at(p);
     let writable = set_at(sets, v);
     let readable = set_at(sets, q);
+    let inquirable = set_at(sets, j);
     let writing = set_at(sets, w);
     let reading = set_at(sets, r);
+    let inquiring = set_at(sets, i);
+    let standing = seat.standing;
+    let file = seat.file;
+    let item = seat.item;
     Program {
         writable,
         readable,
+        inquirable,
         writing,
         reading,
+        inquiring,
         standing,
+        file,
+        item,
     }
 }
 
 // The programs.
-fn programs(sets: &[[u64; WORDS]; 128], seats: [Seat; 32]) -> [Program; 32]
+fn programs(sets: &[[u64; WORDS]; 192], seats: [Seat; 32]) -> [Program; 32]
     requires { ⌜ IsStore (now sets) ⌝ }
-    ensures { λ r. ⌜ r ≡ programsFrom (now (sets .entry)) (λ i. getD seats i noSeat .standing) 32 0 ⌝ }
+    ensures { λ r. ⌜ r ≡ programsFrom (now (sets .entry)) (λ i. getD seats i noSeat) 32 0 ⌝ }
 {
     let absent = Program::ABSENT;
     let mut ps = [absent; 32];
     let mut i: usize = 0;
     while i < 32 {
         let seat = seats[i];
-        let s = seat.standing;
-        ps[i] = program(sets, (i + 1) as u8, s);
+        ps[i] = program(sets, (i + 1) as u8, seat);
         i += 1;
     }
     ps
 }
 
 // The board.
-pub fn board(sets: &[[u64; WORDS]; 128], rest: Rest) -> Board
+pub fn board(sets: &[[u64; WORDS]; 192], rest: Rest) -> Board
     requires { ⌜ IsStore (now sets) ⌝ }
     ensures { λ r. ⌜ r ≡ boardOf (now (sets .entry)) rest ⌝ }
 {

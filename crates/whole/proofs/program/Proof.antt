@@ -7,25 +7,35 @@ use Rattle.whole.proofs.program.Tie as tie
 
 returns : tie.Need-returns
 returns c =
-    let w = c .before in
-    let q = w .before in
-    let v = q .before in
-    let k₄ = v .before in
+    let s₅ = c .before in
+    let s₄ = s₅ .before in
+    let s₃ = s₄ .before in
+    let s₂ = s₃ .before in
+    let s₁ = s₂ .before in
+    let k₆ = s₁ .before in
+    let k₅ = k₆ .before in
+    let k₄ = k₅ .before in
     let k₃ = k₄ .before in
     let k₂ = k₃ .before in
     let k₁ = k₂ .before in
     let sets = k₁ .before .args .sets .now in
     rw (
-      v .set-at .ensures ∙ ap (setIn sets) (k₁ .writable-at .ensures .0),
-      q .set-at2 .ensures ∙ ap (setIn sets) (k₂ .readable-at .ensures .0),
-      w .set-at3 .ensures ∙ ap (setIn sets) (k₃ .writing-at .ensures .0),
-      c .set-at4 .ensures ∙ ap (setIn sets) (k₄ .reading-at .ensures .0),
+      s₁ .set-at .ensures ∙ ap (setIn sets) (k₁ .writable-at .ensures .0),
+      s₂ .set-at2 .ensures ∙ ap (setIn sets) (k₂ .readable-at .ensures .0),
+      s₃ .set-at3 .ensures ∙ ap (setIn sets) (k₃ .inquirable-at .ensures .0),
+      s₄ .set-at4 .ensures ∙ ap (setIn sets) (k₄ .writing-at .ensures .0),
+      s₅ .set-at5 .ensures ∙ ap (setIn sets) (k₅ .reading-at .ensures .0),
+      c .set-at6 .ensures ∙ ap (setIn sets) (k₆ .inquiring-at .ensures .0),
     )
 
 pub program-spec : {M : Type 1} → statement M
 program-spec =
     tie.close
     (tie.spec
+    (λ c κs. search needs)
+    (λ c κs. search needs)
+    (λ c κs. search needs)
+    (λ c κs. search needs)
     (λ c κs. search needs)
     (λ c κs. search needs)
     (λ c κs. search needs)
