@@ -206,8 +206,18 @@ entry-read a label h k g =
     let room : filesAt ≤ length l = omega (arith, m .long) in
     let e : entryFiles (a .verb) l (a .program) (length vs) (length qs) (length js)
     ≡ taken (a .verb) (a .program) 0 0 (a .writable) (a .readable) (a .inquirable) =
-    rw (fv, fq, fj, files-rise (a .writable), files-rise (a .readable), files-rise (a .inquirable), set-back (a .writable) (h .2), set-back (a .readable)
-    (h .3), set-back (a .inquirable) (h .4)) in
+    rw (
+      fv,
+      fq,
+      fj,
+      files-rise (a .writable),
+      files-rise (a .readable),
+      files-rise (a .inquirable),
+      set-back (a .writable) (h .2),
+      set-back (a .readable)
+          (h .3),
+      set-back (a .inquirable) (h .4),
+    ) in
     entry-good (a .verb) l (a .program) room np lab
     ∙ counts-good (a .verb) l (a .program) (length vs) (length qs) (length js) nw nr nj (m .long) ∙ e
     ∙ ap₂ (λ (f n : ℕ). taken (a .verb) (a .program) f n (a .writable) (a .readable) (a .inquirable)) (sym (k .0)) (sym (k .1))

@@ -59,7 +59,6 @@ verb-good Verb.Leave =
     record { size = refl; found = refl; back = λ p. refl; verb = λ p f n w r j. refl; same = λ p f n w r j. (refl, refl) }
 verb-good Verb.Cancel =
     record { size = refl; found = refl; back = λ p. refl; verb = λ p f n w r j. refl; same = λ p f n w r j. (refl, refl) }
-
 verb-good Verb.Fetch =
     record { size = refl; found = refl; back = λ p f n. refl; verb = λ p f n w r j. refl; same = λ p f n w r j. (refl, refl, refl, refl) }
 verb-good Verb.Return =

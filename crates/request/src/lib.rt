@@ -303,7 +303,15 @@ fn read_group(line: &[u8], start: usize, count: usize) -> Group
 // ---- lines, by the shape of the verb
 
 // A line that is taken, with these numbers and claims; what does not apply is 0 or empty.
-fn taking(verb: Verb, program: u64, file: u64, item: u64, writable: FileSet, readable: FileSet, inquirable: FileSet) -> Request
+fn taking(
+    verb: Verb,
+    program: u64,
+    file: u64,
+    item: u64,
+    writable: FileSet,
+    readable: FileSet,
+    inquirable: FileSet,
+) -> Request
     ensures { λ q. ⌜ q ≡ taken verb program file item writable readable inquirable ⌝ }
 {
     let asked = Asked {
@@ -409,7 +417,15 @@ fn read_file(line: &[u8], verb: Verb) -> Request
     let Field::Number(f) = second else {
         return refusing(Refusal::BadNumber);
     };
-    taking(verb, p, f, 0, FileSet::EMPTY, FileSet::EMPTY, FileSet::EMPTY)
+    taking(
+        verb,
+        p,
+        f,
+        0,
+        FileSet::EMPTY,
+        FileSet::EMPTY,
+        FileSet::EMPTY,
+    )
 }
 
 // FETCH: program, file and record.
@@ -431,7 +447,15 @@ fn read_record(line: &[u8], verb: Verb) -> Request
     let Field::Number(n) = third else {
         return refusing(Refusal::BadNumber);
     };
-    taking(verb, p, f, n, FileSet::EMPTY, FileSet::EMPTY, FileSet::EMPTY)
+    taking(
+        verb,
+        p,
+        f,
+        n,
+        FileSet::EMPTY,
+        FileSet::EMPTY,
+        FileSet::EMPTY,
+    )
 }
 
 // LEAVE, CANCEL and RETURN: the program alone.
@@ -445,7 +469,15 @@ fn read_alone(line: &[u8], verb: Verb) -> Request
     let Field::Number(p) = field else {
         return refusing(Refusal::BadNumber);
     };
-    taking(verb, p, 0, 0, FileSet::EMPTY, FileSet::EMPTY, FileSet::EMPTY)
+    taking(
+        verb,
+        p,
+        0,
+        0,
+        FileSet::EMPTY,
+        FileSet::EMPTY,
+        FileSet::EMPTY,
+    )
 }
 
 // What a line says that begins with the verb.

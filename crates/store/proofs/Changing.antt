@@ -44,8 +44,15 @@ module _ (q : Program) (p : ℕ) (before after : Sets) (r : Rest) (h : 1 ≤ p) 
 
     put-there : (i : ℕ) → i < 32 → i ≢ p - 1 → inPlace (boardOf after then) i ≡ inPlace (boardOf before r) i
     put-there i l d = board-in after then i l
-        ∙ rw (there i d, a .there i l d Write .0, a .there i l d Write .1, a .there i l d Read .0, a .there i l d Read .1,
-        a .there i l d Inquiry .0, a .there i l d Inquiry .1) refl
+        ∙ rw (
+          there i d,
+          a .there i l d Write .0,
+          a .there i l d Write .1,
+          a .there i l d Read .0,
+          a .there i l d Read .1,
+          a .there i l d Inquiry .0,
+          a .there i l d Inquiry .1,
+        ) refl
         ∙ sym (board-in before r i l)
 
     put-programs : boardOf after then .programs ≡ set (boardOf before r .programs) (p - 1) q
