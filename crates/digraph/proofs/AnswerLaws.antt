@@ -1,7 +1,7 @@
 -- Laws of the loop that an answer carries. Assumes nothing.
 use Prim.Native.Nat.{ℕ}
 use mathlib.Core.Path.{_≡_, sym, _∙_, ap, subst}
-use mathlib.Core.Logic.{_⊎_, inl, inr}
+use mathlib.Core.Logic.{_⊎_, inl, inr, ⊎-elim}
 use mathlib.Core.Bool.{true, false, _&&_}
 use mathlib.Core.List.{[]}
 use lib.ListN.{getD}
@@ -16,6 +16,7 @@ use Rattle.rules.specs.Replies.{blank}
 use Rattle.rules.specs.Calls.{Call, direct}
 use Rattle.rules.specs.Digraph.{isIn, step, isLoop, isLoopWith, loopFor, isUnsafe, mayCarry}
 use Rattle.theory.specs.Programs.{Is, of-is}
+use Rattle.theory.specs.Calls.{claims-file}
 use Rattle.theory.specs.Loose.{waiting-in}
 use Rattle.theory.specs.Digraph.{waiter-claims, waiter-unsafe, unsafe-open}
 use Rattle.digraph.specs.declared.Loop.{Loop}
@@ -40,17 +41,17 @@ carries-loop b r l u h c (inl e) =
     let o = unsafe-open b c (ap (λ (x : Reply). isUnsafe (x .answer)) (sym e) ∙ u) in
     let p = o .program in
     let told : getD (r .lines) 0 blank ≡ _ = ap (λ (x : Reply). getD (x .lines) 0 blank) e ∙ o .told in
-    let g = subst (λ (x : Line). LoopWith b x l) told h (and-left (isProgram p) (isAdmitted (at b p .standing)) (o .is-in)) in
+    let g = subst (λ (x : Line). LoopWith b x l) told h (and-left (isProgram p) (isAdmitted (at b p .standing)) (o .is-in)) (claims-file (at b p) (o .file) (o .claimed)) in
     rw u (ap (λ (x : Call). loopFor b x (named l)) (o .call) ∙ given-by b p (o .file) l g (o .is-in) (o .claimed) (o .unsafe))
 
 -- a loop found with the file given that a waiter of a sound board waits for
-pub waiter-found : (b : Board) (p f : ℕ) (l : Loop) → sound b ≡ true → Is p → isWaiting (at b p .standing) ≡ true → f ≡ awaited b p
-    → LoopOf (withGiven b p f) l → LoopOfWaiter b p l
+pub waiter-found : (b : Board) (p f : ℕ) (l : Loop) → sound b ≡ true → Is p → isWaiting (at b p .standing) ≡ true → at b p .item ≡ 0
+    → f ≡ awaited b p → LoopOf (withGiven b p f) l → LoopOfWaiter b p l
 unfolding safe
-waiter-found b p f l s i w e h = record {
-  is-loop = λ _. given-by b p (awaited b p) l (subst (λ g. LoopOf (withGiven b p g) l) e h)
+waiter-found b p f l s i w z e h = record {
+  is-loop = λ _ _. given-by b p (awaited b p) l (subst (λ g. LoopOf (withGiven b p g) l) e h)
       (and-both (isProgram p) (isAdmitted (at b p .standing)) (of-is p i) (waiting-in (at b p .standing) w))
-      (waiter-claims b p s i w) (waiter-unsafe b p s i w);
-  is-none = λ n. never w n;
+      (waiter-claims b p s i w z) (waiter-unsafe b p s i w z);
+  is-none = ⊎-elim (λ n. never w n) (λ n. absurd (n z));
   fits = h .fits;
 }

@@ -11,10 +11,8 @@ use lib.Dec.{eqb}
 use lib.ListN.{length, getD, set, take, drop, length-set, length-drop}
 use lib.Seq.{drop-cons, drop-set-lt, getD-set-same, take-at, take-length, length-take-le}
 use borrow.Author.Tests.{eqb-true, eqb-false, eq-eqb, ne-eqb, lt-leb}
-use Rattle.laws.specs.Tests.{by-test, by-option, never, and-left, and-right, and-both, no-true, true-not, same-test, and-false, or-cases}
+use Rattle.laws.specs.Tests.{by-test, by-option, never, and-left, and-right, and-both, no-true, true-not, same-test, and-false}
 use Rattle.files.specs.Bits.{hasBit}
-use Rattle.files.specs.Sets.{member}
-use Rattle.files.proofs.Laws.{member-file}
 use Rattle.files.proofs.Bits.{least, most, has-bit, zero-has, without-number-same, without-number-other}
 use Rattle.rules.specs.declared.Board.{Board}
 use Rattle.laws.specs.Lists.{any, all, first, found, rising, listed}
@@ -24,6 +22,7 @@ use Rattle.rules.specs.Orders.{carried, withGiven}
 use Rattle.rules.specs.Digraph.{isIn, step, reaches, isLoop, isLoopWith}
 use Rattle.laws.specs.Laws.{_∈_, Pairs, NoRepeat, by-mem, here, all-each, some-any, first-some, keep-mem, mem-keep, length-keep, length-rising, first-keep}
 use Rattle.theory.specs.Order.{heldIn}
+use Rattle.theory.specs.Calls.{claims-file}
 use Rattle.theory.specs.Programs.{Is, is-of, of-is, mem-everyone}
 use Rattle.theory.specs.Carried.{holdsOn, carried-sound, of-order}
 use Rattle.theory.specs.Reach.{admitted-mem}
@@ -367,9 +366,7 @@ module _ (b : Board) (p f : ℕ) (L : List ℕ) where
 
   pub no-file : 64 < f → isLoopWith b p f L ≡ false
   unfolding isLoopWith
-  no-file h = not-claimed (no-true (claims (at b p) f) (λ t. or-cases (member (at b p .writable) f) (member (at b p .readable) f) t
-      (λ u. let i = most 64 f (member-file (at b p .writable) f u) in omega arith)
-      (λ u. let i = most 64 f (member-file (at b p .readable) f u) in omega arith)))
+  no-file h = not-claimed (no-true (claims (at b p) f) (λ t. let i = most 64 f (claims-file (at b p) f t) in omega arith))
 
   pub not-in : isAdmitted (at b p .standing) ≡ false → isLoopWith b p f L ≡ false
   unfolding isLoopWith

@@ -2,7 +2,7 @@
 -- Assumes nothing.
 use Prim.Native.Nat.{ℕ, suc, _≤_}
 use mathlib.Core.Path.{_≡_}
-use mathlib.Core.Logic.{_⊎_}
+use mathlib.Core.Logic.{_⊎_, _≢_}
 use mathlib.Core.Bool.{Bool, true, false, not, cond, _&&_}
 use mathlib.Core.List.{List, [], _∷_}
 use mathlib.Core.Option.{Option·getD}
@@ -12,6 +12,7 @@ use Rattle.rules.specs.declared.Board.{Board}
 use Rattle.rules.specs.declared.Line.{Line}
 use Rattle.rules.specs.declared.Reply.{Reply}
 use Rattle.laws.specs.Lists.{keep, first, found}
+use Rattle.files.specs.Sets.{isFile}
 use Rattle.rules.specs.Boards.{isProgram, isWaiting, everyone, at, awaited}
 use Rattle.rules.specs.Orders.{carried, withGiven}
 use Rattle.rules.specs.Calls.{Call, direct}
@@ -50,10 +51,10 @@ pub record LoopOf (b : Board) (r : Loop) : Type 0 where
   pub is-none : found (carried b) ≡ true → named r ≡ []
   pub fits : r .count ≤ 32
 
--- a loop with the file given that p waits for, and none if it doesn't wait
+-- a loop with the file given that p waits for, and none if it doesn't wait for a file
 pub record LoopOfWaiter (b : Board) (p : ℕ) (r : Loop) : Type 0 where
-  pub is-loop : isWaiting (at b p .standing) ≡ true → isLoopWith b p (awaited b p) (named r) ≡ true
-  pub is-none : isWaiting (at b p .standing) ≡ false → named r ≡ []
+  pub is-loop : isWaiting (at b p .standing) ≡ true → at b p .item ≡ 0 → isLoopWith b p (awaited b p) (named r) ≡ true
+  pub is-none : (isWaiting (at b p .standing) ≡ false) ⊎ (at b p .item ≢ 0) → named r ≡ []
   pub fits : r .count ≤ 32
 
 -- what the reply to a call on the board carries, whatever call it answers; a reply that isn't UNSAFE carries nothing
@@ -62,7 +63,7 @@ CarriedBy b r l = (c : Call) → (r ≡ direct b c) ⊎ (isUnsafe (r .answer) �
 
 -- a loop of the board with the file given that a line names
 abbrev pub LoopWith : Board → Line → Loop → Type 0
-LoopWith b line r = isProgram (line .program) ≡ true → LoopOf (withGiven b (line .program) (line .file)) r
+LoopWith b line r = isProgram (line .program) ≡ true → isFile (line .file) ≡ true → LoopOf (withGiven b (line .program) (line .file)) r
 
 -- the same for every board with these rows and this matrix
 abbrev pub LoopFor : List ℕ → List ℕ → Loop → Type 0

@@ -34,7 +34,11 @@ fn loop_with(b: Board, line: Line) -> Loop
     if 32 < p {
         return Loop::NONE;
     }
-    crate::loops::find_given(b, p, line.file)
+    let f = line.file;
+    if 64 < f {
+        return Loop::NONE;
+    }
+    crate::loops::find_given(b, p as u8, f as u8)
 }
 
 // The loop that the reply to a call on the board carries.

@@ -161,7 +161,7 @@ fn find_in(rows: &[u32; 32], matrix: &[u32; 32]) -> Loop
 // ---- of a board
 
 // A loop of the board by its sets and the rest, sound or not; none exactly where it has an order.
-fn find_by(sets: &[[u64; WORDS]; 128], rest: Rest) -> Loop
+fn find_by(sets: &[[u64; WORDS]; 192], rest: Rest) -> Loop
     requires { ⌜ IsStore (now sets) ⌝ }
     ensures { λ r. ⌜ LoopOf (boardOf (now (sets .entry)) rest) r ⌝ }
 {
@@ -176,13 +176,13 @@ fn find_by(sets: &[[u64; WORDS]; 128], rest: Rest) -> Loop
 pub fn find(b: Board) -> Loop
     ensures { λ r. ⌜ LoopOf b r ⌝ }
 {
-    let mut sets = [[0u64; WORDS]; 128];
+    let mut sets = [[0u64; WORDS]; 192];
     let rest = store::sets::take(b, &mut sets);
     find_by(&sets, rest)
 }
 
 // Whether the list is a loop of the board by its sets and the rest, sound or not.
-fn is_loop(sets: &[[u64; WORDS]; 128], rest: Rest, l: &[u8]) -> bool
+fn is_loop(sets: &[[u64; WORDS]; 192], rest: Rest, l: &[u8]) -> bool
     requires { ⌜ IsStore (now sets) ⌝ }
     ensures { λ r. ⌜ r ≡ isLoop (step (boardOf (now (sets .entry)) rest)) (now (l .entry)) ⌝ }
 {
@@ -198,7 +198,7 @@ pub fn find_given(b: Board, p: u8, f: u8) -> Loop
     requires { ⌜ (1 ≤ p) × (p ≤ 32) ⌝ }
     ensures { λ r. ⌜ LoopOf (withGiven b p f) r ⌝ }
 {
-    let mut sets = [[0u64; WORDS]; 128];
+    let mut sets = [[0u64; WORDS]; 192];
     let rest = store::sets::take(b, &mut sets);
     sets::give(&mut sets, p, f);
     find_by(&sets, rest)
@@ -209,13 +209,13 @@ fn is_loop_by(b: Board, p: u8, f: u8, l: &[u8]) -> bool
     requires { ⌜ (1 ≤ p) × (p ≤ 32) ⌝ }
     ensures { λ r. ⌜ r ≡ isLoopWith b p f (now (l .entry)) ⌝ }
 {
-    let mut sets = [[0u64; WORDS]; 128];
+    let mut sets = [[0u64; WORDS]; 192];
     let rest = store::sets::take(b, &mut sets);
     let s = store::standing_at(rest, p);
     if !standings::is_admitted(s) {
         return false;
     }
-    if !sets::has_claim(&sets, p, f, true) {
+    if !sets::has_claim(&sets, p, f, 0) {
         return false;
     }
     sets::give(&mut sets, p, f);
@@ -238,7 +238,7 @@ pub fn is_loop_with(b: Board, p: u64, f: u64, l: &[u8]) -> bool
     is_loop_by(b, p as u8, f as u8, l)
 }
 
-// A loop with the file given that p waits for, of a sound board; none exactly if p doesn't wait.
+// A loop with the file given that p waits for, of a sound board; none exactly if p doesn't wait for a file.
 pub fn find_for(b: Board, p: u8) -> Loop
     requires { ⌜ ((1 ≤ p) × (p ≤ 32)) × (sound b ≡ true) ⌝ }
     ensures { λ r. ⌜ LoopOfWaiter b p r ⌝ }
@@ -247,6 +247,9 @@ pub fn find_for(b: Board, p: u8) -> Loop
     let q = b.programs[i];
     let s = q.standing;
     if !standings::is_waiting(s) {
+        return Loop::NONE;
+    }
+    if q.item != 0 {
         return Loop::NONE;
     }
     find_given(b, p, standings::awaited(s))
