@@ -695,6 +695,9 @@ gg =
           ∷ yes (Open 2 5) Answer.Given []
           ∷ yes (Open 3 5) Answer.Given []
           ∷ no (Fetch 1 5 0) Refusal.BadRecord
+          ∷ no (Fetch 30 5 0) Refusal.BadRecord
+          ∷ no (Fetch 33 5 0) Refusal.OutOfRange
+          ∷ no (Fetch 30 5 1) Refusal.IsAbsent
           ∷ no (Fetch 1 6 7) Refusal.NoRecord
           ∷ no (Return 1) Refusal.NoRecord
           ∷ yes (Fetch 1 5 7) Answer.Given []
@@ -702,6 +705,9 @@ gg =
           ∷ yes (Fetch 3 5 7) Answer.Wait []
           ∷ no (Fetch 1 5 8) Refusal.HasRecord
           ∷ no (Close 1 5) Refusal.HasRecord
+          ∷ no (Open 1 60) Refusal.HasRecord
+          ∷ no (Close 1 60) Refusal.HasRecord
+          ∷ no (Fetch 1 60 8) Refusal.HasRecord
           ∷ no (Return 2) Refusal.IsWaiting
           ∷ no (Cancel 1) Refusal.IsRunning
           ∷ yes (Return 1) Answer.Done (lineOf Word.Given 2 5 7 ∷ [])
