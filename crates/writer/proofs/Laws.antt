@@ -1,6 +1,6 @@
 -- Laws of rows of bytes and of the files of a set, for the functions of the writer. Assumes nothing.
 use Prim.Native.Nat.{ℕ, suc, _+_, _-_, _*_, _≤_, _<_}
-use mathlib.Core.Path.{_≡_, ap, sym, _∙_}
+use mathlib.Core.Path.{_≡_, refl, ap, sym, _∙_}
 use mathlib.Core.List.{List, [], _∷_, _++_, append-assoc}
 use mathlib.Core.Bool.{Bool, true, false, cond}
 use lib.Dec.{eqb}
@@ -11,24 +11,28 @@ use native.Mathlib.Nat.{add-zero}
 use native.Mathlib.Numerals.{add-one}
 use borrow.Author.Tests.{le-ltb, lt-ltb, eq-eqb, ne-eqb}
 use Rattle.laws.specs.Tests.{by-test, and-false}
-use Rattle.columns.specs.Columns.{wordWidth, programWidth, fileWidth, columnsOf}
+use Rattle.columns.specs.Columns.{wordWidth, programWidth, fileWidth, recordWidth, columnsOf}
 use Rattle.columns.specs.Rows.{flat, putAt}
 use Rattle.columns.proofs.Laws.{columns-length}
 use Rattle.columns.proofs.Rows.{flat-length}
+use Rattle.files.specs.declared.FileSet.{FileSet}
 use Rattle.files.specs.Sets.{isFile}
 use Rattle.rules.specs.declared.Verb.{Verb}
 use Rattle.rules.specs.declared.Asked.{Asked}
 use Rattle.laws.specs.Lists.{all, keep, rising}
 use Rattle.rules.specs.Boards.{isProgram}
 use Rattle.rules.specs.Calls.{callOf}
+use Rattle.rules.specs.Checks.{isRecord}
 use Rattle.request.specs.declared.Shape.{Shape}
-use Rattle.request.specs.Verbs.{verbColumns, shapeOf, aloneLength, fileLength, labelWidth, wAt, rAt, filesAt, entryLength}
+use Rattle.request.specs.Verbs.{verbColumns, shapeOf, aloneLength, fileLength, recordLength, labelWidth, wAt, rAt, jAt, filesAt}
+use Rattle.request.specs.Verbs.{entryLength}
 use Rattle.request.specs.Requests.{labelByte, filesOf, filesColumns, askedBy, lineAs, lineFor}
 use Rattle.request.proofs.Verbs.{SameAs, verb-good, verb-length}
 use Rattle.writer.specs.declared.Unwritten.{Unwritten}
 use Rattle.writer.specs.declared.Writing.{Writing}
-use Rattle.writer.specs.Writer.{numbersGood, isLabel, placing, filled, placedIn, writingAs, writingOf, bufferAfter}
-use Rattle.writer.specs.Rows.{countIf, columnsIf, entryColumns, entryWriting, entryFilled, fileWriting, fileFilled}
+use Rattle.writer.specs.Writer.{numbersGood, recordGood, isLabel, placing, filled, placedIn, writingAs, writingOf, bufferAfter}
+use Rattle.writer.specs.Rows.{countIf, columnsIf, entryColumns, claimsCount, claimsColumns, entryWriting, entryFilled}
+use Rattle.writer.specs.Rows.{fileWriting, fileFilled, recordWriting, recordFilled}
 
 -- ---- rows
 
@@ -125,52 +129,86 @@ file-length a =
       columns-length fileWidth (a .file),
     )
 
-entry-length : (v : Verb) (p w r : ℕ) (label : List ℕ) → length label ≡ labelWidth → length (entryColumns v p label w r) ≡ filesAt
+pub record-length : (a : Asked) → length (lineAs Shape.Record a []) ≡ recordLength
+record-length a =
+    let p = columnsOf programWidth (a .program) in
+    let f = columnsOf fileWidth (a .file) in
+    let n = columnsOf recordWidth (a .item) in
+    omega (
+      arith,
+      length-append (verbColumns (a .verb)) (p ++ (f ++ n)),
+      length-append p (f ++ n),
+      length-append f n,
+      verb-length (a .verb),
+      columns-length programWidth (a .program),
+      columns-length fileWidth (a .file),
+      columns-length recordWidth (a .item),
+    )
+
+entry-length : (v : Verb) (p w r j : ℕ) (label : List ℕ) → length label ≡ labelWidth → length (entryColumns v p label w r j) ≡ filesAt
 unfolding entryColumns
-entry-length v p w r label h =
+entry-length v p w r j label h =
     let x = columnsOf programWidth p in
     let y = columnsOf fileWidth w in
     let z = columnsOf fileWidth r in
+    let i = columnsOf fileWidth j in
     omega (
       arith,
       h,
-      length-append (verbColumns v) (x ++ (label ++ (y ++ z))),
-      length-append x (label ++ (y ++ z)),
-      length-append label (y ++ z),
-      length-append y z,
+      length-append (verbColumns v) (x ++ (label ++ (y ++ (z ++ i)))),
+      length-append x (label ++ (y ++ (z ++ i))),
+      length-append label (y ++ (z ++ i)),
+      length-append y (z ++ i),
+      length-append z i,
       verb-length v,
       columns-length programWidth p,
       columns-length fileWidth w,
       columns-length fileWidth r,
+      columns-length fileWidth j,
     )
 
 -- the columns of an ENTER line before its files, and those of its files
 abbrev pub headOf : Asked → List ℕ → List ℕ
 headOf a label = entryColumns (a .verb) (a .program) label (length (filesOf (a .writable))) (length (filesOf (a .readable)))
+    (length (filesOf (a .inquirable)))
 
-entry-line : (a : Asked) (label : List ℕ)
-    → lineAs Shape.Entry a label ≡ headOf a label ++ filesColumns (filesOf (a .writable)) ++ filesColumns (filesOf (a .readable))
+abbrev pub claimsIn : Asked → List ℕ
+claimsIn a = claimsColumns (a .writable) (a .readable) (a .inquirable)
+
+abbrev pub filesIn : Asked → ℕ
+filesIn a = claimsCount (a .writable) (a .readable) (a .inquirable)
+
+entry-line : (a : Asked) (label : List ℕ) → lineAs Shape.Entry a label ≡ headOf a label ++ claimsIn a
 unfolding entryColumns
 entry-line a label = simp append-assoc
 
 files-columns : (fs : List ℕ) → length (filesColumns fs) ≡ fileWidth * length fs
 files-columns fs = flat-length (columnsOf fileWidth) fileWidth (columns-length fileWidth) fs
 
-pub enter-length : (a : Asked) (label : List ℕ) → length label ≡ labelWidth
-    → length (lineAs Shape.Entry a label) ≡ entryLength (length (filesOf (a .writable)) + length (filesOf (a .readable)))
+claims-length : (v q j : FileSet) → length (claimsColumns v q j) ≡ fileWidth * claimsCount v q j
+claims-length v q j =
+    let x = filesColumns (filesOf v) in
+    let y = filesColumns (filesOf q) in
+    let z = filesColumns (filesOf j) in
+    omega (
+      arith,
+      length-append x (y ++ z),
+      length-append y z,
+      files-columns (filesOf v),
+      files-columns (filesOf q),
+      files-columns (filesOf j),
+    )
+
+head-of-length : (a : Asked) (label : List ℕ) → length label ≡ labelWidth → length (headOf a label) ≡ filesAt
+head-of-length a label h = entry-length (a .verb) (a .program) (length (filesOf (a .writable))) (length (filesOf (a .readable)))
+    (length (filesOf (a .inquirable))) label h
+
+pub enter-length : (a : Asked) (label : List ℕ) → length label ≡ labelWidth → length (lineAs Shape.Entry a label) ≡ entryLength (filesIn a)
 enter-length a label h =
     let e = headOf a label in
-    let v = filesOf (a .writable) in
-    let q = filesOf (a .readable) in
+    let c = claimsIn a in
     ap length (entry-line a label)
-    ∙ omega (
-      arith,
-      length-append (e ++ filesColumns v) (filesColumns q),
-      length-append e (filesColumns v),
-      entry-length (a .verb) (a .program) (length v) (length q) label h,
-      files-columns v,
-      files-columns q,
-    )
+    ∙ omega (arith, length-append e c, head-of-length a label h, claims-length (a .writable) (a .readable) (a .inquirable))
 
 -- ---- the rows of a line, as the calls leave them
 
@@ -191,39 +229,66 @@ file-put a at L m r room ea em er =
     let n = head-length (a .verb) (a .program) in
     put-then 0 at (v ++ p) f L m r (omega arith) em (omega arith) er ∙ rw (append-assoc v p f)
 
-module _ (v : Verb) (p w r : ℕ) (label L m₁ m₂ m₃ m₄ : List ℕ) (a₁ a₂ a₃ : ℕ) (room : filesAt ≤ length L) (size : length label ≡ labelWidth) where
+-- FETCH: the record after the columns of verb, program and file
+pub record-put : (a : Asked) (at : ℕ) (L m r : List ℕ) → recordLength ≤ length L → at ≡ fileLength
+    → m ≡ putAt 0 (lineAs Shape.File a []) L
+    → r ≡ putAt at (columnsOf recordWidth (a .item)) m → r ≡ putAt 0 (lineAs Shape.Record a []) L
+record-put a at L m r room ea em er =
+    let n = file-length a in
+    put-then 0 at (lineAs Shape.File a []) (columnsOf recordWidth (a .item)) L m r (omega arith) em (omega arith) er ∙ simp append-assoc
+
+module _ (v : Verb) (p w r j : ℕ) (label L m₁ m₂ m₃ m₄ m₅ : List ℕ) (a₁ a₂ a₃ a₄ : ℕ) (room : filesAt ≤ length L)
+    (size : length label ≡ labelWidth) where
   pub entry-put : a₁ ≡ aloneLength → m₁ ≡ putAt 0 (verbColumns v ++ columnsOf programWidth p) L
       → a₂ ≡ a₁ + length label → m₂ ≡ putAt a₁ label m₁
-      → a₃ ≡ a₂ + fileWidth → m₃ ≡ putAt a₂ (columnsOf fileWidth w) m₂ → m₄ ≡ putAt a₃ (columnsOf fileWidth r) m₃
-      → m₄ ≡ putAt 0 (entryColumns v p label w r) L
+      → a₃ ≡ a₂ + fileWidth → m₃ ≡ putAt a₂ (columnsOf fileWidth w) m₂
+      → a₄ ≡ a₃ + fileWidth → m₄ ≡ putAt a₃ (columnsOf fileWidth r) m₃
+      → m₅ ≡ putAt a₄ (columnsOf fileWidth j) m₄
+      → m₅ ≡ putAt 0 (entryColumns v p label w r j) L
   unfolding entryColumns
-  entry-put e₁ p₁ e₂ p₂ e₃ p₃ p₄ =
+  entry-put e₁ p₁ e₂ p₂ e₃ p₃ e₄ p₄ p₅ =
       let h : List ℕ = verbColumns v ++ columnsOf programWidth p in
       let x : List ℕ = columnsOf fileWidth w in
+      let y : List ℕ = columnsOf fileWidth r in
       let n₁ : length h ≡ aloneLength = head-length v p in
       let n₂ : length (h ++ label) ≡ wAt = omega (arith, length-append h label, n₁, size) in
       let n₃ : length (h ++ label ++ x) ≡ rAt = omega (arith, length-append (h ++ label) x, n₂, columns-length fileWidth w) in
+      let n₄ : length (h ++ label ++ x ++ y) ≡ jAt = omega (arith, length-append (h ++ label ++ x) y, n₃, columns-length fileWidth r) in
       let q₂ : m₂ ≡ putAt 0 (h ++ label) L = put-then 0 a₁ h label L m₁ m₂ (omega (arith, n₁, room)) p₁ (omega (arith, n₁, e₁)) p₂ in
       let q₃ : m₃ ≡ putAt 0 (h ++ label ++ x) L =
       put-then 0 a₂ (h ++ label) x L m₂ m₃ (omega (arith, n₂, room)) q₂ (omega (arith, n₂, e₂, e₁, size)) p₃ in
-      put-then 0 a₃ (h ++ label ++ x) (columnsOf fileWidth r) L m₃ m₄ (omega (arith, n₃, room)) q₃ (omega (arith, n₃, e₃, e₂, e₁, size)) p₄
+      let q₄ : m₄ ≡ putAt 0 (h ++ label ++ x ++ y) L =
+      put-then 0 a₃ (h ++ label ++ x) y L m₃ m₄ (omega (arith, n₃, room)) q₃ (omega (arith, n₃, e₃, e₂, e₁, size)) p₄ in
+      put-then 0 a₄ (h ++ label ++ x ++ y) (columnsOf fileWidth j) L m₄ m₅ (omega (arith, n₄, room)) q₄
+      (omega (arith, n₄, e₄, e₃, e₂, e₁, size)) p₅
       ∙ simp append-assoc
 
+-- the files of V, of Q and of J
+pub claims-put : (v q j : FileSet) (at a₁ a₂ : ℕ) (L m₁ m₂ m₃ : List ℕ) → at + fileWidth * claimsCount v q j ≤ length L
+    → a₁ ≡ at + fileWidth * length (filesOf v) → m₁ ≡ putAt at (filesColumns (filesOf v)) L
+    → a₂ ≡ a₁ + fileWidth * length (filesOf q) → m₂ ≡ putAt a₁ (filesColumns (filesOf q)) m₁
+    → m₃ ≡ putAt a₂ (filesColumns (filesOf j)) m₂ → m₃ ≡ putAt at (claimsColumns v q j) L
+claims-put v q j at a₁ a₂ L m₁ m₂ m₃ room e₁ p₁ e₂ p₂ p₃ =
+    let x : List ℕ = filesColumns (filesOf v) in
+    let y : List ℕ = filesColumns (filesOf q) in
+    let z : List ℕ = filesColumns (filesOf j) in
+    let n₁ = files-columns (filesOf v) in
+    let n₂ : length (x ++ y) ≡ fileWidth * length (filesOf v) + fileWidth * length (filesOf q) =
+    omega (arith, length-append x y, n₁, files-columns (filesOf q)) in
+    let q₂ : m₂ ≡ putAt at (x ++ y) L = put-then at a₁ x y L m₁ m₂ (omega (arith, n₁, room)) p₁ (omega (arith, n₁, e₁)) p₂ in
+    put-then at a₂ (x ++ y) z L m₂ m₃ (omega (arith, n₂, room)) q₂ (omega (arith, n₂, e₂, e₁)) p₃ ∙ rw (append-assoc x y z)
+
+-- the columns before the files, with the counts of the claims
+pub head-counts : (a : Asked) (w r j : ℕ) (label L m : List ℕ) → w ≡ length (filesOf (a .writable)) → r ≡ length (filesOf (a .readable))
+    → j ≡ length (filesOf (a .inquirable)) → m ≡ putAt 0 (entryColumns (a .verb) (a .program) label w r j) L → m ≡ putAt 0 (headOf a label) L
+head-counts a w r j label L m ew er ej e = e ∙ rw (ew, er, ej)
+
 -- an ENTER line: its columns and its files
-pub enter-put : (a : Asked) (a₁ a₂ : ℕ) (label L m₁ m₂ m₃ : List ℕ) → length label ≡ labelWidth
-    → entryLength (length (filesOf (a .writable)) + length (filesOf (a .readable))) ≤ length L
-    → a₁ ≡ filesAt → m₁ ≡ putAt 0 (headOf a label) L
-    → a₂ ≡ a₁ + fileWidth * length (filesOf (a .writable)) → m₂ ≡ putAt a₁ (filesColumns (filesOf (a .writable))) m₁
-    → m₃ ≡ putAt a₂ (filesColumns (filesOf (a .readable))) m₂
-    → m₃ ≡ putAt 0 (lineAs Shape.Entry a label) L
-enter-put a a₁ a₂ label L m₁ m₂ m₃ size room e₁ p₁ e₂ p₂ p₃ =
-    let e : List ℕ = headOf a label in
-    let v : List ℕ = filesColumns (filesOf (a .writable)) in
-    let n₁ : length e ≡ filesAt = entry-length (a .verb) (a .program) (length (filesOf (a .writable))) (length (filesOf (a .readable))) label size in
-    let n₂ : length (e ++ v) ≡ entryLength (length (filesOf (a .writable))) =
-    omega (arith, length-append e v, n₁, files-columns (filesOf (a .writable))) in
-    let q₂ : m₂ ≡ putAt 0 (e ++ v) L = put-then 0 a₁ e v L m₁ m₂ (omega (arith, n₁, room)) p₁ (omega (arith, n₁, e₁)) p₂ in
-    put-then 0 a₂ (e ++ v) (filesColumns (filesOf (a .readable))) L m₂ m₃ (omega (arith, n₂, room)) q₂ (omega (arith, n₂, e₂, e₁)) p₃
+pub enter-put : (a : Asked) (at : ℕ) (label L m r : List ℕ) → length label ≡ labelWidth → entryLength (filesIn a) ≤ length L
+    → at ≡ filesAt → m ≡ putAt 0 (headOf a label) L → r ≡ putAt at (claimsIn a) m → r ≡ putAt 0 (lineAs Shape.Entry a label) L
+enter-put a at label L m r size room e em er =
+    let n = head-of-length a label size in
+    put-then 0 at (headOf a label) (claimsIn a) L m r (omega (arith, n, room)) em (omega (arith, n, e)) er
     ∙ ap (λ (x : List ℕ). putAt 0 x L) (sym (entry-line a label))
 
 -- ---- a line in the buffer
@@ -254,6 +319,19 @@ module _ (a : Asked) (buffer : List ℕ) where
       → (w ≡ fileWriting a buffer) × (after ≡ fileFilled a buffer)
   file-placed w after e k = (rw e (k .0), rw e (k .1))
 
+module _ (a : Asked) (buffer : List ℕ) where
+  pub record-file : isFile (a .file) ≡ false → (Writing.Refused Unwritten.OutOfRange ≡ recordWriting a buffer) × (buffer ≡ recordFilled a buffer)
+  record-file e = (rw e, rw e)
+
+  pub record-refused : isFile (a .file) ≡ true → isRecord (a .item) ≡ false
+      → (Writing.Refused Unwritten.BadRecord ≡ recordWriting a buffer) × (buffer ≡ recordFilled a buffer)
+  record-refused e n = (rw (e, n), rw (e, n))
+
+  pub record-placed : (w : Writing) (after : List ℕ) → isFile (a .file) ≡ true → isRecord (a .item) ≡ true
+      → (w ≡ placing (lineAs Shape.Record a []) buffer) × (after ≡ placedIn (lineAs Shape.Record a []) buffer)
+      → (w ≡ recordWriting a buffer) × (after ≡ recordFilled a buffer)
+  record-placed w after e n k = (rw (e, n) (k .0), rw (e, n) (k .1))
+
 pub label-size : (label : List ℕ) → (length label ≡ labelWidth → ⊥) → isLabel label ≡ false
 label-size label h = rw (ne-eqb (length label) labelWidth h)
 
@@ -275,14 +353,22 @@ module _ (a : Asked) (label buffer : List ℕ) where
 -- ---- what a line does not say is not looked at
 
 line-same : (s : Shape) (x y : Asked) (label : List ℕ) → SameAs s x y → lineAs s x label ≡ lineAs s y label
-line-same Shape.Entry x y label h = rw (h .0, h .1, h .2, h .3)
+line-same Shape.Entry x y label h = rw (h .0, h .1, h .2, h .3, h .4)
 line-same Shape.File x y label h = rw (h .0, h .1, h .2)
+line-same Shape.Record x y label h = rw (h .0, h .1, h .2, h .3)
 line-same Shape.Alone x y label h = rw (h .0, h .1)
 
 numbers-same : (s : Shape) (x y : Asked) → SameAs s x y → numbersGood s x ≡ numbersGood s y
-numbers-same Shape.Entry x y h = simp (h .1, h .2, h .3)
+numbers-same Shape.Entry x y h = rw (h .1)
 numbers-same Shape.File x y h = rw (h .1, h .2)
+numbers-same Shape.Record x y h = rw (h .1, h .2)
 numbers-same Shape.Alone x y h = rw (h .1)
+
+record-same : (s : Shape) (x y : Asked) → SameAs s x y → recordGood s x ≡ recordGood s y
+record-same Shape.Entry x y h = refl
+record-same Shape.File x y h = refl
+record-same Shape.Record x y h = rw (h .3)
+record-same Shape.Alone x y h = refl
 
 -- ---- the call
 
@@ -300,16 +386,18 @@ module _ (a : Asked) (label buffer : List ℕ) where
   by-shape w after h =
       let g = verb-good (a .verb) in
       let b = askedBy (callOf a) in
-      let s : shapeOf (b .verb) ≡ shapeOf (a .verb) = ap shapeOf (g .verb (a .program) (a .file) (a .writable) (a .readable)) in
-      let k : SameAs (shapeOf (a .verb)) b a = g .same (a .program) (a .file) (a .writable) (a .readable) in
+      let s : shapeOf (b .verb) ≡ shapeOf (a .verb) = ap shapeOf (g .verb (a .program) (a .file) (a .item) (a .writable) (a .readable) (a .inquirable)) in
+      let k : SameAs (shapeOf (a .verb)) b a = g .same (a .program) (a .file) (a .item) (a .writable) (a .readable) (a .inquirable) in
       let l = line-same (shapeOf (a .verb)) b a label k in
       let n = numbers-same (shapeOf (a .verb)) b a k in
-      (rw (s, l, n) (h .0), rw (s, l, n) (h .1))
+      let i = record-same (shapeOf (a .verb)) b a k in
+      (rw (s, l, n, i) (h .0), rw (s, l, n, i) (h .1))
 
   -- where the program's number is known
   pub out-of-range : (s : Shape) → isProgram (a .program) ≡ false → WroteAs s (Writing.Refused Unwritten.OutOfRange) buffer
   out-of-range Shape.Entry h = (rw h, rw h)
   out-of-range Shape.File h = (rw h, rw h)
+  out-of-range Shape.Record h = (rw h, rw h)
   out-of-range Shape.Alone h = (rw h, rw h)
 
   module _ (w : Writing) (after : List ℕ) (range : isProgram (a .program) ≡ true) where
@@ -318,6 +406,9 @@ module _ (a : Asked) (label buffer : List ℕ) where
 
     pub as-file : w ≡ fileWriting a buffer → after ≡ fileFilled a buffer → WroteAs Shape.File w after
     as-file ew ea = (rw range ew, rw range ea)
+
+    pub as-record : w ≡ recordWriting a buffer → after ≡ recordFilled a buffer → WroteAs Shape.Record w after
+    as-record ew ea = (rw range ew, rw range ea)
 
     pub as-alone : w ≡ placing (lineAs Shape.Alone a []) buffer → after ≡ placedIn (lineAs Shape.Alone a []) buffer → WroteAs Shape.Alone w after
     as-alone ew ea = (rw range ew, rw range ea)

@@ -3,6 +3,7 @@
 use Prim.Native.Nat.{ℕ, _≤_}
 use mathlib.Core.Path.{_≡_}
 use mathlib.Core.Logic.{_↔_, _≢_}
+use mathlib.Core.Bool.{true}
 use mathlib.Core.List.{List, [], _++_}
 use lib.ListN.{length, take, drop}
 use Rattle.files.specs.Sets.{OfFiles}
@@ -11,7 +12,7 @@ use Rattle.rules.specs.Calls.{Call}
 use Rattle.request.specs.declared.Reading.{Reading}
 use Rattle.request.specs.declared.Shape.{Shape}
 use Rattle.request.specs.Verbs.{shapeOf, longestLine}
-use Rattle.request.specs.Requests.{requestCall, requestOf, labelOf, askedBy, lineOf}
+use Rattle.request.specs.Requests.{requestCall, requestOf, hasLabel, labelOf, askedBy, lineOf}
 use Rattle.request.specs.Law.{IsLabel, InRange, saying}
 use Rattle.writer.specs.declared.Unwritten.{Unwritten}
 use Rattle.writer.specs.declared.Writing.{Writing}
@@ -19,8 +20,9 @@ use Rattle.writer.specs.Writer.{writingOf, bufferAfter}
 
 -- the claims that a line of this shape has are sets of the files 1 to 64, as every set of the code
 abbrev pub ClaimsAs : Shape → Asked → Type 0
-ClaimsAs Shape.Entry a = OfFiles (a .writable) × OfFiles (a .readable)
+ClaimsAs Shape.Entry a = OfFiles (a .writable) × OfFiles (a .readable) × OfFiles (a .inquirable)
 ClaimsAs Shape.File a = Unit {0}
+ClaimsAs Shape.Record a = Unit {0}
 ClaimsAs Shape.Alone a = Unit {0}
 
 abbrev pub ClaimsOfFiles : Call → Type 0
@@ -30,10 +32,15 @@ ClaimsOfFiles c = ClaimsAs (shapeOf (askedBy c .verb)) (askedBy c)
 abbrev pub labelAs : Shape → List ℕ → List ℕ
 labelAs Shape.Entry label = label
 labelAs Shape.File label = []
+labelAs Shape.Record label = []
 labelAs Shape.Alone label = []
 
 abbrev pub labelIn : Call → List ℕ → List ℕ
 labelIn c label = labelAs (shapeOf (askedBy c .verb)) label
+
+-- where the call's line has a label, this is one
+abbrev pub LabelFor : Call → List ℕ → Type 0
+LabelFor c label = hasLabel (shapeOf (askedBy c .verb)) ≡ true → IsLabel label
 
 -- the line l is written for the call with the label: into this buffer, from its start, and the bytes after it keep their contents
 abbrev pub WritesInto : Call → List ℕ → List ℕ → List ℕ → Type 0
@@ -62,9 +69,10 @@ pub record Written (l : List ℕ) : Type 0 where
 abbrev pub WrittenIsTaken : Type 0
 WrittenIsTaken = (l : List ℕ) → Written l ↔ (requestOf l .reading ≡ Reading.Taken)
 
--- "Claims that meet are written too": a call within range, and that asks nothing of what its claims have in common, is written
+-- "Claims that meet are written too": a call within range, and that asks nothing of what its claims have in common, is written; an ENTER
+-- with every good label, any other call whatever stands as label
 abbrev pub AlwaysWritten : Type 0
-AlwaysWritten = (c : Call) (label buffer : List ℕ) → InRange c → IsLabel label → length (lineOf c label) ≤ length buffer
+AlwaysWritten = (c : Call) (label buffer : List ℕ) → InRange c → LabelFor c label → length (lineOf c label) ≤ length buffer
     → WritesInto c label buffer (lineOf c label)
 
 -- "Bytes after the line keep their contents ..

@@ -11,6 +11,7 @@ use Rattle.laws.specs.Lists.{all}
 use Rattle.rules.specs.Boards.{isProgram}
 use Rattle.rules.specs.declared.Asked.{Asked}
 use Rattle.rules.specs.Calls.{Call}
+use Rattle.rules.specs.Checks.{isRecord}
 use Rattle.request.specs.declared.Shape.{Shape}
 use Rattle.request.specs.Verbs.{shapeOf, labelWidth}
 use Rattle.request.specs.Requests.{labelByte, askedBy, lineAs, lineOf}
@@ -20,6 +21,7 @@ use Rattle.writer.specs.declared.Writing.{Writing}
 -- the numbers of the refusals
 abbrev pub unwrittenNumber : Unwritten → ℕ
 unwrittenNumber Unwritten.OutOfRange = 8
+unwrittenNumber Unwritten.BadRecord = 19
 unwrittenNumber Unwritten.BadLabel = 6
 unwrittenNumber Unwritten.BufferShort = 17
 
@@ -29,7 +31,15 @@ unwrittenNumber Unwritten.BufferShort = 17
 abbrev pub numbersGood : Shape → Asked → Bool
 numbersGood Shape.Entry a = isProgram (a .program)
 numbersGood Shape.File a = isProgram (a .program) && isFile (a .file)
+numbersGood Shape.Record a = isProgram (a .program) && isFile (a .file)
 numbersGood Shape.Alone a = isProgram (a .program)
+
+-- check 19, "a record number out of range .. (after 8)": the record of FETCH; no other line has one
+abbrev pub recordGood : Shape → Asked → Bool
+recordGood Shape.Entry a = true
+recordGood Shape.File a = true
+recordGood Shape.Record a = isRecord (a .item)
+recordGood Shape.Alone a = true
 
 -- eight bytes from 32 to 126
 abbrev pub isLabel : List ℕ → Bool
@@ -39,6 +49,7 @@ isLabel label = eqb (length label) labelWidth && all labelByte label
 abbrev pub labelGood : Shape → List ℕ → Bool
 labelGood Shape.Entry label = isLabel label
 labelGood Shape.File label = true
+labelGood Shape.Record label = true
 labelGood Shape.Alone label = true
 
 -- ---- a line in a lent buffer
@@ -58,11 +69,13 @@ placedIn line buffer = filled (placing line buffer) line buffer
 
 -- ---- the writer
 
--- what it answers: 17 comes "after 01's checks 8 and, for ENTER, 6"
+-- what it answers: 17 comes "after 01's checks 8 and, for ENTER, 6", and 19 "after 8"
 abbrev pub writingAs : Shape → Asked → List ℕ → List ℕ → Writing
 writingAs s a label buffer =
     cond (numbersGood s a)
+    (cond (recordGood s a)
     (cond (labelGood s label) (placing (lineAs s a label) buffer) (Writing.Refused Unwritten.BadLabel))
+    (Writing.Refused Unwritten.BadRecord))
     (Writing.Refused Unwritten.OutOfRange)
 
 -- of a call: its line has the shape of its verb

@@ -16,11 +16,13 @@ ghost use Rattle.request.specs.declared.Shape.{Shape};
 ghost use Rattle.request.specs.Verbs.{verbColumns, aloneLength, labelWidth, filesAt};
 ghost use Rattle.request.specs.Requests.{filesOf, filesColumns, lineAs};
 ghost use Rattle.writer.specs.Writer.{unwrittenNumber, placing, placedIn, writingOf, bufferAfter};
-ghost use Rattle.writer.specs.Rows.{countIf, columnsIf, entryColumns, entryWriting, entryFilled, fileWriting, fileFilled};
+ghost use Rattle.writer.specs.Rows.{countIf, columnsIf, entryColumns, claimsCount, claimsColumns, entryWriting, entryFilled};
+ghost use Rattle.writer.specs.Rows.{fileWriting, fileFilled, recordWriting, recordFilled};
 
 // Why no line is written.
 pub enum Unwritten {
     OutOfRange,
+    BadRecord,
     BadLabel,
     BufferShort,
 }
@@ -32,12 +34,13 @@ pub enum Writing {
 }
 
 impl Unwritten {
-    // The number of the refusal: 01's 8 and 6, and 17.
+    // The number of the refusal: 01's 8 and 6, 17, and 19 for a record out of range.
     pub fn number(self) -> u8
         ensures { λ r. ⌜ r ≡ unwrittenNumber self ⌝ }
     {
         match self {
             Unwritten::OutOfRange => 8,
+            Unwritten::BadRecord => 19,
             Unwritten::BadLabel => 6,
             Unwritten::BufferShort => 17,
         }
@@ -94,6 +97,17 @@ fn put_files(line: &mut [u8], start: usize, s: FileSet) -> usize
     at
 }
 
+// Writes the columns of the files of V, of Q and of J.
+fn put_claims(line: &mut [u8], start: usize, v: FileSet, q: FileSet, j: FileSet) -> usize
+    requires { ⌜ start + fileWidth * claimsCount v q j ≤ length (now line) ⌝ }
+    ensures { λ r. ⌜ r ≡ start + fileWidth * claimsCount v q j ⌝ }
+    ensures { λ r. ⌜ now (line .exit) ≡ putAt start (claimsColumns v q j) (now (line .entry)) ⌝ }
+{
+    let after_v = put_files(line, start, v);
+    let after_q = put_files(line, after_v, q);
+    put_files(line, after_q, j)
+}
+
 // One more if f is in the set.
 fn counted(n: u64, s: FileSet, f: u8) -> u64
     requires { ⌜ n ≤ 64 ⌝ }
@@ -131,16 +145,25 @@ fn put_head(line: &mut [u8], verb: Verb, program: u64) -> usize
     put_number(line, at, columns::PROGRAM_WIDTH, program)
 }
 
-// Writes the columns of an ENTER line before its files: verb, program, label and the two counts.
-fn put_entry(line: &mut [u8], verb: Verb, program: u64, label: &[u8], w: u64, r: u64) -> usize
+// Writes the columns of an ENTER line before its files: verb, program, label and the three counts.
+fn put_entry(
+    line: &mut [u8],
+    verb: Verb,
+    program: u64,
+    label: &[u8],
+    w: u64,
+    r: u64,
+    j: u64,
+) -> usize
     requires { ⌜ (filesAt ≤ length (now line)) × (length (now label) ≡ labelWidth) ⌝ }
     ensures { λ e. ⌜ e ≡ filesAt ⌝ }
-    ensures { λ e. ⌜ now (line .exit) ≡ putAt 0 (entryColumns verb program (now (label .entry)) w r) (now (line .entry)) ⌝ }
+    ensures { λ e. ⌜ now (line .exit) ≡ putAt 0 (entryColumns verb program (now (label .entry)) w r j) (now (line .entry)) ⌝ }
 {
     let after_program = put_head(line, verb, program);
     let after_label = put(line, after_program, label);
     let after_w = put_number(line, after_label, columns::FILE_WIDTH, w);
-    put_number(line, after_w, columns::FILE_WIDTH, r)
+    let after_r = put_number(line, after_w, columns::FILE_WIDTH, r);
+    put_number(line, after_r, columns::FILE_WIDTH, j)
 }
 
 // An ENTER line with a good label.
@@ -151,16 +174,17 @@ fn write_entry(a: Asked, label: &[u8], line: &mut [u8]) -> Writing
 {
     let writable = a.writable;
     let readable = a.readable;
+    let inquirable = a.inquirable;
     let verb = a.verb;
     let w = count(writable);
     let r = count(readable);
-    let len = request::FILES_AT + columns::FILE_WIDTH * ((w + r) as usize);
+    let j = count(inquirable);
+    let len = request::FILES_AT + columns::FILE_WIDTH * ((w + r + j) as usize);
     if line.len() < len {
         return Writing::Refused(Unwritten::BufferShort);
     }
-    let after_counts = put_entry(line, verb, a.program, label, w, r);
-    let after_writable = put_files(line, after_counts, writable);
-    let end = put_files(line, after_writable, readable);
+    let after_counts = put_entry(line, verb, a.program, label, w, r, j);
+    let end = put_claims(line, after_counts, writable, readable, inquirable);
     Writing::Wrote(end)
 }
 
@@ -196,7 +220,30 @@ fn write_file(a: Asked, line: &mut [u8]) -> Writing
     Writing::Wrote(end)
 }
 
-// LEAVE and CANCEL: the buffer.
+// FETCH: the file, the record, then the buffer.
+fn write_record(a: Asked, line: &mut [u8]) -> Writing
+    ensures { λ r. ⌜ r ≡ recordWriting a (now (line .entry)) ⌝ }
+    ensures { λ r. ⌜ now (line .exit) ≡ recordFilled a (now (line .entry)) ⌝ }
+{
+    let file = a.file;
+    if !is_number(file, 64) {
+        return Writing::Refused(Unwritten::OutOfRange);
+    }
+    let item = a.item;
+    if !is_number(item, 65535) {
+        return Writing::Refused(Unwritten::BadRecord);
+    }
+    if line.len() < request::RECORD_LEN {
+        return Writing::Refused(Unwritten::BufferShort);
+    }
+    let verb = a.verb;
+    let after_program = put_head(line, verb, a.program);
+    let after_file = put_number(line, after_program, columns::FILE_WIDTH, file);
+    let end = put_number(line, after_file, columns::RECORD_WIDTH, item);
+    Writing::Wrote(end)
+}
+
+// LEAVE, CANCEL and RETURN: the buffer.
 fn write_alone(a: Asked, line: &mut [u8]) -> Writing
     ensures { λ r. ⌜ r ≡ placing (lineAs Shape.Alone a []) (now (line .entry)) ⌝ }
     ensures { λ r. ⌜ now (line .exit) ≡ placedIn (lineAs Shape.Alone a []) (now (line .entry)) ⌝ }
@@ -223,7 +270,8 @@ fn is_number(n: u64, high: u64) -> bool
 }
 
 // Writes the line that asks for the call from the buffer's start, without byte 10, and gives its length.
-// Refused are a number out of range, then a bad label of ENTER, then a buffer shorter than the line; a refusal writes nothing.
+// Refused are a program or file out of range, then FETCH's record out of range, then a bad label of ENTER, then a buffer shorter than the line;
+// a refusal writes nothing.
 // What the verb does not use is not looked at.
 pub fn write(a: Asked, label: &[u8], line: &mut [u8]) -> Writing
     ensures { λ r. ⌜ r ≡ writingOf (callOf a) (now (label .entry)) (now (line .entry)) ⌝ }
@@ -238,6 +286,7 @@ pub fn write(a: Asked, label: &[u8], line: &mut [u8]) -> Writing
     match shape {
         Shape::Entry => write_enter(a, label, line),
         Shape::File => write_file(a, line),
+        Shape::Record => write_record(a, line),
         Shape::Alone => write_alone(a, line),
     }
 }

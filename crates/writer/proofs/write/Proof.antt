@@ -8,7 +8,7 @@ use Rattle.rules.specs.Boards.{isProgram}
 use Rattle.request.specs.declared.Shape.{Shape}
 use Rattle.request.specs.Verbs.{shapeOf}
 use Rattle.writer.specs.declared.Writing.{Writing}
-use Rattle.writer.proofs.Laws.{WroteAs, Wrote, by-shape, out-of-range, as-entry, as-file, as-alone}
+use Rattle.writer.proofs.Laws.{WroteAs, Wrote, by-shape, out-of-range, as-entry, as-file, as-record, as-alone}
 use borrow.Author.Needs.{needs}
 use Rattle.writer.proofs.write.Statement.{statement}
 use Rattle.writer.proofs.write.Tie as tie
@@ -48,9 +48,15 @@ returns-3 c = let k = c .before .before .write-file in let m = c .before .before
     (as-file (a .a) (a .label .now) (a .line .now) (k .result) (k .last .1 .0) (is-program e) (k .ensures .0) (k .ensures .1))
 
 returns-4 : tie.Need-returns-4
-returns-4 c = let k = c .before .before .write-alone in let m = c .before .before .before .before in
+returns-4 c = let k = c .before .before .write-record in let m = c .before .before .before .before in
     let r = m .before .before in let e = in-range r in let a = start e .args in
-    shaped r Shape.Alone (k .result) (k .last .1 .0) (m .enum-told3 .given .1)
+    shaped r Shape.Record (k .result) (k .last .1 .0) (m .enum-told3 .given .1)
+    (as-record (a .a) (a .label .now) (a .line .now) (k .result) (k .last .1 .0) (is-program e) (k .ensures .0) (k .ensures .1))
+
+returns-5 : tie.Need-returns-5
+returns-5 c = let k = c .before .before .write-alone in let m = c .before .before .before .before in
+    let r = m .before .before in let e = in-range r in let a = start e .args in
+    shaped r Shape.Alone (k .result) (k .last .1 .0) (m .enum-told4 .given .1)
     (as-alone (a .a) (a .label .now) (a .line .now) (k .result) (k .last .1 .0) (is-program e) (k .ensures .0) (k .ensures .1))
 
 pub write-spec : {M : Type 1} → statement M
@@ -67,8 +73,12 @@ write-spec =
     (λ c. search needs)
     (λ c κs. search needs)
     (λ c. search needs)
+    (λ c κs. search needs)
+    (λ c. search needs)
     returns-2
     (λ c. search needs)
     returns-3
     (λ c. search needs)
-    returns-4)
+    returns-4
+    (λ c. search needs)
+    returns-5)
