@@ -359,7 +359,7 @@ line-same Shape.Record x y label h = rw (h .0, h .1, h .2, h .3)
 line-same Shape.Alone x y label h = rw (h .0, h .1)
 
 numbers-same : (s : Shape) (x y : Asked) → SameAs s x y → numbersGood s x ≡ numbersGood s y
-numbers-same Shape.Entry x y h = rw (h .1)
+numbers-same Shape.Entry x y h = simp (h .1, h .2, h .3, h .4)
 numbers-same Shape.File x y h = rw (h .1, h .2)
 numbers-same Shape.Record x y h = rw (h .1, h .2)
 numbers-same Shape.Alone x y h = rw (h .1)
