@@ -1,15 +1,16 @@
 -- The laws of sections: each round trip once for a kind of section, and for sections one after another. Assumes nothing.
 use Prim.Native.Nat.{ℕ, zero, suc, _+_, _-_, _*_, _/_, _%_, _^_, _≤_, _<_}
 use mathlib.Core.Path.{_≡_, refl, ap, sym, _∙_}
-use mathlib.Core.List.{List, [], _∷_, _++_, append-assoc, append-nil}
-use mathlib.Core.Bool.{true, false}
+use mathlib.Core.List.{List, [], _∷_, _++_, map, append-assoc, append-nil}
+use mathlib.Core.Bool.{Bool, true, false}
 use lib.ListN.{length, getD, take, drop, length-append, length-drop, drop-of-length-le}
 use lib.Seq.{take-at, take-all, take-add, take-take, drop-at, drop-drop, drop-cons, length-take-le, getD-drop}
 use native.Mathlib.Omega.{arith}
 use native.Mathlib.Nat.{mul-zero, add-sub-cancel-left}
-use Rattle.laws.specs.Tests.{and-left, and-right}
+use Rattle.laws.specs.Tests.{never, and-left, and-right, and-false}
 use Rattle.columns.specs.Rows.{flat, putAt}
-use Rattle.image.specs.Sections.{Section, _▸_, seen, many, Each, readMany, fitMany, byte, run, bytesN, valueOf, number}
+use Rattle.image.specs.Sections.{Section, _▸_, seen, refined, many, Each, readMany, fitMany, zipped, agree}
+use Rattle.image.specs.Sections.{byte, run, bytesN, valueOf, number}
 use Rattle.image.specs.Law.{Bytes, Lawful}
 
 -- ---- bytes of a list
@@ -113,6 +114,70 @@ module _ {A B : Type 0} where
         again = λ l b n f. ap (s .write) (d (s .read l)) ∙ p .again l b n f;
       }
 
+  pub refined-lawful : {s : Section A} (there : A → B) (back : B → A) (test : A → Bool) (good : B → Type 0)
+      → ((b : B) → good b → there (back b) ≡ b) → ((b : B) → good b → test (back b) ≡ true) → ((a : A) → test a ≡ true → back (there a) ≡ a)
+      → Lawful s → Lawful (refined there back test good s)
+  refined-lawful {s} there back test good e t d p =
+      record {
+        long = λ b h. p .long (back b) (h .0);
+        fit = λ b rest h. rw (p .fit (back b) rest (h .0), p .back (back b) rest (h .0)) (t b (h .1));
+        back = λ b rest h. ap there (p .back (back b) rest (h .0)) ∙ e b (h .1);
+        again = λ l b n f. ap (s .write) (d (s .read l) (and-right (s .fits l) (test (s .read l)) f))
+            ∙ p .again l b n (and-left (s .fits l) (test (s .read l)) f);
+      }
+
+-- ---- two lists joined one by one
+
+module _ {A B C : Type 0} (join : A → B → C) (left : C → A) (right : C → B) (test : A → B → Bool) (good : C → Type 0)
+    (back : (c : C) → good c → join (left c) (right c) ≡ c) (fit : (c : C) → good c → test (left c) (right c) ≡ true)
+    (again : (a : A) (b : B) → test a b ≡ true → (left (join a b) ≡ a) × (right (join a b) ≡ b)) where
+  pub zipped-back : (l : List C) → Each good l → zipped join (map left l) (map right l) ≡ l
+  unfolding zipped Each
+  zipped-back [] h = refl
+  zipped-back (c ∷ l) h = rw (back c (h .0), zipped-back l (h .1))
+
+  pub zipped-fit : (l : List C) → Each good l → agree test (map left l) (map right l) ≡ true
+  unfolding agree Each
+  zipped-fit [] h = refl
+  zipped-fit (c ∷ l) h = rw (fit c (h .0), zipped-fit l (h .1))
+
+  pub zipped-again : (l : List A) (m : List B) → agree test l m ≡ true → (map left (zipped join l m) ≡ l) × (map right (zipped join l m) ≡ m)
+  unfolding agree zipped
+  zipped-again [] [] h = (refl, refl)
+  zipped-again [] (b ∷ m) h = never {t = false} h refl
+  zipped-again (a ∷ l) [] h = never {t = false} h refl
+  zipped-again (a ∷ l) (b ∷ m) h =
+      let e = again a b (and-left (test a b) (agree test l m) h) in
+      let d = zipped-again l m (and-right (test a b) (agree test l m) h) in
+      (rw (e .0, d .0), rw (e .1, d .1))
+
+module _ {A B C : Type 0} (join : A → B → C) where
+  pub zipped-at : (l : List A) (m : List B) (i : ℕ) (a : A) (b : B) (c : C) → i < length l → i < length m
+      → getD (zipped join l m) i c ≡ join (getD l i a) (getD m i b)
+  unfolding zipped
+  zipped-at [] m i a b c h k = absurd (let n : i < 0 = h in omega arith)
+  zipped-at (x ∷ l) [] i a b c h k = absurd (let n : i < 0 = k in omega arith)
+  zipped-at (x ∷ l) (y ∷ m) zero a b c h k = refl
+  zipped-at (x ∷ l) (y ∷ m) (suc i) a b c h k = zipped-at l m i a b c (omega arith) (omega arith)
+
+  pub zipped-length : (l : List A) (m : List B) → length l ≡ length m → length (zipped join l m) ≡ length l
+  unfolding zipped
+  zipped-length [] m h = refl
+  zipped-length (x ∷ l) [] h = absurd (let n : suc (length l) ≡ 0 = h in omega arith)
+  zipped-length (x ∷ l) (y ∷ m) h = ap suc (zipped-length l m (omega arith))
+
+-- P of each, by place
+pub each-at : {A : Type 0} (P : A → Type 0) (l : List A) (d : A) → ((i : ℕ) → i < length l → P (getD l i d)) → Each P l
+unfolding Each
+each-at P [] d h = tt
+each-at P (a ∷ l) d h = (h 0 (omega arith), each-at P l d (λ i m. h (suc i) (omega arith)))
+
+-- rows of a part of each
+pub flat-map : {A B : Type 0} (f : B → List ℕ) (g : A → B) (l : List A) → flat f (map g l) ≡ flat (λ a. f (g a)) l
+unfolding flat
+flat-map f g [] = refl
+flat-map f g (a ∷ l) = ap (λ (x : List ℕ). f (g a) ++ x) (flat-map f g l)
+
 -- ---- many of the same
 
 module _ {A : Type 0} (s : Section A) (p : Lawful s) where
@@ -211,20 +276,46 @@ module _ {A : Type 0} (s : Section A) where
   read-at (suc n) zero l a h = rw (row-first l)
   read-at (suc n) (suc i) l a h = read-at n i (drop (s .size) l) a (omega arith) ∙ rw (row-after l i)
 
-  pub fit-more : (n : ℕ) (l : List ℕ) → fitMany s n l ≡ true → s .fits (rowAt l n) ≡ true → fitMany s (suc n) l ≡ true
-  unfolding fitMany
-  fit-more zero l h f = rw (← row-first l, f)
-  fit-more (suc n) l h f =
-      let g = and-left (s .fits (take (s .size) l)) (fitMany s n (drop (s .size) l)) h in
-      rw g (fit-more n (drop (s .size) l) (rw g at h) (rw (row-after l n) f))
+  -- the row in the part of the list that begins with n, as the code's range has it
+  pub row-after-part : (l : List ℕ) (m n : ℕ) → take (m + s .size * n + s .size - (m + s .size * n)) (drop (m + s .size * n) l) ≡ rowAt (drop m l) n
+  row-after-part l m n = rw (add-sub-cancel-left (m + s .size * n) (s .size), drop-drop (s .size * n) m l)
 
-  pub fit-fail : (i n : ℕ) (l : List ℕ) → fitMany s i l ≡ true → s .fits (rowAt l i) ≡ false → i < n → fitMany s n l ≡ false
+  -- a section without a test fits
+  pub fit-any : (n : ℕ) (l : List ℕ) → ((k : List ℕ) → s .fits k ≡ true) → fitMany s n l ≡ true
   unfolding fitMany
-  fit-fail i zero l h f m = absurd (omega arith)
-  fit-fail zero (suc n) l h f m = rw (← row-first l, f)
-  fit-fail (suc i) (suc n) l h f m =
-      let g = and-left (s .fits (take (s .size) l)) (fitMany s i (drop (s .size) l)) h in
-      rw g (fit-fail i n (drop (s .size) l) (rw g at h) (rw (row-after l i) f) (omega arith))
+  fit-any zero l h = refl
+  fit-any (suc n) l h = rw (h (take (s .size) l), fit-any n (drop (s .size) l) h)
+
+module _ {A B : Type 0} (s : Section A) (t : Section B) (test : A → B → Bool) where
+  abbrev pub agreeMany : ℕ → List ℕ → List ℕ → Bool
+  agreeMany n l m = agree test (readMany s n l) (readMany t n m)
+
+  -- the two rows pass the test
+  abbrev pub agreeAt : ℕ → List ℕ → List ℕ → Bool
+  agreeAt n l m = test (s .read (rowAt s l n)) (t .read (rowAt t m n))
+
+  first-agree : (l m : List ℕ) → test (s .read (take (s .size) l)) (t .read (take (t .size) m)) ≡ agreeAt 0 l m
+  first-agree l m = rw (row-first s l, row-first t m)
+
+  after-agree : (n : ℕ) (l m : List ℕ) → agreeAt n (drop (s .size) l) (drop (t .size) m) ≡ agreeAt (suc n) l m
+  after-agree n l m = rw (row-after s l n, row-after t m n)
+
+  pub agree-more : (n : ℕ) (l m : List ℕ) → agreeMany n l m ≡ true → agreeAt n l m ≡ true → agreeMany (suc n) l m ≡ true
+  unfolding readMany agree
+  agree-more zero l m h f = rw (first-agree l m, f)
+  agree-more (suc n) l m h f =
+      let a = test (s .read (take (s .size) l)) (t .read (take (t .size) m)) in
+      let b = agreeMany n (drop (s .size) l) (drop (t .size) m) in
+      let g : a ≡ true = and-left a b h in
+      rw g (agree-more n (drop (s .size) l) (drop (t .size) m) (and-right a b h) (after-agree n l m ∙ f))
+
+  pub agree-fail : (i n : ℕ) (l m : List ℕ) → agreeAt i l m ≡ false → i < n → agreeMany n l m ≡ false
+  unfolding readMany agree
+  agree-fail i zero l m f h = absurd (omega arith)
+  agree-fail zero (suc n) l m f h = rw (first-agree l m, f)
+  agree-fail (suc i) (suc n) l m f h =
+      let a = test (s .read (take (s .size) l)) (t .read (take (t .size) m)) in
+      rw (agree-fail i n (drop (s .size) l) (drop (t .size) m) (after-agree i l m ∙ f) (omega arith)) (and-false a)
 
 -- ---- sections put into a buffer one after another
 

@@ -3,7 +3,7 @@
 use Prim.Native.Nat.{ℕ, zero, suc, _+_, _*_, _/_, _%_, _<_, _^_}
 use mathlib.Core.Path.{_≡_}
 use mathlib.Core.List.{List, [], _∷_, _++_}
-use mathlib.Core.Bool.{Bool, true, _&&_}
+use mathlib.Core.Bool.{Bool, true, false, _&&_}
 use lib.ListN.{length, getD, take, drop}
 use Rattle.columns.specs.Rows.{flat}
 
@@ -42,6 +42,17 @@ module _ {A B : Type 0} where
         fits = s .fits;
       }
 
+  -- .. for good values only: there and back they are the same, and the parts read must pass a test
+  abbrev pub refined : (A → B) → (B → A) → (A → Bool) → (B → Type 0) → Section A → Section B
+  refined there back test good s =
+      record {
+        size = s .size;
+        holds = λ b. s .holds (back b) × good b;
+        write = λ b. s .write (back b);
+        read = λ l. there (s .read l);
+        fits = λ l. s .fits l && test (s .read l);
+      }
+
 module _ {A : Type 0} where
   -- P of each
   unfoldable pub Each : (A → Type 0) → List A → Type 0
@@ -66,6 +77,23 @@ module _ {A : Type 0} where
         read = readMany s n;
         fits = fitMany s n;
       }
+
+-- ---- values whose parts stand in two sections
+
+-- two lists, joined one by one
+module _ {A B C : Type 0} where
+  unfoldable pub zipped : (A → B → C) → List A → List B → List C
+  zipped f [] m = []
+  zipped f (a ∷ l) [] = []
+  zipped f (a ∷ l) (b ∷ m) = f a b ∷ zipped f l m
+
+-- two lists of one length pass a test one by one
+module _ {A B : Type 0} where
+  unfoldable pub agree : (A → B → Bool) → List A → List B → Bool
+  agree t [] [] = true
+  agree t [] (b ∷ m) = false
+  agree t (a ∷ l) [] = false
+  agree t (a ∷ l) (b ∷ m) = t a b && agree t l m
 
 -- ---- sections of bytes
 

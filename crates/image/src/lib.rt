@@ -9,14 +9,16 @@ use store::Rest;
 use store::Seat;
 use store::sets;
 ghost use mathlib.Core.Path.{_≡_};
-ghost use mathlib.Core.List.{_++_};
+ghost use mathlib.Core.List.{_++_, map};
 ghost use mathlib.Core.Bool.{true};
 ghost use Prim.Native.Nat.{_+_, _-_, _*_, _≤_, _<_};
 ghost use lib.ListN.{length, getD, set, drop};
+ghost use Rattle.rules.specs.Modes.{byMode};
 ghost use Rattle.files.specs.Words.{wordCount, setOf, wordsFor};
-ghost use Rattle.store.specs.Sets.{IsStore, setIn, SetsOf, PutAt};
-ghost use Rattle.store.specs.Store.{noSeat, programWith, programsFrom, boardOf, SeatsTo, emptySets};
-ghost use Rattle.image.specs.Image.{kindOf, standingOf, kindFits, setSection, programSection, programsSection};
+ghost use Rattle.store.specs.Sets.{IsStore, setIn, SetsOf, PutAt, PutsFrom};
+ghost use Rattle.store.specs.Store.{noSeat, seatOf, programWith, programsFrom, boardOf, SeatsTo, emptySets};
+ghost use Rattle.image.specs.Image.{kindOf, fileByte, usedBy, wantedBy, standingOf, fileOf, itemOf, bothOrNone, seatFits};
+ghost use Rattle.image.specs.Image.{setSection, rowOf, rowSection, rowsSection, inquiryOf, inquirySection, inquiriesSection, joined, rowsAgree};
 ghost use Rattle.image.specs.Image.{imageSection, imageLength, imageOf, loadedOf, imageFits, imageIn};
 ghost use Rattle.image.specs.Stored.{loadedIn};
 ghost use Rattle.columns.specs.Rows.{putAt};
@@ -37,6 +39,15 @@ const AWAITED_AT: usize = STANDING_AT + 1;
 
 const ROW_LEN: usize = AWAITED_AT + 1;
 
+// Where what follows J begins in a program's second row, and how many bytes that has.
+const INQUIRING_AT: usize = SET_LEN;
+
+const USED_AT: usize = INQUIRING_AT + SET_LEN;
+
+const WANTED_AT: usize = USED_AT + 2;
+
+const INQUIRY_LEN: usize = WANTED_AT + 2;
+
 // Where the sections after the programs begin, and how many bytes an image has.
 const WAITING_AT: usize = ROW_LEN * 32;
 
@@ -46,7 +57,9 @@ const NUMBERS_AT: usize = ENTRY_AT + 32;
 
 const COUNTS_AT: usize = NUMBERS_AT + 3;
 
-pub const IMAGE_LEN: usize = COUNTS_AT + 32;
+const INQUIRIES_AT: usize = COUNTS_AT + 32;
+
+pub const IMAGE_LEN: usize = INQUIRIES_AT + INQUIRY_LEN * 32;
 
 // What reading an image finds: whether it is of the layout, and the board, empty if not.
 pub struct Loaded {
@@ -96,6 +109,42 @@ fn kind(s: Standing) -> u8
     }
 }
 
+// The awaited-file byte, by the file of the program's record.
+fn file_byte(s: Standing, file: u8) -> u8
+    ensures { λ r. ⌜ r ≡ fileByte s file ⌝ }
+{
+    match s {
+        Standing::Absent => 0,
+        Standing::Running => file,
+        Standing::Waiting(f) => f,
+        Standing::Held => 0,
+    }
+}
+
+// The record in use, of a program with this record.
+fn used(s: Standing, item: u16) -> u16
+    ensures { λ r. ⌜ r ≡ usedBy s item ⌝ }
+{
+    match s {
+        Standing::Absent => 0,
+        Standing::Running => item,
+        Standing::Waiting(_) => 0,
+        Standing::Held => 0,
+    }
+}
+
+// The awaited record, of a program with this record.
+fn wanted(s: Standing, item: u16) -> u16
+    ensures { λ r. ⌜ r ≡ wantedBy s item ⌝ }
+{
+    match s {
+        Standing::Absent => 0,
+        Standing::Running => 0,
+        Standing::Waiting(_) => item,
+        Standing::Held => 0,
+    }
+}
+
 // Writes all of src into out from a place on; the rest keeps its contents.
 pub fn put_at(out: &mut [u8], at: usize, src: &[u8])
     requires { ⌜ at + length (now src) ≤ length (now out) ⌝ }
@@ -105,9 +154,9 @@ pub fn put_at(out: &mut [u8], at: usize, src: &[u8])
 }
 
 // Writes the set in place k from a byte on.
-fn put_set(out: &mut [u8], at: usize, sets: &[[u64; WORDS]; 128], k: usize)
+fn put_set(out: &mut [u8], at: usize, sets: &[[u64; WORDS]; 192], k: usize)
     requires { ⌜ at + setSection .size ≤ length (now out) ⌝ }
-    requires { ⌜ (k < 128) × IsStore (now sets) ⌝ }
+    requires { ⌜ (k < 192) × IsStore (now sets) ⌝ }
     ensures { λ r. ⌜ now (out .exit) ≡ putAt at (setSection .write (setIn (now (sets .entry)) k)) (now (out .entry)) ⌝ }
 {
     let s = whole::set_at(sets, k);
@@ -115,14 +164,16 @@ fn put_set(out: &mut [u8], at: usize, sets: &[[u64; WORDS]; 128], k: usize)
     put_at(out, at, &bytes);
 }
 
-// Writes the row of program p, at a standing, at the front of a part; the rest keeps its contents.
-fn put_row(out: &mut [u8], sets: &[[u64; WORDS]; 128], p: u8, s: Standing)
-    requires { ⌜ programSection .size ≤ length (now out) ⌝ }
+// Writes the row of program p, with a seat, at the front of a part; the rest keeps its contents.
+fn put_row(out: &mut [u8], sets: &[[u64; WORDS]; 192], p: u8, seat: Seat)
+    requires { ⌜ rowSection .size ≤ length (now out) ⌝ }
     requires { ⌜ ((1 ≤ p) × (p ≤ 32)) × IsStore (now sets) ⌝ }
     ensures { λ r. ⌜ now (out .exit)
-        ≡ programSection .write (programWith (now (sets .entry)) (p - 1) s) ++ drop (programSection .size) (now (out .entry)) ⌝ }
+        ≡ rowSection .write (rowOf (programWith (now (sets .entry)) (p - 1) seat)) ++ drop (rowSection .size) (now (out .entry)) ⌝ }
 {
-    let standing = [kind(s), parts::standings::awaited(s)];
+    let s = seat.standing;
+    let f = seat.file;
+    let standing = [kind(s), file_byte(s, f)];
     let v = sets::writable_at(p);
     put_set(out, 0, sets, v);
     let q = sets::readable_at(p);
@@ -134,19 +185,53 @@ fn put_row(out: &mut [u8], sets: &[[u64; WORDS]; 128], p: u8, s: Standing)
     put_at(out, STANDING_AT, &standing);
 }
 
+// Writes the second row of program p, likewise: J, I, the record in use and the awaited one.
+fn put_inquiry(out: &mut [u8], sets: &[[u64; WORDS]; 192], p: u8, seat: Seat)
+    requires { ⌜ inquirySection .size ≤ length (now out) ⌝ }
+    requires { ⌜ ((1 ≤ p) × (p ≤ 32)) × IsStore (now sets) ⌝ }
+    ensures { λ r. ⌜ now (out .exit)
+        ≡ inquirySection .write (inquiryOf (programWith (now (sets .entry)) (p - 1) seat)) ++ drop (inquirySection .size) (now (out .entry)) ⌝ }
+{
+    let s = seat.standing;
+    let n = seat.item;
+    let u = used(s, n);
+    let a = wanted(s, n);
+    let items = [(u % 256) as u8, (u / 256 % 256) as u8, (a % 256) as u8, (a / 256 % 256) as u8];
+    let j = sets::inquirable_at(p);
+    put_set(out, 0, sets, j);
+    let i = sets::inquiring_at(p);
+    put_set(out, INQUIRING_AT, sets, i);
+    put_at(out, USED_AT, &items);
+}
+
 // Writes the programs' rows at the front of a part; the rest keeps its contents.
-fn put_rows(out: &mut [u8], sets: &[[u64; WORDS]; 128], seats: [Seat; 32])
-    requires { ⌜ programsSection .size ≤ length (now out) ⌝ }
+fn put_rows(out: &mut [u8], sets: &[[u64; WORDS]; 192], seats: [Seat; 32])
+    requires { ⌜ rowsSection .size ≤ length (now out) ⌝ }
     requires { ⌜ IsStore (now sets) ⌝ }
     ensures { λ r. ⌜ now (out .exit)
-        ≡ programsSection .write (programsFrom (now (sets .entry)) (λ i. getD seats i noSeat .standing) 32 0)
-        ++ drop (programsSection .size) (now (out .entry)) ⌝ }
+        ≡ rowsSection .write (map rowOf (programsFrom (now (sets .entry)) (λ i. getD seats i noSeat) 32 0))
+        ++ drop (rowsSection .size) (now (out .entry)) ⌝ }
 {
     let mut i: usize = 0;
     while i < 32 {
         let seat = seats[i];
-        let s = seat.standing;
-        put_row(&mut out[ROW_LEN * i..], sets, (i + 1) as u8, s);
+        put_row(&mut out[ROW_LEN * i..], sets, (i + 1) as u8, seat);
+        i += 1;
+    }
+}
+
+// Writes the programs' second rows, likewise.
+fn put_inquiries(out: &mut [u8], sets: &[[u64; WORDS]; 192], seats: [Seat; 32])
+    requires { ⌜ inquiriesSection .size ≤ length (now out) ⌝ }
+    requires { ⌜ IsStore (now sets) ⌝ }
+    ensures { λ r. ⌜ now (out .exit)
+        ≡ inquiriesSection .write (map inquiryOf (programsFrom (now (sets .entry)) (λ i. getD seats i noSeat) 32 0))
+        ++ drop (inquiriesSection .size) (now (out .entry)) ⌝ }
+{
+    let mut i: usize = 0;
+    while i < 32 {
+        let seat = seats[i];
+        put_inquiry(&mut out[INQUIRY_LEN * i..], sets, (i + 1) as u8, seat);
         i += 1;
     }
 }
@@ -160,7 +245,7 @@ fn put_places(out: &mut [u8], at: usize, places: [u8; 32])
 }
 
 // Writes the image of a board into a buffer of its length, section by section.
-fn fill_image(out: &mut [u8], sets: &[[u64; WORDS]; 128], rest: Rest)
+fn fill_image(out: &mut [u8], sets: &[[u64; WORDS]; 192], rest: Rest)
     requires { ⌜ length (now out) ≡ imageLength ⌝ }
     requires { ⌜ IsStore (now sets) ⌝ }
     ensures { λ r. ⌜ now (out .exit) ≡ imageOf (boardOf (now (sets .entry)) rest) ⌝ }
@@ -175,10 +260,11 @@ fn fill_image(out: &mut [u8], sets: &[[u64; WORDS]; 128], rest: Rest)
     put_places(out, ENTRY_AT, entry);
     put_at(out, NUMBERS_AT, &numbers);
     put_places(out, COUNTS_AT, passed);
+    put_inquiries(&mut out[INQUIRIES_AT..], sets, seats);
 }
 
 // Writes the image of a board, sound or not, by its sets and the rest, and says whether it could: a buffer of another length stays as it was.
-pub fn put_image_of(out: &mut [u8], sets: &[[u64; WORDS]; 128], rest: Rest) -> bool
+pub fn put_image_of(out: &mut [u8], sets: &[[u64; WORDS]; 192], rest: Rest) -> bool
     requires { ⌜ IsStore (now sets) ⌝ }
     ensures { λ r. ⌜ r ≡ imageFits (now (out .entry)) ⌝ }
     ensures { λ r. ⌜ now (out .exit) ≡ imageIn (now (out .entry)) (boardOf (now (sets .entry)) rest) ⌝ }
@@ -195,7 +281,7 @@ pub fn put_image(out: &mut [u8], b: Board) -> bool
     ensures { λ r. ⌜ r ≡ imageFits (now (out .entry)) ⌝ }
     ensures { λ r. ⌜ now (out .exit) ≡ imageIn (now (out .entry)) b ⌝ }
 {
-    let mut sets = [[0u64; WORDS]; 128];
+    let mut sets = [[0u64; WORDS]; 192];
     let rest = store::sets::take(b, &mut sets);
     put_image_of(out, &sets, rest)
 }
@@ -221,7 +307,14 @@ fn read_set(s: &[u8]) -> FileSet
     }
 }
 
-// The standing of two bytes.
+// The record of two bytes.
+fn read_item(a: u8, b: u8) -> u16
+    ensures { λ r. ⌜ r ≡ a + 256 * b ⌝ }
+{
+    pair(a, b) as u16
+}
+
+// The standing of its byte and the awaited-file byte.
 fn standing_of(k: u8, f: u8) -> Standing
     ensures { λ r. ⌜ r ≡ standingOf k f ⌝ }
 {
@@ -237,31 +330,84 @@ fn standing_of(k: u8, f: u8) -> Standing
     Standing::Held
 }
 
-// Whether two bytes are those of a standing.
-fn kind_fits(k: u8, f: u8) -> bool
-    ensures { λ r. ⌜ r ≡ kindFits k f ⌝ }
+// The file of the record; a is the awaited record.
+fn file_of(k: u8, f: u8, a: u16) -> u8
+    ensures { λ r. ⌜ r ≡ fileOf k f a ⌝ }
 {
-    if k <= 3 {
-        if k == 2 {
-            return true;
-        }
-        return f == 0;
+    if k == 1 {
+        return f;
     }
-    false
+    if k == 2 {
+        if a == 0 {
+            return 0;
+        }
+        return f;
+    }
+    0
 }
 
-// Whether a row is of its layout.
-fn row_fits(s: &[u8]) -> bool
-    requires { ⌜ length (now s) ≡ programSection .size ⌝ }
-    ensures { λ r. ⌜ r ≡ programSection .fits (now (s .entry)) ⌝ }
+// The record, by the record in use and the awaited one.
+fn item_of(k: u8, u: u16, a: u16) -> u16
+    ensures { λ r. ⌜ r ≡ itemOf k u a ⌝ }
 {
-    kind_fits(s[STANDING_AT], s[AWAITED_AT])
+    if k == 1 {
+        return u;
+    }
+    if k == 2 {
+        return a;
+    }
+    0
+}
+
+// Whether a running program's awaited-file byte and record in use are both there or both 0.
+fn both_or_none(f: u8, u: u16) -> bool
+    ensures { λ r. ⌜ r ≡ bothOrNone f u ⌝ }
+{
+    if f == 0 {
+        return u == 0;
+    }
+    u != 0
+}
+
+// Whether four numbers are those of a seat.
+fn seat_fits(k: u8, f: u8, u: u16, a: u16) -> bool
+    ensures { λ r. ⌜ r ≡ seatFits k f u a ⌝ }
+{
+    if k > 3 {
+        return false;
+    }
+    if k == 1 {
+        if !both_or_none(f, u) {
+            return false;
+        }
+        return a == 0;
+    }
+    if u != 0 {
+        return false;
+    }
+    if k == 2 {
+        return true;
+    }
+    if f != 0 {
+        return false;
+    }
+    a == 0
+}
+
+// Whether the two rows of a program are of their layout.
+fn row_fits(s: &[u8], x: &[u8]) -> bool
+    requires { ⌜ (length (now s) ≡ rowSection .size) × (length (now x) ≡ inquirySection .size) ⌝ }
+    ensures { λ r. ⌜ r ≡ rowsAgree (rowSection .read (now (s .entry))) (inquirySection .read (now (x .entry))) ⌝ }
+{
+    let u = read_item(x[USED_AT], x[USED_AT + 1]);
+    let a = read_item(x[WANTED_AT], x[WANTED_AT + 1]);
+    seat_fits(s[STANDING_AT], s[AWAITED_AT], u, a)
 }
 
 // Reads a set into place k.
-fn take_set(s: &[u8], sets: &mut [[u64; WORDS]; 128], k: usize)
+fn take_set(s: &[u8], sets: &mut [[u64; WORDS]; 192], k: usize)
     requires { ⌜ length (now s) ≡ setSection .size ⌝ }
-    requires { ⌜ (k < 128) × IsStore (now sets) ⌝ }
+    requires { ⌜ (k < 192) × IsStore (now sets) ⌝ }
     ensures { λ _. ⌜ now (sets .exit) ≡ set (now (sets .entry)) k (wordsFor wordCount (setSection .read (now (s .entry)))) ⌝ }
     ensures { λ _. ⌜ setOf (wordsFor wordCount (setSection .read (now (s .entry)))) ≡ setSection .read (now (s .entry)) ⌝ }
     ensures { λ _. ⌜ IsStore (now (sets .exit)) ⌝ }
@@ -270,33 +416,60 @@ fn take_set(s: &[u8], sets: &mut [[u64; WORDS]; 128], k: usize)
     words::put(&mut sets[k], t);
 }
 
-// Reads a row: its sets go into the places of program p, and its standing comes back.
-fn read_row(s: &[u8], sets: &mut [[u64; WORDS]; 128], p: u8) -> Standing
-    requires { ⌜ length (now s) ≡ programSection .size ⌝ }
-    requires { ⌜ ((1 ≤ p) × (p ≤ 32)) × IsStore (now sets) ⌝ }
-    ensures { λ r. ⌜ r ≡ programSection .read (now (s .entry)) .standing ⌝ }
-    ensures { λ _. ⌜ PutAt (programSection .read (now (s .entry))) (p - 1) (now (sets .entry)) (now (sets .exit)) ⌝ }
+// Reads three sets, by mode: the first into place k, the others 32 and 64 places further.
+fn take_three(a: &[u8], b: &[u8], c: &[u8], sets: &mut [[u64; WORDS]; 192], k: usize)
+    requires { ⌜ (length (now a) ≡ setSection .size) × (length (now b) ≡ setSection .size) × (length (now c) ≡ setSection .size) ⌝ }
+    requires { ⌜ (k < 128) × IsStore (now sets) ⌝ }
+    ensures { λ _. ⌜ PutsFrom k (byMode (setSection .read (now (a .entry))) (setSection .read (now (b .entry))) (setSection .read (now (c .entry))))
+        (now (sets .entry)) (now (sets .exit)) ⌝ }
 {
-    let v = sets::writable_at(p);
-    take_set(&s[0..READABLE_AT], sets, v);
-    let q = sets::readable_at(p);
-    take_set(&s[READABLE_AT..WRITING_AT], sets, q);
-    let w = sets::writing_at(p);
-    take_set(&s[WRITING_AT..READING_AT], sets, w);
-    let r = sets::reading_at(p);
-    take_set(&s[READING_AT..STANDING_AT], sets, r);
-    standing_of(s[STANDING_AT], s[AWAITED_AT])
+    take_set(a, sets, k);
+    take_set(b, sets, 32 + k);
+    take_set(c, sets, 64 + k);
 }
 
-// Whether every row is of its layout.
+// Reads the two rows of program p: its sets go into their places.
+fn read_sets(s: &[u8], x: &[u8], sets: &mut [[u64; WORDS]; 192], p: u8)
+    requires { ⌜ (length (now s) ≡ rowSection .size) × (length (now x) ≡ inquirySection .size) ⌝ }
+    requires { ⌜ ((1 ≤ p) × (p ≤ 32)) × IsStore (now sets) ⌝ }
+    ensures { λ _. ⌜ PutAt (joined (rowSection .read (now (s .entry))) (inquirySection .read (now (x .entry)))) (p - 1)
+        (now (sets .entry)) (now (sets .exit)) ⌝ }
+{
+    let v = sets::writable_at(p);
+    take_three(&s[0..READABLE_AT], &s[READABLE_AT..WRITING_AT], &x[0..INQUIRING_AT], sets, v);
+    let w = sets::writing_at(p);
+    take_three(&s[WRITING_AT..READING_AT], &s[READING_AT..STANDING_AT], &x[INQUIRING_AT..USED_AT], sets, w);
+}
+
+// Reads the two rows of a program: its seat.
+fn read_seat(s: &[u8], x: &[u8]) -> Seat
+    requires { ⌜ (length (now s) ≡ rowSection .size) × (length (now x) ≡ inquirySection .size) ⌝ }
+    ensures { λ r. ⌜ r ≡ seatOf (joined (rowSection .read (now (s .entry))) (inquirySection .read (now (x .entry)))) ⌝ }
+{
+    let k = s[STANDING_AT];
+    let f = s[AWAITED_AT];
+    let u = read_item(x[USED_AT], x[USED_AT + 1]);
+    let a = read_item(x[WANTED_AT], x[WANTED_AT + 1]);
+    let standing = standing_of(k, f);
+    let file = file_of(k, f, a);
+    let item = item_of(k, u, a);
+    Seat {
+        standing,
+        file,
+        item,
+    }
+}
+
+// Whether every program's rows are of their layout.
 fn rows_fit(s: &[u8]) -> bool
-    requires { ⌜ programsSection .size ≤ length (now s) ⌝ }
-    ensures { λ r. ⌜ r ≡ programsSection .fits (now (s .entry)) ⌝ }
+    requires { ⌜ length (now s) ≡ imageLength ⌝ }
+    ensures { λ r. ⌜ r ≡ imageSection .fits (now (s .entry)) ⌝ }
 {
     let mut i: usize = 0;
     while i < 32 {
         let a = ROW_LEN * i;
-        if !row_fits(&s[a..a + ROW_LEN]) {
+        let b = INQUIRIES_AT + INQUIRY_LEN * i;
+        if !row_fits(&s[a..a + ROW_LEN], &s[b..b + INQUIRY_LEN]) {
             return false;
         }
         i += 1;
@@ -305,20 +478,24 @@ fn rows_fit(s: &[u8]) -> bool
 }
 
 // Reads the rows of an image: the sets go into their places, and the seats come back.
-fn read_rows(s: &[u8], sets: &mut [[u64; WORDS]; 128]) -> [Seat; 32]
-    requires { ⌜ programsSection .size ≤ length (now s) ⌝ }
+fn read_rows(s: &[u8], sets: &mut [[u64; WORDS]; 192]) -> [Seat; 32]
+    requires { ⌜ length (now s) ≡ imageLength ⌝ }
     requires { ⌜ IsStore (now sets) ⌝ }
     ensures { λ r. ⌜ SeatsTo (imageSection .read (now (s .entry))) 32 r ⌝ }
     ensures { λ _. ⌜ SetsOf (imageSection .read (now (s .entry))) (now (sets .exit)) ⌝ }
 {
     let mut seats = [Seat {
         standing: Standing::Absent,
+        file: 0,
+        item: 0,
     }; 32];
     let mut i: usize = 0;
     while i < 32 {
         let a = ROW_LEN * i;
-        let standing = read_row(&s[a..a + ROW_LEN], sets, (i + 1) as u8);
-        seats[i] = Seat { standing };
+        let b = INQUIRIES_AT + INQUIRY_LEN * i;
+        read_sets(&s[a..a + ROW_LEN], &s[b..b + INQUIRY_LEN], sets, (i + 1) as u8);
+        let seat = read_seat(&s[a..a + ROW_LEN], &s[b..b + INQUIRY_LEN]);
+        seats[i] = seat;
         i += 1;
     }
     seats
@@ -334,16 +511,8 @@ fn read_places(s: &[u8]) -> [u8; 32]
     a
 }
 
-// Whether an image is of its layout.
-fn layout_fits(image: &[u8]) -> bool
-    requires { ⌜ length (now image) ≡ imageLength ⌝ }
-    ensures { λ r. ⌜ r ≡ imageSection .fits (now (image .entry)) ⌝ }
-{
-    rows_fit(image)
-}
-
 // The board of an image, by its sets and the rest, or a refusal with the empty board.
-pub fn load_in(image: &[u8], sets: &mut [[u64; WORDS]; 128]) -> LoadedRest
+pub fn load_in(image: &[u8], sets: &mut [[u64; WORDS]; 192]) -> LoadedRest
     requires { ⌜ now sets ≡ emptySets ⌝ }
     ensures { λ r. ⌜ loadedIn (now (sets .exit)) r ≡ loadedOf (now (image .entry)) ⌝ }
     ensures { λ _. ⌜ IsStore (now (sets .exit)) ⌝ }
@@ -352,11 +521,11 @@ pub fn load_in(image: &[u8], sets: &mut [[u64; WORDS]; 128]) -> LoadedRest
         let rest = Rest::EMPTY;
         return LoadedRest { ok: false, rest };
     }
-    if layout_fits(image) {
+    if rows_fit(image) {
         let seats = read_rows(image, sets);
         let waiting = read_places(&image[WAITING_AT..ENTRY_AT]);
         let entry = read_places(&image[ENTRY_AT..NUMBERS_AT]);
-        let passed = read_places(&image[COUNTS_AT..IMAGE_LEN]);
+        let passed = read_places(&image[COUNTS_AT..INQUIRIES_AT]);
         let rest = Rest {
             seats,
             waiting,
@@ -376,7 +545,7 @@ pub fn load_in(image: &[u8], sets: &mut [[u64; WORDS]; 128]) -> LoadedRest
 pub fn load(image: &[u8]) -> Loaded
     ensures { λ r. ⌜ r ≡ loadedOf (now (image .entry)) ⌝ }
 {
-    let mut sets = [[0u64; WORDS]; 128];
+    let mut sets = [[0u64; WORDS]; 192];
     let l = load_in(image, &mut sets);
     let ok = l.ok;
     let rest = l.rest;

@@ -6,7 +6,7 @@ use borrow.Author.Needs.{needs}
 use Rattle.store.specs.Sets.{IsStore}
 use Rattle.store.proofs.Laws.{fresh-store}
 use Rattle.image.specs.Sections.{_▸_}
-use Rattle.image.specs.Image.{programsSection, lineSection}
+use Rattle.image.specs.Image.{rowsSection, lineSection}
 use Rattle.image.proofs.Laws.{byte-at, load-long, load-bad}
 use Rattle.image.proofs.Stored.{read-good, read-none}
 use Rattle.image.proofs.load_in.Statement.{statement}
@@ -14,7 +14,7 @@ use Rattle.image.proofs.load_in.Tie as tie
 
 -- where the three numbers begin
 abbrev numbersAt : ℕ
-numbersAt = (programsSection ▸ lineSection ▸ lineSection) .size
+numbersAt = (rowsSection ▸ lineSection ▸ lineSection) .size
 
 -- the sets are empty at the entry
 untouched : (s : tie.Start) → IsStore (s .args .sets .now)
@@ -36,7 +36,7 @@ returns-2 c =
     let good = rows .before .before in
     let s = good .before .before .before .before in
     let l = s .args .image .now in (
-      read-good l (rows .read-rows .last .1 .0) _ (omega arith) (sym (good .before .layout-fits .ensures) ∙ good .if2 .taken)
+      read-good l (rows .read-rows .last .1 .0) _ (omega arith) (sym (good .before .rows-fit .ensures) ∙ good .if2 .taken)
           (rows .read-rows .ensures .1)
           (record {
             seats-are = rows .read-rows .ensures .0;
@@ -52,7 +52,7 @@ returns-2 c =
 
 returns-3 : tie.Need-returns-3
 returns-3 c = let s = c .before .before .before .before in let l = s .args .image .now in
-    (read-none l (s .args .sets .now) (s .pre) (load-bad l (omega arith) (sym (c .before .layout-fits .ensures) ∙ c .if2 .left)), untouched s)
+    (read-none l (s .args .sets .now) (s .pre) (load-bad l (omega arith) (sym (c .before .rows-fit .ensures) ∙ c .if2 .left)), untouched s)
 
 pub load-in-spec : {M : Type 1} → statement M
 load-in-spec =

@@ -1,10 +1,11 @@
 -- `put_row` meets its contract: its sections one after another. Assumes nothing.
-use Prim.Native.Nat.{_-_}
+use Prim.Native.Nat.{ℕ, _-_}
 use mathlib.Core.Path.{refl, _∙_}
 use borrow.Author.Needs.{needs}
 use Rattle.rules.specs.Modes.{Write, Read}
 use Rattle.store.specs.Sets.{claimPlace, openPlace, setIn}
-use Rattle.image.specs.Image.{setSection, standingSection}
+use Rattle.image.specs.Sections.{_▸_, byte}
+use Rattle.image.specs.Image.{setSection, kindOf, fileByte}
 use Rattle.image.proofs.Sections.{put-first, put-after}
 use Rattle.image.proofs.RoundTrip.{set-length}
 use Rattle.image.proofs.Stored.{set-placed}
@@ -33,7 +34,8 @@ returns c =
     let e₂ = put-after setSection q e₁ (set-length _) (set-placed sets _ _ (k₂ .readable-at .ensures .0) (p₂ .put-set2 .ensures)) in
     let e₃ = put-after setSection w e₂ (set-length _) (set-placed sets _ _ (k₃ .writing-at .ensures .0) (p₃ .put-set3 .ensures)) in
     let e₄ = put-after setSection r e₃ (set-length _) (set-placed sets _ _ (k₄ .reading-at .ensures .0) (p₄ .put-set4 .ensures)) in
-    let e₅ = put-after standingSection (a .s) e₄ refl (p₅ .put-at .ensures ∙ rw (k .before .kind .ensures, k .awaited .ensures)) in
+    let standing : ℕ × ℕ = (kindOf (a .seat .standing), fileByte (a .seat .standing) (a .seat .file)) in
+    let e₅ = put-after (byte ▸ byte) standing e₄ refl (p₅ .put-at .ensures ∙ rw (k .before .kind .ensures, k .file-byte .ensures)) in
     e₅ .front
 
 pub put-row-spec : {M : Type 1} → statement M

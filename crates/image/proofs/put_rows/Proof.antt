@@ -9,15 +9,16 @@ use lib.Seq.{take-all}
 use Rattle.columns.specs.Rows.{flat}
 use Rattle.rules.specs.Boards.{noProgram}
 use Rattle.whole.proofs.Laws.{made, made-size, made-in}
-use Rattle.image.specs.Image.{programSection}
+use Rattle.image.specs.Image.{rowOf, rowSection}
+use Rattle.image.proofs.Sections.{flat-map}
 use Rattle.image.proofs.Laws.{put-row-part}
-use Rattle.image.proofs.RoundTrip.{row-length}
+use Rattle.image.proofs.RoundTrip.{rowBytes, row-length}
 use Rattle.image.proofs.put_rows.Statement.{statement}
 use Rattle.image.proofs.put_rows.Tie as tie
 
 abbrev Inv-loop : tie.InvT-loop
 Inv-loop out₀ sets seats i₀ out i =
-    (i ≤ 32) × (length out ≡ length out₀) × (out ≡ flat (programSection .write) (take i (made sets seats)) ++ drop (programSection .size * i) out₀)
+    (i ≤ 32) × (length out ≡ length out₀) × (out ≡ flat rowBytes (take i (made sets seats)) ++ drop (rowSection .size * i) out₀)
 
 abbrev μ-loop : tie.MeasureT-loop
 μ-loop out₀ sets seats i₀ out i = 32 - i
@@ -39,7 +40,7 @@ loop-again c =
     let z : l .i + 1 - 1 ≡ l .i = omega arith in (
       omega arith,
       omega arith,
-      put-row-part (programSection .write) (programSection .size) row-length (a .out .now) (l .out) (p .put-row .last .0) m noProgram (l .i)
+      put-row-part rowBytes (rowSection .size) row-length (a .out .now) (l .out) (p .put-row .last .0) m noProgram (l .i)
           (omega (arith, made-size (a .sets .now) (a .t3))) (l .inv .2)
           (rw (made-in (a .sets .now) (a .t3) (l .i) (search needs)) (rw z at (p .put-row .ensures))),
     )
@@ -52,7 +53,8 @@ returns c =
     let a = c .before .before .before .args in
     let e : c .before .loop .i ≡ 32 = omega arith in
     let n = made-size (a .sets .now) (a .t3) in
-    (rw e at (c .before .loop .inv .2)) ∙ rw (take-all 32 (made (a .sets .now) (a .t3)) (omega (arith, n)))
+    let m = made (a .sets .now) (a .t3) in
+    (rw e at (c .before .loop .inv .2)) ∙ rw (take-all 32 m (omega (arith, n)), flat-map (rowSection .write) rowOf m)
 
 pub put-rows-spec : {M : Type 1} → statement M
 put-rows-spec =
