@@ -81,8 +81,7 @@ record Again (k f u a : ℕ) : Type 0 where
 -- all three are 0
 none-again : (f u a : ℕ) → eqb u 0 && (eqb f 0 && eqb a 0) ≡ true → (0 ≡ f) × (0 ≡ u) × (0 ≡ a)
 none-again f u a h =
-    let g = and-right (eqb u 0) (eqb f 0 && eqb a 0) h in
-    (
+    let g = and-right (eqb u 0) (eqb f 0 && eqb a 0) h in (
       sym (eqb-true f 0 (and-left (eqb f 0) (eqb a 0) g)),
       sym (eqb-true u 0 (and-left (eqb u 0) (eqb f 0 && eqb a 0) h)),
       sym (eqb-true a 0 (and-right (eqb f 0) (eqb a 0) g)),

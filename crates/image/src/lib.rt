@@ -196,7 +196,12 @@ fn put_inquiry(out: &mut [u8], sets: &[[u64; WORDS]; 192], p: u8, seat: Seat)
     let n = seat.item;
     let u = used(s, n);
     let a = wanted(s, n);
-    let items = [(u % 256) as u8, (u / 256 % 256) as u8, (a % 256) as u8, (a / 256 % 256) as u8];
+    let items = [
+        (u % 256) as u8,
+        (u / 256 % 256) as u8,
+        (a % 256) as u8,
+        (a / 256 % 256) as u8,
+    ];
     let j = sets::inquirable_at(p);
     put_set(out, 0, sets, j);
     let i = sets::inquiring_at(p);
@@ -436,9 +441,21 @@ fn read_sets(s: &[u8], x: &[u8], sets: &mut [[u64; WORDS]; 192], p: u8)
         (now (sets .entry)) (now (sets .exit)) ⌝ }
 {
     let v = sets::writable_at(p);
-    take_three(&s[0..READABLE_AT], &s[READABLE_AT..WRITING_AT], &x[0..INQUIRING_AT], sets, v);
+    take_three(
+        &s[0..READABLE_AT],
+        &s[READABLE_AT..WRITING_AT],
+        &x[0..INQUIRING_AT],
+        sets,
+        v,
+    );
     let w = sets::writing_at(p);
-    take_three(&s[WRITING_AT..READING_AT], &s[READING_AT..STANDING_AT], &x[INQUIRING_AT..USED_AT], sets, w);
+    take_three(
+        &s[WRITING_AT..READING_AT],
+        &s[READING_AT..STANDING_AT],
+        &x[INQUIRING_AT..USED_AT],
+        sets,
+        w,
+    );
 }
 
 // Reads the two rows of a program: its seat.
@@ -493,7 +510,12 @@ fn read_rows(s: &[u8], sets: &mut [[u64; WORDS]; 192]) -> [Seat; 32]
     while i < 32 {
         let a = ROW_LEN * i;
         let b = INQUIRIES_AT + INQUIRY_LEN * i;
-        read_sets(&s[a..a + ROW_LEN], &s[b..b + INQUIRY_LEN], sets, (i + 1) as u8);
+        read_sets(
+            &s[a..a + ROW_LEN],
+            &s[b..b + INQUIRY_LEN],
+            sets,
+            (i + 1) as u8,
+        );
         let seat = read_seat(&s[a..a + ROW_LEN], &s[b..b + INQUIRY_LEN]);
         seats[i] = seat;
         i += 1;

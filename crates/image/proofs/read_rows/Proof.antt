@@ -26,11 +26,10 @@ loop-holds : tie.Need-loop-holds Inv-loop μ-loop
 loop-holds c = (search needs, search needs, c .before .pre .1, λ k m. absurd (omega arith), λ k m. absurd (omega arith))
 
 read-sets-requires : tie.Need-read-sets-requires Inv-loop μ-loop
-read-sets-requires c κs =
-    (
-      (simp (add-sub-cancel-left, length-take, length-drop) (omega arith), simp (add-sub-cancel-left, length-take, length-drop) (omega arith)),
-      ((search needs, search needs), c .before .before .before .before .loop .inv .2),
-    )
+read-sets-requires c κs = (
+  (simp (add-sub-cancel-left, length-take, length-drop) (omega arith), simp (add-sub-cancel-left, length-take, length-drop) (omega arith)),
+  ((search needs, search needs), c .before .before .before .before .loop .inv .2),
+)
 
 read-seat-requires : tie.Need-read-seat-requires Inv-loop μ-loop
 read-seat-requires c κs =

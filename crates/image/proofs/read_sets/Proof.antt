@@ -8,11 +8,10 @@ use Rattle.image.proofs.read_sets.Statement.{statement}
 use Rattle.image.proofs.read_sets.Tie as tie
 
 take-three-requires-2 : tie.Need-take-three-requires-2
-take-three-requires-2 c κs =
-    (
-      (search needs, search needs, search needs),
-      (omega (arith, c .before .before .before .before .writing-at .ensures .0), c .before .before .before .before .before .take-three .ensures .are-store),
-    )
+take-three-requires-2 c κs = (
+  (search needs, search needs, search needs),
+  (omega (arith, c .before .before .before .before .writing-at .ensures .0), c .before .before .before .before .before .take-three .ensures .are-store),
+)
 
 returns : tie.Need-returns
 returns c =

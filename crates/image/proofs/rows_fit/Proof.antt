@@ -46,8 +46,7 @@ returns c =
 loop-again : tie.Need-loop-again Inv-loop μ-loop
 loop-again c =
     let l = c .before .before .before .before .before .loop in
-    let s = c .before .before .before .before .before .before .before .args .s .now in
-    (
+    let s = c .before .before .before .before .before .before .before .args .s .now in (
       omega arith,
       rw (add-one (l .i))
           (agree-more rowSection inquirySection rowsAgree (l .i) s (inquiriesIn s) (l .inv .1) (tested (c .before) ∙ not-false _ (c .if1 .left))),
