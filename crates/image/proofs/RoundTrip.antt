@@ -36,7 +36,7 @@ pub set-length : (s : FileSet) → length (setSection .write s) ≡ setSection .
 set-length s = number-length (setSection .size) (s .bits)
 
 -- in any number of bytes
-set-lawful : (n : ℕ) → Lawful (setWith n)
+pub set-lawful : (n : ℕ) → Lawful (setWith n)
 set-lawful n = seen-lawful toSet fromSet (λ s. refl) (λ x. refl) (number-lawful n)
 
 -- ---- a seat
@@ -162,7 +162,7 @@ module _ {set : Section FileSet} {file : Section ℕ} (p : Lawful set) (q : Lawf
   parts-lawful =
       many-lawful (rowWith set file) (p ▸ₗ p ▸ₗ p ▸ₗ p ▸ₗ (byte-lawful ▸ₗ q)) 32 ▸ₗ run-lawful 32 ▸ₗ run-lawful 32
       ▸ₗ (byte-lawful ▸ₗ byte-lawful ▸ₗ byte-lawful) ▸ₗ run-lawful 32
-      ▸ₗ many-lawful (inquiryWith set file) (p ▸ₗ p ▸ₗ (number-lawful 2 ▸ₗ number-lawful 2)) 32
+      ▸ₗ many-lawful (inquiryWith set) (p ▸ₗ p ▸ₗ (number-lawful 2 ▸ₗ number-lawful 2)) 32
 
   pub with-lawful : Lawful (imageWith set file)
   with-lawful = refined-lawful toBoard fromBoard partsAgree GoodSeats board-back board-fit board-again parts-lawful

@@ -146,20 +146,21 @@ itemsSection = number 2 ▸ number 2
 abbrev pub BoardParts : Type 0
 BoardParts = ((((List Row × List ℕ) × List ℕ) × ((ℕ × ℕ) × ℕ)) × List ℕ) × List InquiryRow
 
+-- the second row, by the section of a set
+abbrev pub inquiryWith : Section FileSet → Section InquiryRow
+inquiryWith set = set ▸ set ▸ itemsSection
+
 -- by the sections of a set and of the awaited file
 module _ (set : Section FileSet) (file : Section ℕ) where
   abbrev pub rowWith : Section Row
   rowWith = set ▸ set ▸ set ▸ set ▸ (byte ▸ file)
-
-  abbrev pub inquiryWith : Section InquiryRow
-  inquiryWith = set ▸ set ▸ itemsSection
 
   -- what comes before the second rows
   abbrev pub frontWith : Section ((((List Row × List ℕ) × List ℕ) × ((ℕ × ℕ) × ℕ)) × List ℕ)
   frontWith = many 32 rowWith ▸ lineSection ▸ lineSection ▸ numbersSection ▸ countsSection
 
   abbrev pub partsWith : Section BoardParts
-  partsWith = frontWith ▸ many 32 inquiryWith
+  partsWith = frontWith ▸ many 32 (inquiryWith set)
 
 abbrev pub toBoard : BoardParts → Board
 toBoard (((((rs, w), e), ((f, n), v)), c), is) =
@@ -186,7 +187,7 @@ abbrev pub rowSection : Section Row
 rowSection = rowWith setSection byte
 
 abbrev pub inquirySection : Section InquiryRow
-inquirySection = inquiryWith setSection byte
+inquirySection = inquiryWith setSection
 
 abbrev pub rowsSection : Section (List Row)
 rowsSection = many 32 rowSection
