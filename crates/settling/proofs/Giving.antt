@@ -10,32 +10,33 @@ use lib.Dec.{eqb}
 use lib.ListN.{length, getD, set, drop}
 use lib.Seq.{getD-set-same, getD-set-other}
 use borrow.Author.Tests.{eqb-true, eqb-false}
-use Rattle.laws.specs.Tests.{by-test}
+use Rattle.laws.specs.Tests.{by-test, and-left}
 use Rattle.rules.specs.declared.Standing.{Standing}
 use Rattle.rules.specs.declared.Program.{Program}
 use Rattle.rules.specs.declared.Board.{Board}
 use Rattle.rules.specs.declared.Word.{Word}
 use Rattle.rules.specs.declared.Line.{Line}
 use Rattle.laws.specs.Lists.{all, names, without}
-use Rattle.rules.specs.Boards.{noProgram, at, awaited, awaitedOf, isProgram, isAdmitted, setProgram, setWaiting, setFavour, setStanding, uncount, opening}
-use Rattle.rules.specs.Orders.{withGiven, canGive}
+use Rattle.rules.specs.Boards.{noProgram, at, awaited, isProgram, isAdmitted, setProgram, setWaiting, setFavour, setStanding, uncount, opening}
+use Rattle.rules.specs.Orders.{withGiven}
 use Rattle.rules.specs.Settling.{line, unfavour, resume, tryGive}
 use Rattle.laws.specs.Laws.{_∈_, Pairs, here, each-all}
 use Rattle.theory.specs.Programs.{Is, of-is, Sized, standing-same}
 use Rattle.theory.specs.Loose.{Loose, waiting-in}
+use Rattle.theory.specs.Settling.{canServe}
 use Rattle.tables.specs.declared.ProgramSet.{ProgramSet}
 use Rattle.store.specs.declared.Rest.{Rest}
 use Rattle.store.specs.Sets.{Sets, IsStore, SetsOf, givenAt}
 use Rattle.store.specs.Store.{boardOf}
 use Rattle.store.proofs.Boards.{board-at}
-use Rattle.store.proofs.Changing.{served-board}
+use Rattle.store.proofs.Changing.{seat-board, served-board}
 use Rattle.store.proofs.Given.{sets-given}
 use Rattle.tables.proofs.Given.{packed-same}
 use Rattle.search.specs.declared.Uses.{Uses}
 use Rattle.tables.specs.Boards.{admits, admittedSet}
 use Rattle.search.specs.Gives.{usesOf, usesIn}
 use Rattle.lines.proofs.Laws.{names-on, names-end}
-use Rattle.settling.specs.Writing.{Written, Fits, Ready, NextGiven, serve, servedRest, AskedOf, Asks, NextFor}
+use Rattle.settling.specs.Writing.{Written, Fits, Ready, NextGiven, serve, servedRest, askedBy, AskedOf, Asks, NextFor}
 use Rattle.settling.proofs.Laws.{PassAt, pass-to, pass-range, pass-next, give-fits, give-some}
 
 -- the board with the waiter p given f
@@ -85,7 +86,7 @@ module _ (c : Board) (p f : ℕ) (z : Sized (c .programs)) (i : Is p) where
   asks-given : (ps asked : List ℕ) → Ready c (p ∷ ps) → Asks c (p ∷ ps) asked → Asks (givenTo c p f) ps asked
   unfolding Pairs
   asks-given ps asked r a x m = a x (List·Memᴰ·tail m)
-      ∙ sym (ap (λ (q : Program). awaitedOf (q .standing)) (given-there x (r .2 x (List·Memᴰ·tail m) .0) (λ d. r .1 .0 x m (sym d))))
+      ∙ sym (ap askedBy (given-there x (r .2 x (List·Memᴰ·tail m) .0) (λ d. r .1 .0 x m (sym d))))
 
 -- the sets with the file given, and the rest with the waiter served, are that board
 pub served-is : (sets : Sets) (r : Rest) (p f : ℕ) → IsStore sets → length (r .seats) ≡ 32 → Is p
@@ -102,6 +103,36 @@ served-is sets r p f s n i = ap (λ (x : List Program). let c = boardOf sets r i
       passed = c .passed;
     }) (without p (names (c .waiting)))) (m (c .favoured)) (m (c .initial)) (m (c .leaves))) p)
     (ap (λ (b : Board). b .programs) (served-board sets r p f (i .least) (i .most) s Standing.Running n))
+
+-- ---- a record handed on
+
+-- the board with the waiter p running, and no file given
+abbrev pub resumedTo : Board → ℕ → Board
+resumedTo c p = let n : ℕ → ℕ = (λ k. cond (eqb (c .favoured) p) 0 k) in
+    uncount (setFavour (setWaiting (setProgram c p (setStanding (at c p) Standing.Running)) (without p (names (c .waiting))))
+    (n (c .favoured)) (n (c .initial)) (n (c .leaves))) p
+
+-- as the rules say it
+resumed-is : (c : Board) (p : ℕ) → resumedTo c p ≡ unfavour (resume c p) p
+unfolding unfavour resume
+resumed-is c p = by-test (eqb (c .favoured) p) (λ t. rw t) (λ t. rw t)
+
+-- the rest with the waiter served, and the sets as they were, are that board
+pub handed-is : (sets : Sets) (r : Rest) (p : ℕ) → IsStore sets → length (r .seats) ≡ 32 → Is p
+    → boardOf sets (servedRest r p) ≡ unfavour (resume (boardOf sets r) p) p
+unfolding boardOf
+handed-is sets r p s n i = ap (λ (x : List Program). let c = boardOf sets r in let m : ℕ → ℕ = (λ k. cond (eqb (c .favoured) p) 0 k) in
+    uncount (setFavour (setWaiting (record {
+      programs = x;
+      waiting = c .waiting;
+      entry = c .entry;
+      favoured = c .favoured;
+      initial = c .initial;
+      leaves = c .leaves;
+      passed = c .passed;
+    }) (without p (names (c .waiting)))) (m (c .favoured)) (m (c .initial)) (m (c .leaves))) p)
+    (ap (λ (b : Board). b .programs) (seat-board sets r p (i .least) (i .most) s Standing.Running n))
+    ∙ resumed-is (boardOf sets r) p
 
 -- ---- the sets, with a file given
 
@@ -121,7 +152,7 @@ pub record At (w : Written) (l asked : List ℕ) (k : ℕ) (s : Written) (sets :
 pub asks-all : (sets : Sets) (r : Rest) (asked : List ℕ) → Loose (boardOf sets r) → AskedOf r asked
     → Asks (boardOf sets r) (names (boardOf sets r .waiting)) asked
 asks-all sets r asked k a p m = let i = k .waits .of p m .0 in let x = i .least in let y = i .most in
-    a .1 (p - 1) (omega arith) ∙ sym (ap (λ (q : Program). awaitedOf (q .standing)) (board-at sets r p x y))
+    a .1 (p - 1) (omega arith) ∙ sym (ap askedBy (board-at sets r p x y))
 
 pub asks-none : (b : Board) (l asked : List ℕ) → length l ≡ 32 → Asks b (names (drop 32 l)) asked
 asks-none b l asked n p m = absurd (List·Memᴰ·not-nil (subst (λ (ps : List ℕ). p ∈ ps) (names-end l 32 (omega arith)) m))
@@ -133,7 +164,7 @@ ready-programs b ps r = each-all isProgram ps (λ p m. of-is p (r .2 p m .0))
 pub record Found (w : Written) (l asked : List ℕ) (k : ℕ) (s : Written) (sets : Sets) (u : Uses) : Type 0 where
   pub here : At w l asked k s sets u
   pub within : k ≤ 32
-  pub gives : k < 32 → (getD l k 0 ≢ 0) × (canGive (s .board) (getD l k 0) (awaited (s .board) (getD l k 0)) ≡ true)
+  pub gives : k < 32 → (getD l k 0 ≢ 0) × (canServe (s .board) (getD l k 0) ≡ true)
 
 module _ (w s : Written) (l asked : List ℕ) (sets : Sets) (u : Uses) (k j : ℕ) (a : At w l asked k s sets u) (x : NextFor sets asked u l k j) where
   next-at : NextGiven (s .board) l k j × Asks (s .board) (names (drop j l)) asked
@@ -153,7 +184,7 @@ module _ (w s : Written) (l asked : List ℕ) (sets : Sets) (u : Uses) (j : ℕ)
   ne : getD l j 0 ≢ 0
   ne = a .gives h .0
 
-  can : canGive (s .board) (getD l j 0) (awaited (s .board) (getD l j 0)) ≡ true
+  can : canServe (s .board) (getD l j 0) ≡ true
   can = a .gives h .1
 
   range : ((1 ≤ getD l j 0) × (getD l j 0 ≤ 32)) × Fits s (tryGive (s .board) (getD l j 0) (awaited (s .board) (getD l j 0)))
@@ -172,6 +203,10 @@ module _ (w s : Written) (l asked : List ℕ) (sets : Sets) (u : Uses) (j : ℕ)
   asks-here : Asks (s .board) (getD l j 0 ∷ names (drop (suc j) l)) asked
   asks-here = subst (λ (ps : List ℕ). Asks (s .board) ps asked) (names-on l j (omega arith) ne) (a .here .asks)
 
+  -- the waiter awaits no record, and the file that is asked for it
+  asked-is : getD asked (getD l j 0 - 1) 0 ≡ awaited (s .board) (getD l j 0)
+  asked-is = asks-here (getD l j 0) here ∙ rw (and-left (eqb (at (s .board) (getD l j 0) .item) 0) _ can)
+
   admitted : admits (s .board) (getD l j 0) ≡ true
   admitted = waiting-in (at (s .board) (getD l j 0) .standing) (ready .2 (getD l j 0) here .1)
 
@@ -186,7 +221,7 @@ module _ (w s : Written) (l asked : List ℕ) (sets : Sets) (u : Uses) (j : ℕ)
   give-next v e = record {
     passed = pass-next w s l j (omega arith) ne pass-at _
         (ap (λ (g : ℕ). stateOf (givenTo (s .board) (getD l j 0) g) (set (s .lines) (s .count) (line Word.Given (getD l j 0) g)) (s .count + 1))
-        (asks-here (getD l j 0) here)
+        asked-is
         ∙ ap (λ (y : Board). stateOf y (set (s .lines) (s .count) (line Word.Given (getD l j 0) (awaited (s .board) (getD l j 0)))) (s .count + 1))
         (given-is (s .board) (getD l j 0) (awaited (s .board) (getD l j 0)) size is)
         ∙ give-some s (s .board) (getD l j 0) (awaited (s .board) (getD l j 0)) can);

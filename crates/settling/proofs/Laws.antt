@@ -1,7 +1,7 @@
 -- Laws of settling. Assumes nothing.
 use mathlib.Core.Path.{_≡_, refl, sym, ap, _∙_, subst}
 use mathlib.Core.Logic.{_≢_}
-use mathlib.Core.Bool.{Bool, true, false, cond}
+use mathlib.Core.Bool.{Bool, true, false, not, cond, _&&_}
 use mathlib.Core.List.{List, [], _∷_, _++_, List·Memᴰ·head, List·Memᴰ·tail, List·Memᴰ·eq-of-singleton, List·Memᴰ·not-nil}
 use mathlib.Core.Option.{none, some, Option·getD}
 use Prim.Native.Nat.{ℕ, suc, _+_, _-_, _≤_, _<_}
@@ -13,26 +13,29 @@ use lib.Seq.{sets, getD-set-same, getD-set-other}
 use lib.Dec.{eqb}
 use borrow.Author.Tests.{eq-eqb, ne-eqb, eqb-true, eqb-false}
 use Rattle.laws.specs.Tests.{by-option, by-test}
+use Rattle.files.proofs.Bits.{least}
 use Rattle.rules.specs.declared.Program.{Program}
 use Rattle.rules.specs.declared.Board.{Board}
 use Rattle.rules.specs.declared.Word.{Word}
 use Rattle.laws.specs.Lists.{all, first, names}
 use Rattle.rules.specs.Boards.{at, awaited, awaitedOf, isProgram, isWaiting}
-use Rattle.rules.specs.Orders.{withGiven, inUse, canGive}
+use Rattle.rules.specs.Orders.{withGiven, canGive}
 use Rattle.rules.specs.Settling.{Step, line, still, andThen, unfavour, resume, tryGive, pass, candidate, favour, runHeld, choose, settle}
 use Rattle.laws.specs.Laws.{_∈_, Pairs, here, each-all, first-some}
 use Rattle.theory.specs.Programs.{Is, of-is}
-use Rattle.theory.specs.Loose.{waitsIn, Loose, Counts}
-use Rattle.theory.specs.Settling.{pass-passed}
-use Rattle.theory.specs.Sound.{loose-apart, loose-order, loose-waiter}
+use Rattle.theory.specs.Loose.{waiting-file, waiting-in, waitsIn, Loose, Counts}
+use Rattle.theory.specs.Settling.{canServe, pass-passed}
+use Rattle.theory.specs.Calls.{claims-file}
+use Rattle.theory.specs.Sound.{loose-apart, loose-order}
+use Rattle.store.specs.declared.Seat.{Seat}
 use Rattle.store.specs.declared.Rest.{Rest}
 use Rattle.store.specs.Sets.{Sets, SetsOf}
-use Rattle.store.specs.Store.{noSeat}
+use Rattle.store.specs.Store.{noSeat, seatOf}
 use Rattle.search.specs.declared.Uses.{Uses}
 use Rattle.search.specs.Gives.{usesOf, usedIn, giveIn}
 use Rattle.search.proofs.Used.{used-by, give-by}
 use Rattle.lines.proofs.Laws.{names-on, names-end}
-use Rattle.settling.specs.Writing.{Written, Ready, NextGiven, after, Fits, unused, AskedTo, Asks}
+use Rattle.settling.specs.Writing.{Written, Ready, NextGiven, after, Fits, unused, askedIn, AskedTo, Asks}
 
 -- ---- lines after lines
 
@@ -55,11 +58,11 @@ after-still w = rw (add-zero (w .count))
 
 -- ---- the pass
 
-pub give-fits : (w : Written) (b : Board) (p f : ℕ) → canGive b p f ≡ true → Fits w (tryGive b p f) → w .count < 32
+pub give-fits : (w : Written) (b : Board) (p f : ℕ) → eqb (at b p .item) 0 && canGive b p f ≡ true → Fits w (tryGive b p f) → w .count < 32
 unfolding tryGive
 give-fits w b p f e h = let k : w .count + 1 ≤ 32 = rw e at h in omega arith
 
-pub give-some : (w : Written) (b : Board) (p f : ℕ) → canGive b p f ≡ true
+pub give-some : (w : Written) (b : Board) (p f : ℕ) → eqb (at b p .item) 0 && canGive b p f ≡ true
     → _≡_ {A = Written} (record {
       board = unfavour (resume (withGiven b p f) p) p;
       lines = set (w .lines) (w .count)
@@ -69,14 +72,18 @@ pub give-some : (w : Written) (b : Board) (p f : ℕ) → canGive b p f ≡ true
 unfolding tryGive
 give-some w b p f e = rw e
 
-pub ready-next : (b : Board) (p : ℕ) (ps : List ℕ) → Ready b (p ∷ ps) → Ready (tryGive b p (awaited b p) .board) ps
+pub ready-next : (b : Board) (p : ℕ) (ps : List ℕ) → Counts b → Ready b (p ∷ ps)
+    → Ready (tryGive b p (awaited b p) .board) ps × Counts (tryGive b p (awaited b p) .board)
 unfolding pass Pairs
-ready-next b p ps r =
-    let q = pass-passed (p ∷ []) b (r .0) ((λ x m. absurd (List·Memᴰ·not-nil m)), tt) (λ x m. r .2 x (only x m)) in (
-      q .loose,
-      r .1 .1,
-      λ x m. let y = r .2 x (List·Memᴰ·tail m) in
-          (y .0, ap (λ (z : Program). isWaiting (z .standing)) (q .others x (y .0) (λ n. r .1 .0 x m (sym (List·Memᴰ·eq-of-singleton n)))) ∙ y .1),
+ready-next b p ps n r =
+    let q = pass-passed (p ∷ []) b (r .0) n ((λ x m. absurd (List·Memᴰ·not-nil m)), tt) (λ x m. r .2 x (only x m)) in (
+      (
+        q .loose,
+        r .1 .1,
+        λ x m. let y = r .2 x (List·Memᴰ·tail m) in
+            (y .0, ap (λ (z : Program). isWaiting (z .standing)) (q .others x (y .0) (λ n. r .1 .0 x m (sym (List·Memᴰ·eq-of-singleton n)))) ∙ y .1),
+      ),
+      q .counted,
     )
   where
     only : (x : ℕ) → x ∈ p ∷ [] → x ∈ p ∷ ps
@@ -85,10 +92,10 @@ ready-next b p ps r =
 -- the waiters of line l from place k on are still to be asked, and s is what was written before that
 abbrev pub PassAt : Written → List ℕ → ℕ → Written → Type 0
 PassAt w l k s = Ready (s .board) (names (drop k l)) × Fits s (pass (names (drop k l)) (s .board))
-    × (after w (pass (names l) (w .board)) ≡ after s (pass (names (drop k l)) (s .board)))
+    × (after w (pass (names l) (w .board)) ≡ after s (pass (names (drop k l)) (s .board))) × Counts (s .board)
 
-pub pass-start : (w : Written) → Loose (w .board) → Fits w (pass (names (w .board .waiting)) (w .board)) → PassAt w (w .board .waiting) 0 w
-pass-start w k f = ((k, k .waits .once, k .waits .of), f, refl)
+pub pass-start : (w : Written) → Loose (w .board) → Counts (w .board) → Fits w (pass (names (w .board .waiting)) (w .board)) → PassAt w (w .board .waiting) 0 w
+pass-start w k n f = ((k, k .waits .once, k .waits .of), f, refl, n)
 
 pub pass-over : (w s : Written) (l : List ℕ) (k : ℕ) → PassAt w l k s → names (drop k l) ≡ [] → s ≡ after w (pass (names l) (w .board))
 unfolding pass
@@ -121,10 +128,12 @@ module _ (w s : Written) (l : List ℕ) (k : ℕ) (h : k < length l) (ne : getD 
   pass-next u e =
       let t = tryGive (s .board) (getD l k 0) (awaited (s .board) (getD l k 0)) in
       let n = length-append (t .lines) (pass (names (drop (suc k) l)) (t .board) .lines) in
+      let r = ready-next (s .board) (getD l k 0) (names (drop (suc k) l)) (i .3) ready-here in
       rw (add-one k) (subst (PassAt w l (suc k)) (sym e) (
-        ready-next (s .board) (getD l k 0) (names (drop (suc k) l)) ready-here,
+        r .0,
         omega (arith, fits-here, n),
         i .2 ∙ ap (λ (x : List ℕ). after s (pass x (s .board))) (names-on l k h ne) ∙ sym (after-then s t (pass (names (drop (suc k) l)) (t .board))),
+        r .1,
       ))
 
 -- the waiting line of a loose board
@@ -133,7 +142,7 @@ ready-all b k = (k, k .waits .once, k .waits .of)
 
 -- the next waiter that is given its file
 pub pass-to : (w s : Written) (l : List ℕ) (k j : ℕ) → PassAt w l k s → NextGiven (s .board) l k j → PassAt w l j s
-pass-to w s l k j i n = (n .ready, subst (Fits s) (n .same) (i .1), i .2 ∙ ap (after s) (n .same))
+pass-to w s l k j i n = (n .ready, subst (Fits s) (n .same) (i .1), i .2 ∙ ap (after s) (n .same), i .3)
 
 -- nobody is left to be asked
 pub next-none : (b : Board) (l : List ℕ) (from k : ℕ) → from ≤ 32 → length l ≡ 32 → Ready b (names (drop k l))
@@ -148,7 +157,7 @@ next-none b l from k o n r e d = let z : names (drop k l) ≡ names (drop 32 l) 
 
 -- one file more that is waited for
 pub asked-more : (r : Rest) (i : ℕ) (asked : List ℕ) (f : ℕ) → i < 32 → length asked ≡ 32 → AskedTo r i asked
-    → f ≡ awaitedOf (getD (r .seats) i noSeat .standing) → AskedTo r (i + 1) (set asked i f)
+    → f ≡ askedIn (getD (r .seats) i noSeat) → AskedTo r (i + 1) (set asked i f)
 asked-more r i asked f h n a e j m = by-test (eqb j i)
     (λ t. let z : j ≡ i = eqb-true j i t in rw z (getD-set-same asked i f 0 (omega arith) ∙ e))
     (λ t. let z : j ≢ i = eqb-false j i t in getD-set-other asked i j f 0 z ∙ a j (omega arith))
@@ -172,28 +181,39 @@ module _ (b : Board) (l : List ℕ) (k : ℕ) (h : k < length l) (ne : getD l k 
   waiter-in : getD l k 0 ∈ names (drop k l)
   waiter-in = subst (λ (ps : List ℕ). getD l k 0 ∈ ps) (sym (names-on l k h ne)) here
 
+  -- who awaits no record awaits a file
+  waiter-file : at b (getD l k 0) .item ≡ 0 → awaited b (getD l k 0) ≢ 0
+  waiter-file z = let (f, d) = waiting-file (at b (getD l k 0) .standing) (waiter-at .1) in
+      let m = least 64 f (claims-file (at b (getD l k 0)) f (ready-at .0 .asked (getD l k 0) (waiter-at .0) f (d, z) .claimed)) in
+      let e : awaited b (getD l k 0) ≡ f = ap awaitedOf d in omega arith
+
   -- what the arrays say of the waiter is what the rules say
   pub waiter-can : (sets : Sets) (asked : List ℕ) (u : Uses) (t : Bool) → SetsOf b sets → u ≡ usesOf b sets → Asks b (names (drop k l)) asked
-      → t ≡ giveIn sets u (getD l k 0) (getD asked (getD l k 0 - 1) 0) → t ≡ canGive b (getD l k 0) (awaited b (getD l k 0))
-  waiter-can sets asked u t x z a g =
-      let m = loose-waiter b (getD l k 0) (ready-at .0) (waiter-at .0) (waiter-at .1) in let e = a (getD l k 0) waiter-in in
-      give-by sets u (getD l k 0) (getD asked (getD l k 0 - 1) 0) t (waiter-range .0) (waiter-range .1) g b x z
-      (loose-apart b (ready-at .0)) (loose-order b (ready-at .0)) (m .0) ∙ ap (canGive b (getD l k 0)) e
+      → t ≡ not (eqb (getD asked (getD l k 0 - 1) 0) 0) && giveIn sets u (getD l k 0) (getD asked (getD l k 0 - 1) 0) → t ≡ canServe b (getD l k 0)
+  waiter-can sets asked u t x z a g = let e = a (getD l k 0) waiter-in in g
+      ∙ ap (λ (f : ℕ). not (eqb f 0) && giveIn sets u (getD l k 0) f) e
+      ∙ by-test (eqb (at b (getD l k 0) .item) 0)
+      (λ d. let n = waiter-file (eqb-true (at b (getD l k 0) .item) 0 d) in
+      rw (d, ne-eqb (awaited b (getD l k 0)) 0 n) (give-by sets u (getD l k 0) (awaited b (getD l k 0)) _ (waiter-range .0) (waiter-range .1) refl b x z
+      (loose-apart b (ready-at .0)) (loose-order b (ready-at .0)) (waiting-in (at b (getD l k 0) .standing) (waiter-at .1))))
+      (λ d. rw d)
 
   pub asks-left : (asked : List ℕ) → Asks b (names (drop k l)) asked → Asks b (names (drop (k + 1) l)) asked
   asks-left asked a = rw (add-one k) (λ p m. a p (subst (λ (ps : List ℕ). p ∈ ps) (sym (names-on l k h ne)) (List·Memᴰ·tail m)))
 
-  pub waiter-used : (sets : Sets) (u : Uses) (f : ℕ) (t : Bool) → SetsOf b sets → u ≡ usesOf b sets
-      → f ≡ awaited b (getD l k 0) → t ≡ usedIn sets u (getD l k 0) f → t ≡ inUse b (getD l k 0) (awaited b (getD l k 0))
-  waiter-used sets u f t x z e g =
-      used-by sets u (getD l k 0) f t (waiter-range .0) (waiter-range .1) g b x z (loose-apart b (ready-at .0)) ∙ ap (inUse b (getD l k 0)) e
+  pub waiter-unused : (sets : Sets) (u : Uses) (s : Seat) (t : Bool) → SetsOf b sets → u ≡ usesOf b sets → seatOf (at b (getD l k 0)) ≡ s
+      → t ≡ eqb (s .item) 0 && not (usedIn sets u (getD l k 0) (awaitedOf (s .standing))) → t ≡ unused b (getD l k 0)
+  waiter-unused sets u s t x z e g = g
+      ∙ ap (λ (y : Seat). eqb (y .item) 0 && not (usedIn sets u (getD l k 0) (awaitedOf (y .standing)))) (sym e)
+      ∙ ap (λ (y : Bool). eqb (at b (getD l k 0) .item) 0 && not y)
+      (used-by sets u (getD l k 0) (awaited b (getD l k 0)) _ (waiter-range .0) (waiter-range .1) refl b x z (loose-apart b (ready-at .0)))
 
   pub ready-left : Ready b (names (drop (k + 1) l))
   unfolding Pairs
   ready-left = rw (add-one k) (ready-at .0, ready-at .1 .1, λ p m. ready-at .2 p (List·Memᴰ·tail m))
 
   -- a waiter that is not given its file is passed over
-  pub waiter-over : canGive b (getD l k 0) (awaited b (getD l k 0)) ≡ false
+  pub waiter-over : canServe b (getD l k 0) ≡ false
       → Ready b (names (drop (k + 1) l)) × (pass (names (drop k l)) b ≡ pass (names (drop (k + 1) l)) b)
   unfolding pass tryGive Pairs
   waiter-over e = rw (add-one k) (
@@ -272,14 +292,15 @@ module _ (w : Written) where
 
   -- ---- settling
 
-  pub settle-loose : (s : Written) → s ≡ after w (pass (names (w .board .waiting)) (w .board)) → Loose (w .board) → Loose (s .board)
-  settle-loose s e k = subst (λ (x : Written). Loose (x .board)) (sym e) (pass-passed (names (w .board .waiting))
-      (w .board) k (k .waits .once) (k .waits .of) .loose)
+  pub settle-loose : (s : Written) → s ≡ after w (pass (names (w .board .waiting)) (w .board)) → Loose (w .board) → Counts (w .board)
+      → Loose (s .board)
+  settle-loose s e k n = subst (λ (x : Written). Loose (x .board)) (sym e) (pass-passed (names (w .board .waiting))
+      (w .board) k n (k .waits .once) (k .waits .of) .loose)
 
   pub settle-counts : (s : Written) → s ≡ after w (pass (names (w .board .waiting)) (w .board)) → Loose (w .board) → Counts (w .board)
       → Counts (s .board)
   settle-counts s e k n = subst (λ (x : Written). Counts (x .board)) (sym e) (pass-passed (names (w .board .waiting))
-      (w .board) k (k .waits .once) (k .waits .of) .counted n)
+      (w .board) k n (k .waits .once) (k .waits .of) .counted)
 
   settle-lines : length (settle (w .board) .lines) ≡ length (pass (names (w .board .waiting)) (w .board) .lines) + length
       (choose (pass (names (w .board .waiting)) (w .board) .board) .lines)

@@ -6,20 +6,22 @@ use rules::Standing;
 use rules::Word;
 use search::Uses;
 use store::Rest;
+use store::Seat;
 ghost use mathlib.Core.Path.{_≡_};
-ghost use mathlib.Core.Bool.{true, cond};
+ghost use mathlib.Core.Bool.{true, not, cond, _&&_};
 ghost use lib.Dec.{eqb};
 ghost use mathlib.Core.Option.{Option·getD};
 ghost use Prim.Native.Nat.{_+_, _≤_, _<_};
 ghost use lib.ListN.{length, getD, drop};
 ghost use Rattle.laws.specs.Lists.{all, names};
-ghost use Rattle.rules.specs.Boards.{isProgram};
-ghost use Rattle.rules.specs.Settling.{pass, candidate, favour, runHeld, choose, settle};
+ghost use Rattle.rules.specs.Boards.{awaitedOf, isProgram};
+ghost use Rattle.rules.specs.Settling.{lineOf, pass, handOn, candidate, favour, runHeld, choose, settle};
 ghost use Rattle.theory.specs.Loose.{Loose, Counts};
-ghost use Rattle.parts.specs.Entries.{IsEntries};
+ghost use Rattle.parts.specs.Entries.{IsEntries, entryOf};
 ghost use Rattle.store.specs.Sets.{IsStore};
 ghost use Rattle.store.specs.Store.{boardOf};
-ghost use Rattle.settling.specs.Writing.{writtenIn, after, Fits, admitOne, CountsFew, servedRest, AskedOf, NextFor};
+ghost use Rattle.search.specs.Gives.{usedIn, giveIn};
+ghost use Rattle.settling.specs.Writing.{writtenIn, after, Fits, admitOne, CountsFew, servedRest, askedFile, seatWants, recordWaiter, AskedOf, NextFor};
 
 pub mod counts;
 
@@ -29,7 +31,20 @@ pub struct Progress {
     pub count: u8,
 }
 
-// A favoured program that is given its file is favoured no longer: the number, or 0 if p was favoured.
+// The numbers of a line of an accepted call.
+pub fn line_of(word: Word, p: u8, f: u8, n: u16) -> [u16; 5]
+    ensures { λ r. ⌜ r ≡ entryOf (lineOf word p f n) ⌝ }
+{
+    entries::entry_of(Line {
+        word,
+        program: p as u16,
+        file: f as u16,
+        refusal: 0,
+        item: n,
+    })
+}
+
+// A favoured program that is given its file, or gets its record, is favoured no longer: the number, or 0 if p was favoured.
 fn unless_favoured(favoured: u8, p: u8, n: u8) -> u8
     ensures { λ r. ⌜ r ≡ cond (eqb favoured p) 0 n ⌝ }
 {
@@ -39,7 +54,7 @@ fn unless_favoured(favoured: u8, p: u8, n: u8) -> u8
     n
 }
 
-// The waiter p is given its file: it runs, out of the waiting line, with a count of 0, and is favoured no longer.
+// The waiter p is given its file, or gets its record: it runs, out of the waiting line, with a count of 0, and is favoured no longer.
 fn served(rest: Rest, p: u8) -> Rest
     requires { ⌜ (1 ≤ p) × (p ≤ 32) ⌝ }
     ensures { λ r. ⌜ r ≡ servedRest rest p ⌝ }
@@ -57,7 +72,18 @@ fn served(rest: Rest, p: u8) -> Rest
     r
 }
 
-// The files that the programs wait for, each in its program's place.
+// The file that the program in a seat waits for; 0 if it waits for none, or for a record.
+fn asked_by(seat: Seat) -> u8
+    ensures { λ r. ⌜ r ≡ askedFile (seat .standing) (seat .item) ⌝ }
+{
+    if seat.item != 0 {
+        return 0;
+    }
+    let s = seat.standing;
+    parts::standings::awaited(s)
+}
+
+// The files that the programs wait for, each in its program's place; "Settling's pass skips those who wait for a record."
 fn fill_asked(rest: Rest, asked: &mut [u8; 32])
     requires { ⌜ length (now asked) ≡ 32 ⌝ }
     ensures { λ _. ⌜ AskedOf rest (now (asked .exit)) ⌝ }
@@ -65,15 +91,25 @@ fn fill_asked(rest: Rest, asked: &mut [u8; 32])
     let mut i: usize = 0;
     while i < 32 {
         let seat = rest.seats[i];
-        let s = seat.standing;
-        asked[i] = parts::standings::awaited(s);
+        asked[i] = asked_by(seat);
         i += 1;
     }
 }
 
+// Whether an open would now give p the file that it asks for; not if it asks for none.
+fn can_serve(sets: &[[u64; WORDS]; 192], uses: Uses, p: u8, f: u8) -> bool
+    requires { ⌜ ((1 ≤ p) × (p ≤ 32)) × IsStore (now sets) ⌝ }
+    ensures { λ r. ⌜ r ≡ not (eqb f 0) && giveIn (now (sets .entry)) uses p f ⌝ }
+{
+    if f == 0 {
+        return false;
+    }
+    search::gives::can_give(sets, uses, p, f)
+}
+
 // The place of the next waiter, from a place of the line on, to which an open would now give its file; 32 if there is none.
 fn next_given(
-    sets: &[[u64; WORDS]; 128],
+    sets: &[[u64; WORDS]; 192],
     asked: &[u8; 32],
     uses: Uses,
     line: [u8; 32],
@@ -89,7 +125,7 @@ fn next_given(
             return 32;
         }
         let i = tables::boards::place_of(p);
-        if search::gives::can_give(sets, uses, p, asked[i]) {
+        if can_serve(sets, uses, p, asked[i]) {
             return k;
         }
         k += 1;
@@ -98,8 +134,8 @@ fn next_given(
 }
 
 // Once through the waiting line, from the oldest: a GIVEN line for each waiter that is given its file.
-fn pass_line(sets: &mut [[u64; WORDS]; 128], lines: &mut [[u8; 4]; 32], w: Progress) -> Progress
-    requires { ⌜ Loose (boardOf (now sets) (w .rest))
+fn pass_line(sets: &mut [[u64; WORDS]; 192], lines: &mut [[u16; 5]; 32], w: Progress) -> Progress
+    requires { ⌜ Loose (boardOf (now sets) (w .rest)) × Counts (boardOf (now sets) (w .rest))
         × Fits (writtenIn (now sets) (now lines) w) (pass (names (w .rest .waiting)) (boardOf (now sets) (w .rest)))
         × IsStore (now sets) × IsEntries (now lines) ⌝ }
     ensures { λ r. ⌜ writtenIn (now (sets .exit)) (now (lines .exit)) r
@@ -119,12 +155,7 @@ fn pass_line(sets: &mut [[u64; WORDS]; 128], lines: &mut [[u8; 4]; 32], w: Progr
         let i = (p - 1) as usize;
         let f = asked[i];
         c = served(c, p);
-        lines[n as usize] = entries::entry_of(Line {
-            word: Word::Given,
-            program: p,
-            file: f,
-            refusal: 0,
-        });
+        lines[n as usize] = line_of(Word::Given, p, f, 0);
         n += 1;
         store::sets::give(sets, p, f);
         uses = search::gives::uses_in(admitted, sets);
@@ -133,8 +164,22 @@ fn pass_line(sets: &mut [[u64; WORDS]; 128], lines: &mut [[u8; 4]; 32], w: Progr
     Progress { rest: c, count: n }
 }
 
-// The oldest waiter whose file is in no conflicting use, or 0.
-fn oldest_unused(sets: &[[u64; WORDS]; 128], rest: Rest) -> u8
+// Whether the program p, which waits in this seat, waits for a file, in no conflicting use, and not for a record.
+fn is_unused(sets: &[[u64; WORDS]; 192], uses: Uses, p: u8, seat: Seat) -> bool
+    requires { ⌜ ((1 ≤ p) × (p ≤ 32)) × IsStore (now sets) ⌝ }
+    ensures { λ r. ⌜ r ≡ eqb (seat .item) 0 && not (usedIn (now (sets .entry)) uses p (awaitedOf (seat .standing))) ⌝ }
+{
+    let item = seat.item;
+    if item != 0 {
+        return false;
+    }
+    let s = seat.standing;
+    let f = parts::standings::awaited(s);
+    !search::gives::in_use(sets, uses, p, f)
+}
+
+// The oldest waiter whose file is in no conflicting use, or 0: waits for a record "are never favoured for want of an order".
+fn oldest_unused(sets: &[[u64; WORDS]; 192], rest: Rest) -> u8
     requires { ⌜ Loose (boardOf (now sets) rest) × IsStore (now sets) ⌝ }
     ensures { λ r. ⌜ r ≡ Option·getD (candidate (boardOf (now (sets .entry)) rest)) 0 ⌝ }
 {
@@ -152,9 +197,7 @@ fn oldest_unused(sets: &[[u64; WORDS]; 128], rest: Rest) -> u8
         }
         let i = tables::boards::place_of(p);
         let seat = rest.seats[i];
-        let s = seat.standing;
-        let f = parts::standings::awaited(s);
-        if !search::gives::in_use(sets, uses, p, f) {
+        if is_unused(sets, uses, p, seat) {
             return p;
         }
         k += 1;
@@ -162,10 +205,10 @@ fn oldest_unused(sets: &[[u64; WORDS]; 128], rest: Rest) -> u8
     0
 }
 
-// The waiter p becomes favoured, with the number admitted and a leave count of 0: a FAVOUR line.
+// The waiter p becomes favoured, with the number admitted and a leave count of 0: a FAVOUR line, with the record if it awaits one.
 pub fn favour_waiter(
-    sets: &[[u64; WORDS]; 128],
-    lines: &mut [[u8; 4]; 32],
+    sets: &[[u64; WORDS]; 192],
+    lines: &mut [[u16; 5]; 32],
     w: Progress,
     p: u8,
 ) -> Progress
@@ -175,27 +218,90 @@ pub fn favour_waiter(
     ensures { λ _. ⌜ IsEntries (now (lines .exit)) ⌝ }
 {
     let mut c = w.rest;
-    let s = store::standing_at(c, p);
+    let seat = store::seat_at(c, p);
+    let s = seat.standing;
+    let n = seat.item;
     let f = parts::standings::awaited(s);
     let admitted = tables::boards::admitted_seats(c);
     c.favoured = p;
     c.initial = admitted.count();
     c.leaves = 0;
-    let n = w.count;
-    lines[n as usize] = entries::entry_of(Line {
-        word: Word::Favour,
-        program: p,
-        file: f,
-        refusal: 0,
-    });
+    let k = w.count;
+    lines[k as usize] = line_of(Word::Favour, p, f, n);
     Progress {
         rest: c,
-        count: n + 1,
+        count: k + 1,
+    }
+}
+
+// Whether the program in a seat waits for the record n of f.
+fn waits_for(seat: Seat, f: u8, n: u16) -> bool
+    ensures { λ r. ⌜ r ≡ seatWants seat f n ⌝ }
+{
+    let s = seat.standing;
+    if !parts::standings::is_waiting(s) {
+        return false;
+    }
+    if seat.item == 0 {
+        return false;
+    }
+    if seat.file != f {
+        return false;
+    }
+    seat.item == n
+}
+
+// The oldest waiter for the record n of f, or 0.
+fn oldest_for(sets: &[[u64; WORDS]; 192], rest: Rest, f: u8, n: u16) -> u8
+    requires { ⌜ all isProgram (names (rest .waiting)) ≡ true ⌝ }
+    ensures { λ r. ⌜ r ≡ Option·getD (recordWaiter (boardOf (now (sets .entry)) rest) f n) 0 ⌝ }
+{
+    let line = rest.waiting;
+    let mut k: usize = 0;
+    while k < 32 {
+        let w = line[k];
+        if w == 0 {
+            return 0;
+        }
+        let i = tables::boards::place_of(w);
+        let seat = rest.seats[i];
+        if waits_for(seat, f, n) {
+            return w;
+        }
+        k += 1;
+    }
+    0
+}
+
+// "the oldest waiter for the record gets it (GIVEN)": the record n of f, which nobody has in use any more, is handed on.
+pub fn hand_on(
+    sets: &[[u64; WORDS]; 192],
+    lines: &mut [[u16; 5]; 32],
+    w: Progress,
+    f: u8,
+    n: u16,
+) -> Progress
+    requires { ⌜ Loose (boardOf (now sets) (w .rest)) × (w .count < 32) × IsStore (now sets) × IsEntries (now lines) ⌝ }
+    ensures { λ r. ⌜ writtenIn (now (sets .entry)) (now (lines .exit)) r
+        ≡ after (writtenIn (now (sets .entry)) (now (lines .entry)) w) (handOn (boardOf (now (sets .entry)) (w .rest)) f n) ⌝ }
+    ensures { λ _. ⌜ IsEntries (now (lines .exit)) ⌝ }
+{
+    let b = w.rest;
+    let p = oldest_for(sets, b, f, n);
+    if p == 0 {
+        return w;
+    }
+    let c = served(b, p);
+    let k = w.count;
+    lines[k as usize] = line_of(Word::Given, p, f, n);
+    Progress {
+        rest: c,
+        count: k + 1,
     }
 }
 
 // The held program p runs, out of the entry line, and the waiters' counts go up: an ADMIT line.
-fn admit_one(sets: &[[u64; WORDS]; 128], lines: &mut [[u8; 4]; 32], w: Progress, p: u8) -> Progress
+fn admit_one(sets: &[[u64; WORDS]; 192], lines: &mut [[u16; 5]; 32], w: Progress, p: u8) -> Progress
     requires { ⌜ ((1 ≤ p) × (p ≤ 32)) × (w .count < 32) × CountsFew (w .rest .passed) × IsStore (now sets) × IsEntries (now lines) ⌝ }
     ensures { λ r. ⌜ writtenIn (now (sets .entry)) (now (lines .exit)) r
         ≡ after (writtenIn (now (sets .entry)) (now (lines .entry)) w) (admitOne (boardOf (now (sets .entry)) (w .rest)) p) ⌝ }
@@ -209,12 +315,7 @@ fn admit_one(sets: &[[u64; WORDS]; 128], lines: &mut [[u8; 4]; 32], w: Progress,
     let passed = counts::tally(sets, c);
     c.passed = passed;
     let n = w.count;
-    lines[n as usize] = entries::entry_of(Line {
-        word: Word::Admit,
-        program: p,
-        file: 0,
-        refusal: 0,
-    });
+    lines[n as usize] = line_of(Word::Admit, p, 0, 0);
     Progress {
         rest: c,
         count: n + 1,
@@ -230,7 +331,7 @@ fn first_held(rest: Rest) -> u8
 }
 
 // The held programs run, one after another from the oldest, until a waiter's count is 8: that one is then favoured.
-fn admit_held(sets: &[[u64; WORDS]; 128], lines: &mut [[u8; 4]; 32], w: Progress) -> Progress
+fn admit_held(sets: &[[u64; WORDS]; 192], lines: &mut [[u16; 5]; 32], w: Progress) -> Progress
     requires { ⌜ Loose (boardOf (now sets) (w .rest)) × Counts (boardOf (now sets) (w .rest)) × (w .rest .favoured ≡ 0)
         × Fits (writtenIn (now sets) (now lines) w) (runHeld (names (w .rest .entry)) (boardOf (now sets) (w .rest)))
         × IsStore (now sets) × IsEntries (now lines) ⌝ }
@@ -252,7 +353,7 @@ fn admit_held(sets: &[[u64; WORDS]; 128], lines: &mut [[u8; 4]; 32], w: Progress
 }
 
 // If nobody is favoured, the oldest waiter whose file is not in use is; if there is none, the held programs run.
-fn choose_next(sets: &[[u64; WORDS]; 128], lines: &mut [[u8; 4]; 32], w: Progress) -> Progress
+fn choose_next(sets: &[[u64; WORDS]; 192], lines: &mut [[u16; 5]; 32], w: Progress) -> Progress
     requires { ⌜ Loose (boardOf (now sets) (w .rest)) × Counts (boardOf (now sets) (w .rest))
         × Fits (writtenIn (now sets) (now lines) w) (choose (boardOf (now sets) (w .rest))) × IsStore (now sets) × IsEntries (now lines) ⌝ }
     ensures { λ r. ⌜ writtenIn (now (sets .entry)) (now (lines .exit)) r
@@ -272,7 +373,7 @@ fn choose_next(sets: &[[u64; WORDS]; 128], lines: &mut [[u8; 4]; 32], w: Progres
 }
 
 // Settle, where somebody waits or is held.
-fn settle_lines(sets: &mut [[u64; WORDS]; 128], lines: &mut [[u8; 4]; 32], w: Progress) -> Progress
+fn settle_lines(sets: &mut [[u64; WORDS]; 192], lines: &mut [[u16; 5]; 32], w: Progress) -> Progress
     requires { ⌜ Loose (boardOf (now sets) (w .rest)) × Counts (boardOf (now sets) (w .rest))
         × Fits (writtenIn (now sets) (now lines) w) (settle (boardOf (now sets) (w .rest))) × IsStore (now sets) × IsEntries (now lines) ⌝ }
     ensures { λ r. ⌜ writtenIn (now (sets .exit)) (now (lines .exit)) r
@@ -284,7 +385,7 @@ fn settle_lines(sets: &mut [[u64; WORDS]; 128], lines: &mut [[u8; 4]; 32], w: Pr
 }
 
 // Settle: through the waiting line once from the oldest, then favour or run those held.
-pub fn settled(sets: &mut [[u64; WORDS]; 128], lines: &mut [[u8; 4]; 32], w: Progress) -> Progress
+pub fn settled(sets: &mut [[u64; WORDS]; 192], lines: &mut [[u16; 5]; 32], w: Progress) -> Progress
     requires { ⌜ Loose (boardOf (now sets) (w .rest)) × Counts (boardOf (now sets) (w .rest))
         × Fits (writtenIn (now sets) (now lines) w) (settle (boardOf (now sets) (w .rest))) × IsStore (now sets) × IsEntries (now lines) ⌝ }
     ensures { λ r. ⌜ writtenIn (now (sets .exit)) (now (lines .exit)) r

@@ -62,7 +62,7 @@ admit-one-requires c κs =
     let p = v .1 in let x = r .0 in let y = r .1 in (
       (omega arith, omega arith),
       one-fits _ (at l) (v .0) (λ e. t .loop-test .taken (v .1 ∙ e)) n,
-      v .0 .counts .most,
+      v .0 .counts .counted .most,
       start l .pre .4,
       v .2,
     )

@@ -19,8 +19,8 @@ tally-requires c κs = subst (λ (r : Rest). CountsFew (r .passed)) (sym (c .sea
 returns : tie.Need-returns
 returns c = let t = c .before in let y = t .before in let r = y .before in let s = r .before .before .before in let a = s .args in (
   admit-done (a .sets .now) (a .lines .now) (a .w .rest) (a .w .count) (a .p) _ _ _ _ (s .pre .3) (seats-length s) (s .pre .0 .0) (s .pre .0 .1)
-      (c .entry-of .ensures) (y .seated .ensures) (r .remove .ensures) (t .tally .ensures),
-  one-entry (a .lines .now) (a .w .count) (line Word.Admit (a .p) 0) _ (c .entry-of .ensures) (s .pre .4),
+      (c .line-of .ensures) (y .seated .ensures) (r .remove .ensures) (t .tally .ensures),
+  one-entry (a .lines .now) (a .w .count) (line Word.Admit (a .p) 0) _ (c .line-of .ensures) (s .pre .4),
 )
 
 pub admit-one-spec : {M : Type 1} → statement M

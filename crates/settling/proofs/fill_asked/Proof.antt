@@ -22,8 +22,8 @@ loop-holds c = (search needs, search needs, λ j m. absurd (omega arith))
 loop-again : tie.Need-loop-again Inv-loop μ-loop
 loop-again c = let l = c .before .before .before .loop in let b = c .before .before .before .before .args .t1 in (
   search needs,
-  length-set (l .asked) (l .i) (c .awaited .result) ∙ l .inv .1,
-  asked-more b (l .i) (l .asked) (c .awaited .result) (omega arith) (l .inv .1) (l .inv .2) (c .awaited .ensures),
+  length-set (l .asked) (l .i) (c .asked-by .result) ∙ l .inv .1,
+  asked-more b (l .i) (l .asked) (c .asked-by .result) (omega arith) (l .inv .1) (l .inv .2) (c .asked-by .ensures),
 )
 
 returns : tie.Need-returns Inv-loop μ-loop

@@ -1,10 +1,11 @@
 -- `next_given` meets its contract. Assumes nothing.
 use mathlib.Core.Path.{_≡_, refl, sym, ap, _∙_}
-use mathlib.Core.Bool.{true}
+use mathlib.Core.Bool.{true, not, _&&_}
 use Prim.Native.Nat.{ℕ, _-_, _≤_}
 use native.Mathlib.Numerals.{add-one}
 use native.Mathlib.Omega.{arith}
 use lib.ListN.{length, getD, drop}
+use lib.Dec.{eqb}
 use Rattle.laws.specs.Lists.{all, names}
 use Rattle.rules.specs.Boards.{isProgram}
 use Rattle.search.specs.Gives.{giveIn}
@@ -45,21 +46,21 @@ range i = let l = i .before .before .loop in let m = l .inv .3 in
 place-of-requires : tie.Need-place-of-requires Inv-loop μ-loop
 place-of-requires c κs = range c
 
-can-give-requires : tie.Need-can-give-requires Inv-loop μ-loop
-can-give-requires c κs = let e = c .before .before in (range e, e .before .before .before .pre .2)
+can-serve-requires : tie.Need-can-serve-requires Inv-loop μ-loop
+can-serve-requires c κs = let e = c .before .before in (range e, e .before .before .before .pre .2)
 
 -- the waiter is known
-abbrev known : tie.After-can-give Inv-loop μ-loop → tie.Else1 Inv-loop μ-loop
+abbrev known : tie.After-can-serve Inv-loop μ-loop → tie.Else1 Inv-loop μ-loop
 known g = g .before .before .before
 
-abbrev start : tie.After-can-give Inv-loop μ-loop → tie.Start Inv-loop μ-loop
+abbrev start : tie.After-can-serve Inv-loop μ-loop → tie.Start Inv-loop μ-loop
 start g = known g .before .before .before
 
 -- whether it is given the file that it waits for
-asks : (x : tie.After-can-give Inv-loop μ-loop) → let g = start x .args in let p = getD (g .t4) (known x .before .before .loop .k) 0 in
-    x .can-give .result ≡ giveIn (g .sets .now) (g .uses) p (getD (g .asked .now) (p - 1) 0)
+asks : (x : tie.After-can-serve Inv-loop μ-loop) → let g = start x .args in let p = getD (g .t4) (known x .before .before .loop .k) 0 in
+    x .can-serve .result ≡ not (eqb (getD (g .asked .now) (p - 1) 0) 0) && giveIn (g .sets .now) (g .uses) p (getD (g .asked .now) (p - 1) 0)
 asks x = let g = start x .args in let p = getD (g .t4) (known x .before .before .loop .k) 0 in
-    x .can-give .ensures ∙ ap (λ (i : ℕ). giveIn (g .sets .now) (g .uses) p (getD (g .asked .now) i 0)) (x .before .before .place-of .ensures .0)
+    x .can-serve .ensures ∙ ap (λ (i : ℕ). let f = getD (g .asked .now) i 0 in not (eqb f 0) && giveIn (g .sets .now) (g .uses) p f) (x .before .before .place-of .ensures .0)
 
 returns-2 : tie.Need-returns-2 Inv-loop μ-loop
 returns-2 c =
@@ -68,7 +69,7 @@ returns-2 c =
       l .inv .0,
       λ b s u r a.
           let (r′, a′, e) = l .inv .4 b s u r a in
-          let t = waiter-can b (g .t4) (l .k) (omega arith) (i .if1 .left) r′ (g .sets .now) (g .asked .now) (g .uses) (x .can-give .result)
+          let t = waiter-can b (g .t4) (l .k) (omega arith) (i .if1 .left) r′ (g .sets .now) (g .asked .now) (g .uses) (x .can-serve .result)
           s u a′ (asks x) in (
             record {
               onward = l .inv .1;
@@ -90,7 +91,7 @@ loop-again c =
       m,
       λ b s u r a.
           let (r′, a′, e) = l .inv .4 b s u r a in
-          let t = waiter-can b (g .t4) (l .k) (omega arith) (i .if1 .left) r′ (g .sets .now) (g .asked .now) (g .uses) (x .can-give .result)
+          let t = waiter-can b (g .t4) (l .k) (omega arith) (i .if1 .left) r′ (g .sets .now) (g .asked .now) (g .uses) (x .can-serve .result)
           s u a′ (asks x) in
           let (y, d) = waiter-over b (g .t4) (l .k) (omega arith) (i .if1 .left) r′ (sym t ∙ c .if2 .left) in
           (y, asks-left b (g .t4) (l .k) (omega arith) (i .if1 .left) r′ (g .asked .now) a′, e ∙ d),
@@ -118,7 +119,7 @@ next-given-spec =
     returns
     place-of-requires
     (λ c. search needs)
-    can-give-requires
+    can-serve-requires
     returns-2
     (λ c. search needs)
     (λ c. search needs)

@@ -5,17 +5,13 @@ use Prim.Native.Nat.{ℕ, _-_, _≤_}
 use native.Mathlib.Numerals.{add-one}
 use native.Mathlib.Omega.{arith}
 use lib.ListN.{length, getD, drop}
-use borrow.Author.Tests.{not-true, not-false}
 use Rattle.laws.specs.Lists.{first, names}
-use Rattle.rules.specs.declared.Program.{Program}
 use Rattle.rules.specs.declared.Board.{Board}
-use Rattle.rules.specs.Boards.{awaited, awaitedOf}
-use Rattle.rules.specs.Orders.{inUse}
 use Rattle.rules.specs.Settling.{candidate}
 use Rattle.lines.proofs.Laws.{names-stop, names-end}
 use Rattle.settling.specs.Writing.{Ready, unused}
-use Rattle.settling.proofs.Laws.{waiter-range, waiter-used, ready-all, ready-left, first-names-on, first-none-left}
-use Rattle.store.specs.Store.{noSeat, boardOf}
+use Rattle.settling.proofs.Laws.{waiter-range, waiter-unused, ready-all, ready-left, first-names-on, first-none-left}
+use Rattle.store.specs.Store.{noSeat, seatOf, boardOf}
 use Rattle.store.proofs.Boards.{board-at, board-sets}
 use Rattle.tables.specs.declared.ProgramSet.{ProgramSet}
 use Rattle.tables.proofs.Given.{seats-admitted}
@@ -51,8 +47,8 @@ abbrev turn : tie.Else2 Inv-loop μ-loop → tie.At-loop Inv-loop μ-loop
 turn i = i .before .before
 
 -- and the file that it waits for is known
-abbrev reached : tie.After-in-use Inv-loop μ-loop → tie.Else2 Inv-loop μ-loop
-reached w = w .before .before .before .before
+abbrev reached : tie.After-is-unused Inv-loop μ-loop → tie.Else2 Inv-loop μ-loop
+reached w = w .before .before .before
 
 loop-holds : tie.Need-loop-holds Inv-loop μ-loop
 unfolding candidate boardOf
@@ -71,24 +67,24 @@ range i = let s = turn i in let l = s .loop in let a = start (s .before) in let 
 place-of-requires : tie.Need-place-of-requires Inv-loop μ-loop
 place-of-requires c κs = range c
 
-in-use-requires : tie.Need-in-use-requires Inv-loop μ-loop
-in-use-requires c κs = let i = c .before .before .before in (range i, start (turn i .before) .pre .1)
+is-unused-requires : tie.Need-is-unused-requires Inv-loop μ-loop
+is-unused-requires c κs = let i = c .before .before in (range i, start (turn i .before) .pre .1)
 
--- whether its file is in conflicting use
-used : (w : tie.After-in-use Inv-loop μ-loop) → let s = turn (reached w) in let a = start (s .before) in
-    let p = getD (a .args .t2 .waiting) (s .loop .k) 0 in w .in-use .result ≡ inUse (board a) p (awaited (board a) p)
-used w = let i = reached w in let s = turn i in let u = s .before in let l = s .loop in let a = start u in let r = a .args .t2 in
-    let sets = a .args .sets .now in let x = w .before in let q = x .before .before in let m = l .inv .3 in let g = range i in
-    waiter-used (board a) (r .waiting) (l .k) (omega arith) (i .if2 .left) (l .inv .1) sets
-    (u .uses-in .result) (x .awaited .result) (w .in-use .result) (board-sets sets r (a .pre .1))
+-- whether it waits for a file, in no conflicting use
+free : (w : tie.After-is-unused Inv-loop μ-loop) → let s = turn (reached w) in let a = start (s .before) in
+    w .is-unused .result ≡ unused (board a) (getD (a .args .t2 .waiting) (s .loop .k) 0)
+free w = let i = reached w in let s = turn i in let u = s .before in let l = s .loop in let a = start u in let r = a .args .t2 in
+    let sets = a .args .sets .now in let q = w .before .before in let m = l .inv .3 in let g = range i in
+    waiter-unused (board a) (r .waiting) (l .k) (omega arith) (i .if2 .left) (l .inv .1) sets
+    (u .uses-in .result) _ (w .is-unused .result) (board-sets sets r (a .pre .1))
     (u .uses-in .ensures ∙ ap (λ (y : ProgramSet). usesIn y sets) (u .before .admitted-seats .ensures ∙ seats-admitted sets r))
-    (x .awaited .ensures ∙ ap (λ (j : ℕ). awaitedOf (getD (r .seats) j noSeat .standing)) (q .place-of .ensures .0)
-    ∙ sym (ap (λ (y : Program). awaitedOf (y .standing)) (board-at sets r (getD (r .waiting) (l .k) 0) (g .0) (g .1)))) (w .in-use .ensures)
+    (ap seatOf (board-at sets r (getD (r .waiting) (l .k) 0) (g .0) (g .1))
+    ∙ ap (λ (j : ℕ). getD (r .seats) j noSeat) (sym (q .place-of .ensures .0))) (w .is-unused .ensures)
 
 returns-3 : tie.Need-returns-3 Inv-loop μ-loop
 returns-3 c =
     let w = c .before in let i = reached w in let s = turn i in let l = s .loop in let a = start (s .before) in let r = a .args .t2 in let m = l .inv .3 in
-    sym (rw (sym (used w) ∙ not-true (w .in-use .result) (c .if3 .taken)) at (ap (λ (x : Option ℕ). Option·getD x 0) (l .inv .2
+    sym (rw (sym (free w) ∙ c .if3 .taken) at (ap (λ (x : Option ℕ). Option·getD x 0) (l .inv .2
     ∙ first-names-on (unused (board a)) (r .waiting) (l .k) (omega arith) (i .if2 .left))))
 
 loop-again : tie.Need-loop-again Inv-loop μ-loop
@@ -96,7 +92,7 @@ loop-again c =
     let w = c .before in let i = reached w in let s = turn i in let l = s .loop in let a = start (s .before) in let r = a .args .t2 in let m = l .inv .3 in (
       search needs,
       ready-left (board a) (r .waiting) (l .k) (omega arith) (i .if2 .left) (l .inv .1),
-      rw (add-one (l .k)) (rw (sym (used w) ∙ not-false (w .in-use .result) (c .if3 .left)) at (l .inv .2
+      rw (add-one (l .k)) (rw (sym (free w) ∙ c .if3 .left) at (l .inv .2
           ∙ first-names-on (unused (board a)) (r .waiting) (l .k) (omega arith) (i .if2 .left))),
       m,
     )
@@ -122,8 +118,7 @@ oldest-unused-spec =
     place-of-requires
     (λ c. search needs)
     (λ c. search needs)
-    (λ c κs. search needs)
-    in-use-requires
+    is-unused-requires
     returns-3
     (λ c. search needs)
     (λ c. search needs)

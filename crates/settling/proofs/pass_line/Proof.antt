@@ -5,7 +5,6 @@ use Prim.Native.Nat.{ℕ, _+_, _-_, _≤_, _<_}
 use native.Mathlib.Omega.{arith}
 use lib.ListN.{length, getD, set, length-map, length-set}
 use Rattle.laws.specs.Lists.{names}
-use Rattle.rules.specs.declared.Standing.{Standing}
 use Rattle.rules.specs.declared.Word.{Word}
 use Rattle.rules.specs.declared.Board.{Board}
 use Rattle.rules.specs.declared.Line.{Line}
@@ -71,7 +70,7 @@ uses-are s = s .before .before .before .uses-in .ensures
 next-given-requires : tie.Need-next-given-requires Inv-loop μ-loop
 unfolding boardOf
 next-given-requires c κs = let a = c .before .before .before .before .before .before .before .before .before in let w = a .args .w in
-    (search needs, ready-programs (boardOf (a .args .sets .now) (w .rest)) _ (ready-all (boardOf (a .args .sets .now) (w .rest)) (a .pre .0)), a .pre .2)
+    (search needs, ready-programs (boardOf (a .args .sets .now) (w .rest)) _ (ready-all (boardOf (a .args .sets .now) (w .rest)) (a .pre .0)), a .pre .3)
 
 loop-holds : tie.Need-loop-holds Inv-loop μ-loop
 unfolding boardOf
@@ -79,11 +78,11 @@ loop-holds c = let a = start c in let w = a .args .w in let b = boardOf (a .args
     let u = usesIn (admits c .admitted-seats .result) (a .args .sets .now) in (
       line-length a,
       seats-length a,
-      a .pre .2,
       a .pre .3,
+      a .pre .4,
       next-found _ _ _ _ _ u 0 _ (record {
-        passed = pass-start (state (a .args .sets .now) (a .args .lines .now) (w .rest) (w .count)) (a .pre .0) (a .pre .1);
-        sets-are = board-sets (a .args .sets .now) (w .rest) (a .pre .2);
+        passed = pass-start (state (a .args .sets .now) (a .args .lines .now) (w .rest) (w .count)) (a .pre .0) (a .pre .1) (a .pre .2);
+        sets-are = board-sets (a .args .sets .now) (w .rest) (a .pre .3);
         uses-are = ap (λ (x : ProgramSet). usesIn x (a .args .sets .now))
             (admits c .admitted-seats .ensures ∙ seats-admitted (a .args .sets .now) (w .rest));
         asks = asks-all (a .args .sets .now) (w .rest) (asked c .fill-asked .last .1 .0) (a .pre .0) (asked c .fill-asked .ensures);
@@ -94,15 +93,15 @@ loop-holds c = let a = start c in let w = a .args .w in let b = boardOf (a .args
 -- ---- stations of a turn
 
 -- the waiter is served
-abbrev ran : tie.After-entry-of Inv-loop μ-loop → tie.After-served Inv-loop μ-loop
+abbrev ran : tie.After-line-of Inv-loop μ-loop → tie.After-served Inv-loop μ-loop
 ran c = c .before
 
 -- the turn begins
-abbrev turn : tie.After-entry-of Inv-loop μ-loop → tie.In-loop Inv-loop μ-loop
+abbrev turn : tie.After-line-of Inv-loop μ-loop → tie.In-loop Inv-loop μ-loop
 turn c = ran c .before
 
 -- its line is written
-abbrev told : tie.After-give Inv-loop μ-loop → tie.After-entry-of Inv-loop μ-loop
+abbrev told : tie.After-give Inv-loop μ-loop → tie.After-line-of Inv-loop μ-loop
 told g = g .before .before
 
 -- the file is given
@@ -126,10 +125,10 @@ array-read-f c = let r = range c in omega (arith, r .0, r .1)
 served-requires : tie.Need-served-requires Inv-loop μ-loop
 served-requires c κs = let r = range c in (r .0, r .1)
 
-cast-lines : tie.Need-cast-t29 Inv-loop μ-loop
+cast-lines : tie.Need-cast-t28 Inv-loop μ-loop
 cast-lines c = let n = range (turn c) .2 in omega arith
 
-mul-lines : tie.Need-mul-t30 Inv-loop μ-loop
+mul-lines : tie.Need-mul-t29 Inv-loop μ-loop
 mul-lines c = let n = range (turn c) .2 in omega arith
 
 element-set-from-lines : tie.Need-element-set-from-lines Inv-loop μ-loop
@@ -178,21 +177,21 @@ module _ (u : tie.After-uses-in2 Inv-loop μ-loop) where
       subst IsStore (sym sets-then) (given-store (at .loop .sets) waiter file (r .0) (r .1) (at .loop .inv .2))
 
   -- the board with its lines, once the waiter is served
-  next-state : state (gave u .give .last .0) (set (at .loop .lines) (at .loop .n) (told (gave u) .entry-of .result)) (ran (told (gave u)) .served .result)
+  next-state : state (gave u .give .last .0) (set (at .loop .lines) (at .loop .n) (told (gave u) .line-of .result)) (ran (told (gave u)) .served .result)
       (at .loop .n + 1) ≡ stateOf (givenTo (boardOf (at .loop .sets) (at .loop .c)) waiter file)
       (set (linesIn (at .loop .lines)) (at .loop .n) (line Word.Given waiter file)) (at .loop .n + 1)
   next-state = let r = range here in let l = at .loop in
       same-written _ _ _ _ (l .n + 1)
       (ap₂ boardOf sets-then (ran (told (gave u)) .served .ensures)
       ∙ served-is (l .sets) (l .c) waiter file (l .inv .2) (l .inv .1) (record { least = r .0; most = r .1 }))
-      (one-line (l .lines) (l .n) (line Word.Given waiter file) _ (told (gave u) .entry-of .ensures))
+      (one-line (l .lines) (l .n) (line Word.Given waiter file) _ (told (gave u) .line-of .ensures))
 
   -- what was written at first, and before the next are asked
   abbrev was : Written
   was = state (first .args .sets .now) (first .args .lines .now) (first .args .w .rest) (first .args .w .count)
 
   abbrev is : Written
-  is = state (gave u .give .last .0) (set (at .loop .lines) (at .loop .n) (told (gave u) .entry-of .result)) (ran (told (gave u)) .served .result)
+  is = state (gave u .give .last .0) (set (at .loop .lines) (at .loop .n) (told (gave u) .line-of .result)) (ran (told (gave u)) .served .result)
       (at .loop .n + 1)
 
   -- the next ones are still to be asked
@@ -212,9 +211,9 @@ loop-again : tie.Need-loop-again Inv-loop μ-loop
 loop-again c = let u = c .before .before .before in let l = at u .loop in (
   l .inv .0,
   ap (λ (x : Rest). length (x .seats)) (ran (told (gave u)) .served .ensures)
-      ∙ length-set (l .c .seats) (waiter u - 1) (record { standing = Standing.Running }) ∙ l .inv .1,
+      ∙ length-set (l .c .seats) (waiter u - 1) _ ∙ l .inv .1,
   store-then u,
-  one-entry (l .lines) (l .n) (line Word.Given (waiter u) (file u)) _ (told (gave u) .entry-of .ensures) (l .inv .3),
+  one-entry (l .lines) (l .n) (line Word.Given (waiter u) (file u)) _ (told (gave u) .line-of .ensures) (l .inv .3),
   next-found _ _ _ _ _ _ (l .j + 1) _ (next-at u)
       (subst (λ (x : Uses). NextFor (gave u .give .last .0) (files u) x (first u .args .w .rest .waiting) (l .j + 1) (c .next-given2 .result))
       (uses-then u) (c .next-given2 .ensures .2)),

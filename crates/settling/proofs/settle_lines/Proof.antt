@@ -25,11 +25,11 @@ passed-is p = p .pass-line .ensures .0
 
 pass-line-requires : tie.Need-pass-line-requires
 unfolding boardOf
-pass-line-requires c κs = let s = c .before .before in (s .pre .0, settle-fits-pass (first s) (s .pre .2), s .pre .3, s .pre .4)
+pass-line-requires c κs = let s = c .before .before in (s .pre .0, s .pre .1, settle-fits-pass (first s) (s .pre .2), s .pre .3, s .pre .4)
 
 choose-next-requires : tie.Need-choose-next-requires
 choose-next-requires c κs = let p = c .before .before in let s = start p in (
-  settle-loose (first s) (passed p) (passed-is p) (s .pre .0),
+  settle-loose (first s) (passed p) (passed-is p) (s .pre .0) (s .pre .1),
   settle-counts (first s) (passed p) (passed-is p) (s .pre .0) (s .pre .1),
   settle-fits-choose (first s) (passed p) (passed-is p) (s .pre .2),
   p .pass-line .ensures .1 .0,
