@@ -6,7 +6,7 @@ use mathlib.Core.List.{List, [], _∷_}
 use mathlib.Core.Option.{none, some}
 use Prim.Native.Nat.{ℕ, suc, _+_, _-_, _≤_, _<_}
 use native.Mathlib.Omega.{arith}
-use lib.Dec.{leb}
+use lib.Dec.{eqb, leb}
 use lib.ListN.{length, set, replicate, length-replicate}
 use lib.Seq.{sets, sets-eq}
 use borrow.Author.Tests.{le-leb, lt-leb, eq-eqb, ne-eqb}
@@ -24,37 +24,39 @@ use Rattle.rules.specs.declared.Line.{Line}
 use Rattle.rules.specs.declared.Reply.{Reply}
 use Rattle.rules.specs.declared.Verb.{Verb}
 use Rattle.rules.specs.declared.Asked.{Asked}
-use Rattle.laws.specs.Lists.{found, padded, names}
-use Rattle.rules.specs.Modes.{Write}
-use Rattle.rules.specs.Boards.{noProgram, isProgram, isAdmitted, at, claims, hasOpen, setProgram, setWaiting, setEntry, setPassed, uncount, closing, dropping}
-use Rattle.rules.specs.Orders.{carried, withGiven, inUse, safe}
+use Rattle.laws.specs.Lists.{found, padded, names, any, rising}
+use Rattle.rules.specs.Modes.{Write, Inquiry}
+use Rattle.rules.specs.Boards.{everyone, isProgram, isWaiting, isHeld, isAdmitted, at, claims, hasOpen, uses, setProgram, setItem, setWaiting, setEntry, setPassed, uncount, closing, dropping}
+use Rattle.rules.specs.Orders.{carried, withGiven, inUse, safe, taken}
 use Rattle.rules.specs.Soundness.{sound}
-use Rattle.rules.specs.Settling.{Step, line, overdue, favour, settle}
+use Rattle.rules.specs.Settling.{Step, line, lineOf, overdue, favour, settle}
 use Rattle.rules.specs.Replies.{blank, refused, reply, refuse}
-use Rattle.rules.specs.Checks.{refuseIf, unlessRunning, unlessStopped, enterCheck, openCheck, closeCheck, leaveCheck, cancelCheck}
-use Rattle.rules.specs.Calls.{admit, hold, holdFor, enter, wait, openFile, done, countLeave, countCancel, withdrawn}
-use Rattle.rules.specs.Calls.{Call, Open, Close, Drop, callOf, callWith, checked, accepted, unless, apply}
+use Rattle.rules.specs.Checks.{refuseIf, isRecord, unlessRunning, unlessStopped, enterCheck, openCheck, closeCheck, leaveCheck, cancelCheck, fetchCheck, returnCheck}
+use Rattle.rules.specs.Calls.{admit, hold, holdFor, enter, wait, waitItem, openFile, fetch, finish, done, countLeave, countCancel, withdrawn}
+use Rattle.rules.specs.Calls.{Call, Open, Close, Drop, Fetch, callOf, callWith, checked, accepted, unless, apply}
 use Rattle.theory.specs.Modes.{same-mode}
 use Rattle.theory.specs.Loose.{Loose, Counts, Good}
 use Rattle.theory.specs.Sound.{sound-iff, sound-good, good-sound}
-use Rattle.theory.specs.Calls.{apply-accepted, apply-refused, failed-passed, open-may}
+use Rattle.theory.specs.Calls.{apply-accepted, apply-refused, failed-passed, open-may, fetch-may, crowd}
 use Rattle.theory.specs.Worked.{accepted-answer}
-use Rattle.theory.specs.Ready.{Ready, entry-room, waiting-room, close-ready, drop-ready, leave-ready, cancel-ready, leaves-room}
+use Rattle.theory.specs.Ready.{Ready, entry-room, waiting-room, close-ready, drop-ready, cancel-ready, leaves-room}
 use Rattle.parts.specs.Entries.{Entries, IsEntries, noEntries, linesIn, entryOf}
 use Rattle.parts.proofs.Lined.{lines-set, entries-set, fresh-entries, no-lines-padded}
+use Rattle.store.specs.declared.Seat.{Seat}
 use Rattle.store.specs.declared.Rest.{Rest}
-use Rattle.store.specs.Sets.{Sets, IsStore, claimsAt, opensAt}
-use Rattle.store.specs.Store.{standingAt, withWaiting, withFavour, withPassed, boardOf}
+use Rattle.store.specs.Sets.{Sets, IsStore, openAt, claimsAt, opensAt}
+use Rattle.store.specs.Store.{seatAt, seatOf, withWaiting, withFavour, withPassed, boardOf}
 use Rattle.store.proofs.Laws.{open-is, claims-is}
 use Rattle.store.proofs.Boards.{board-size, board-sets}
-use Rattle.store.proofs.Changing.{standing-is}
+use Rattle.store.proofs.Changing.{seat-is}
+use Rattle.tables.proofs.Laws.{rising-step, rising-end}
 use Rattle.search.specs.declared.Search.{Search}
 use Rattle.search.specs.declared.Order.{Order}
 use Rattle.search.specs.Rows.{asOrder}
 use Rattle.search.proofs.Laws.{drop-replicate}
 use Rattle.search.proofs.Ordered.{order-none, order-found}
 use Rattle.settling.specs.Writing.{Written, after, Fits}
-use Rattle.apply.specs.Replies.{wrote, replied, numberIf, fileFirst, entryCheck, claimCheckAt, useCheckAt, nearCheck}
+use Rattle.apply.specs.Replies.{wrote, replied, numberIf, fileFirst, recordFirst, entryCheck, claimCheckAt, useCheckAt, inquiryCheckAt, returnedCheck, unlessBusy, nearCheck, waitingFor}
 
 -- ---- a call on a good board
 
@@ -80,8 +82,8 @@ apply-same b c n = unless-same b (checked b c) (accepted b c) (accepted-answer b
 
 -- the call of the program that is asked for
 pub by-program : (b : Board) (a : Asked) (p : ℕ) → p ≡ a .program
-    → apply b (callWith (a .verb) p (a .file) (a .writable) (a .readable)) ≡ apply b (callOf a)
-by-program b a p e = ap (λ x. apply b (callWith (a .verb) x (a .file) (a .writable) (a .readable))) e
+    → apply b (callWith (a .verb) p (a .file) (a .item) (a .writable) (a .readable) (a .inquirable)) ≡ apply b (callOf a)
+by-program b a p e = ap (λ x. apply b (callWith (a .verb) x (a .file) (a .item) (a .writable) (a .readable) (a .inquirable))) e
 
 -- ---- numbers in range
 
@@ -110,15 +112,17 @@ no-file true f e = e
 no-file false f e = refl
 
 -- check 8 of any call: its program
-checked-far : (b : Board) (v : Verb) (p f : ℕ) (w r : FileSet) → isProgram p ≡ false
-    → checked b (callWith v p f w r) ≡ Check.Failed Refusal.OutOfRange
-unfolding enterCheck openCheck closeCheck leaveCheck cancelCheck
-checked-far b Verb.Enter p f w r e = rw e
-checked-far b Verb.Open p f w r e = rw (no-program p f e)
-checked-far b Verb.Close p f w r e = rw (no-program p f e)
-checked-far b Verb.Drop p f w r e = rw (no-program p f e)
-checked-far b Verb.Leave p f w r e = rw e
-checked-far b Verb.Cancel p f w r e = rw e
+checked-far : (b : Board) (v : Verb) (p f n : ℕ) (w r j : FileSet) → isProgram p ≡ false
+    → checked b (callWith v p f n w r j) ≡ Check.Failed Refusal.OutOfRange
+unfolding enterCheck openCheck closeCheck leaveCheck cancelCheck fetchCheck returnCheck
+checked-far b Verb.Enter p f n w r j e = rw e
+checked-far b Verb.Open p f n w r j e = rw (no-program p f e)
+checked-far b Verb.Close p f n w r j e = rw (no-program p f e)
+checked-far b Verb.Drop p f n w r j e = rw (no-program p f e)
+checked-far b Verb.Leave p f n w r j e = rw e
+checked-far b Verb.Cancel p f n w r j e = rw e
+checked-far b Verb.Fetch p f n w r j e = rw (no-program p f e)
+checked-far b Verb.Return p f n w r j e = rw e
 
 -- check 8 of the file m, of which the number is f
 file-first : (m f : ℕ) (t : Bool) (next : ℕ → Check) → t ≡ true → f ≡ numberIf (isFile m) m
@@ -128,7 +132,15 @@ file-first m f t next e h =
     (λ k. let d : f ≡ m = rw k at h in let z : m ≢ 0 = omega (arith, least 64 m k) in rw (d, e, k, ne-eqb m 0 z))
     (λ k. let d : f ≡ 0 = rw k at h in rw (d, e, k))
 
--- what the sets and the standing say of the program
+-- check 19 of the record i, of which the number is n
+record-first : (i n : ℕ) (next : Check) → n ≡ numberIf (isRecord i) i
+    → recordFirst n next ≡ refuseIf (not (isRecord i)) Refusal.BadRecord next
+record-first i n next h =
+    by-test (isRecord i)
+    (λ k. let d : n ≡ i = rw k at h in let z : i ≢ 0 = omega (arith, least 65535 i k) in rw (d, k, ne-eqb i 0 z))
+    (λ k. let d : n ≡ 0 = rw k at h in rw (d, k))
+
+-- what the sets and the seat say of the program
 module _ (sets : Sets) (q : Rest) (p : ℕ) (h : 1 ≤ p) (k : p ≤ 32) (st : IsStore sets) where
   abbrev b : Board
   b = boardOf sets q
@@ -139,39 +151,55 @@ module _ (sets : Sets) (q : Rest) (p : ℕ) (h : 1 ≤ p) (k : p ≤ 32) (st : I
   opens-are : (f : ℕ) → opensAt sets f p ≡ hasOpen (at b p) f
   opens-are f = same-mode _ _ (λ m. ap (λ (x : FileSet). member x f) (open-is b sets (board-sets sets q st) p h k m))
 
-  stands : standingAt q p ≡ at b p .standing
-  stands = sym (standing-is sets q p h k st)
+  inquires : (f : ℕ) → member (openAt sets p Inquiry) f ≡ member (at b p .inquiring) f
+  inquires f = ap (λ (x : FileSet). member x f) (open-is b sets (board-sets sets q st) p h k Inquiry)
+
+  seated : seatAt q p ≡ seatOf (at b p)
+  seated = sym (seat-is sets q p h k st)
+
+  abbrev busy : Check → Check
+  busy next = unlessBusy (seatOf (at b p)) next
 
   abbrev claimCheck : ℕ → Check
-  claimCheck f = unlessRunning (at b p .standing)
-      (refuseIf (not (claims (at b p) f)) Refusal.NotClaimed (refuseIf (hasOpen (at b p) f) Refusal.IsOpen Check.Passed))
+  claimCheck f = busy (refuseIf (not (claims (at b p) f)) Refusal.NotClaimed (refuseIf (hasOpen (at b p) f) Refusal.IsOpen Check.Passed))
 
   abbrev useCheck : ℕ → Check
-  useCheck f = unlessRunning (at b p .standing) (refuseIf (not (hasOpen (at b p) f)) Refusal.NotOpen Check.Passed)
+  useCheck f = busy (refuseIf (not (hasOpen (at b p) f)) Refusal.NotOpen Check.Passed)
 
-  near-claim : (f : ℕ) → unlessRunning (standingAt q p) (claimCheckAt sets p f) ≡ claimCheck f
-  near-claim f = ap (λ (s : Standing). unlessRunning s (claimCheckAt sets p f)) stands
-      ∙ ap₂ (λ (c o : Bool). unlessRunning (at b p .standing) (refuseIf (not c) Refusal.NotClaimed (refuseIf o Refusal.IsOpen Check.Passed)))
-      (claims-are f) (opens-are f)
+  abbrev inquiryCheck : ℕ → Check
+  inquiryCheck f = busy (refuseIf (not (member (at b p .inquiring) f)) Refusal.NoRecord Check.Passed)
 
-  near-use : (f : ℕ) → unlessRunning (standingAt q p) (useCheckAt sets p f) ≡ useCheck f
-  near-use f = ap (λ (s : Standing). unlessRunning s (useCheckAt sets p f)) stands
-      ∙ ap (λ (o : Bool). unlessRunning (at b p .standing) (refuseIf (not o) Refusal.NotOpen Check.Passed)) (opens-are f)
+  near-claim : (f : ℕ) → unlessBusy (seatAt q p) (claimCheckAt sets p f) ≡ claimCheck f
+  near-claim f = ap (λ (s : Seat). unlessBusy s (claimCheckAt sets p f)) seated
+      ∙ ap₂ (λ (c o : Bool). busy (refuseIf (not c) Refusal.NotClaimed (refuseIf o Refusal.IsOpen Check.Passed))) (claims-are f) (opens-are f)
 
-  -- in range: the standing, then the other checks
-  module _ (f m : ℕ) (w r : FileSet) (number : f ≡ numberIf (isFile m) m) where
+  near-use : (f : ℕ) → unlessBusy (seatAt q p) (useCheckAt sets p f) ≡ useCheck f
+  near-use f = ap (λ (s : Seat). unlessBusy s (useCheckAt sets p f)) seated
+      ∙ ap (λ (o : Bool). busy (refuseIf (not o) Refusal.NotOpen Check.Passed)) (opens-are f)
+
+  near-inquiry : (f : ℕ) → unlessBusy (seatAt q p) (inquiryCheckAt sets p f) ≡ inquiryCheck f
+  near-inquiry f = ap (λ (s : Seat). unlessBusy s (inquiryCheckAt sets p f)) seated
+      ∙ ap (λ (o : Bool). busy (refuseIf (not o) Refusal.NoRecord Check.Passed)) (inquires f)
+
+  -- in range: the seat, then the other checks
+  module _ (f m n i : ℕ) (w r j : FileSet) (number : f ≡ numberIf (isFile m) m) (numbered : n ≡ numberIf (isRecord i) i) where
     abbrev ranged : isProgram p ≡ true
     ranged = is-number 32 p h k
 
-    near-open : fileFirst f (unlessRunning (standingAt q p) (claimCheckAt sets p f)) ≡ openCheck b p m
+    near-open : fileFirst f (unlessBusy (seatAt q p) (claimCheckAt sets p f)) ≡ openCheck b p m
     unfolding openCheck
     near-open = ap (fileFirst f) (near-claim f) ∙ file-first m f (isProgram p) claimCheck ranged number
 
-    near-close : fileFirst f (unlessRunning (standingAt q p) (useCheckAt sets p f)) ≡ closeCheck b p m
+    near-close : fileFirst f (unlessBusy (seatAt q p) (useCheckAt sets p f)) ≡ closeCheck b p m
     unfolding closeCheck
     near-close = ap (fileFirst f) (near-use f) ∙ file-first m f (isProgram p) useCheck ranged number
 
-    near-enter : entryCheck (at b p .standing) w r ≡ enterCheck b p w r
+    near-fetch : fileFirst f (recordFirst n (unlessBusy (seatAt q p) (inquiryCheckAt sets p f))) ≡ fetchCheck b p m i
+    unfolding fetchCheck
+    near-fetch = ap (λ (c : Check). fileFirst f (recordFirst n c)) (near-inquiry f) ∙ ap (fileFirst f) (record-first i n (inquiryCheck f) numbered)
+        ∙ file-first m f (isProgram p) (λ (g : ℕ). refuseIf (not (isRecord i)) Refusal.BadRecord (inquiryCheck g)) ranged number
+
+    near-enter : entryCheck (at b p .standing) w r j ≡ enterCheck b p w r j
     unfolding enterCheck
     near-enter = rw ranged
 
@@ -183,34 +211,51 @@ module _ (sets : Sets) (q : Rest) (p : ℕ) (h : 1 ≤ p) (k : p ≤ 32) (st : I
     unfolding cancelCheck
     near-cancel = rw ranged
 
-    pub checked-near : (v : Verb) → nearCheck sets p (standingAt q p) f v w r ≡ checked b (callWith v p m w r)
-    checked-near Verb.Enter = ap (λ (s : Standing). entryCheck s w r) stands ∙ near-enter
+    near-return : unlessRunning (at b p .standing) (returnedCheck (at b p .item)) ≡ returnCheck b p
+    unfolding returnCheck
+    near-return = rw ranged
+
+    pub checked-near : (v : Verb) → nearCheck sets p (seatAt q p) f n v w r j ≡ checked b (callWith v p m i w r j)
+    checked-near Verb.Enter = ap (λ (s : Seat). entryCheck (s .standing) w r j) seated ∙ near-enter
     checked-near Verb.Open = near-open
     checked-near Verb.Close = near-close
     checked-near Verb.Drop = near-open
-    checked-near Verb.Leave = ap (λ (s : Standing). unlessRunning s Check.Passed) stands ∙ near-leave
-    checked-near Verb.Cancel = ap (λ (s : Standing). unlessStopped s Check.Passed) stands ∙ near-cancel
+    checked-near Verb.Leave = ap (λ (s : Seat). unlessRunning (s .standing) Check.Passed) seated ∙ near-leave
+    checked-near Verb.Cancel = ap (λ (s : Seat). unlessStopped (s .standing) Check.Passed) seated ∙ near-cancel
+    checked-near Verb.Fetch = near-fetch
+    checked-near Verb.Return = ap (λ (s : Seat). unlessRunning (s .standing) (returnedCheck (s .item))) seated ∙ near-return
 
-module _ (b : Board) (p f m : ℕ) (w r : FileSet) (number : f ≡ numberIf (isFile m) m) where
-  -- a file that a check has let pass is in range
+-- the check after one that has let pass
+refuse-next : (t : Bool) (r : Refusal) (next : Check) → refuseIf t r next ≡ Check.Passed → next ≡ Check.Passed
+refuse-next true r next k = failed-passed r k
+refuse-next false r next k = k
+
+module _ (b : Board) (p f m n i : ℕ) (w r j : FileSet) (number : f ≡ numberIf (isFile m) m) (numbered : n ≡ numberIf (isRecord i) i) where
+  -- a file that a check has let pass is in range, and a record
   passed-file : (next : Check) → refuseIf (not (isProgram p && isFile m)) Refusal.OutOfRange next ≡ Check.Passed → f ≡ m
   passed-file next k =
       by-test (isFile m) (λ e. rw e at number)
       (λ e. failed-passed Refusal.OutOfRange (rw (no-file (isProgram p) m e) at k))
 
-  -- so the call is that with the file's number
-  pub call-same : (v : Verb) → checked b (callWith v p m w r) ≡ Check.Passed → callWith v p f w r ≡ callWith v p m w r
-  unfolding openCheck closeCheck
+  passed-record : (next : Check) → refuseIf (not (isRecord i)) Refusal.BadRecord next ≡ Check.Passed → n ≡ i
+  passed-record next k = by-test (isRecord i) (λ e. rw e at numbered) (λ e. failed-passed Refusal.BadRecord (rw e at k))
+
+  -- so the call is that with their numbers
+  pub call-same : (v : Verb) → checked b (callWith v p m i w r j) ≡ Check.Passed → callWith v p f n w r j ≡ callWith v p m i w r j
+  unfolding openCheck closeCheck fetchCheck
   call-same Verb.Enter k = refl
   call-same Verb.Open k = ap (Open p) (passed-file _ k)
   call-same Verb.Close k = ap (Close p) (passed-file _ k)
   call-same Verb.Drop k = ap (Drop p) (passed-file _ k)
   call-same Verb.Leave k = refl
   call-same Verb.Cancel k = refl
+  call-same Verb.Fetch k = ap₂ (Fetch p) (passed-file _ k)
+      (passed-record _ (refuse-next (not (isProgram p && isFile m)) Refusal.OutOfRange _ k))
+  call-same Verb.Return k = refl
 
 pub apply-far : (b : Board) (a : Asked) → isProgram (a .program) ≡ false → refuse b Refusal.OutOfRange ≡ apply b (callOf a)
 apply-far b a e =
-    apply-failed b (callOf a) Refusal.OutOfRange (checked-far b (a .verb) (a .program) (a .file) (a .writable) (a .readable) e)
+    apply-failed b (callOf a) Refusal.OutOfRange (checked-far b (a .verb) (a .program) (a .file) (a .item) (a .writable) (a .readable) (a .inquirable) e)
 
 -- ---- replies
 
@@ -266,35 +311,41 @@ done-ready w b l e r = let h = r .room in
 
 pub done-is : (w s : Written) (b : Board) (p f : ℕ) → w ≡ wrote b (line Word.Done p f ∷ [])
     → s ≡ after w (settle (w .board)) → Ready b → replied s Answer.Done ≡ done b p f
-unfolding done
+unfolding done finish
 done-is w s b p f e k r =
     ap (λ (x : Written). replied x Answer.Done) (k ∙ ap (λ (x : Written). after w (settle (x .board))) e)
     ∙ after-one w (settle b) b (line Word.Done p f) Answer.Done e (r .room)
 
 -- HELD is written, then FAVOUR
-pub held-for-is : (w s : Written) (b c : Board) (p : ℕ) (v q : FileSet) (n : ℕ) → c ≡ hold b p v q → w ≡ wrote c (line Word.Held p 0 ∷ [])
-    → s ≡ after w (favour (w .board) n) → replied s Answer.Held ≡ holdFor b p v q n
+pub held-for-is : (w s : Written) (b c : Board) (p : ℕ) (v q j : FileSet) (n : ℕ) → c ≡ hold b p v q j → w ≡ wrote c (line Word.Held p 0 ∷ [])
+    → s ≡ after w (favour (w .board) n) → replied s Answer.Held ≡ holdFor b p v q j n
 unfolding holdFor favour
-held-for-is w s b c p v q n d e k =
+held-for-is w s b c p v q j n d e k =
     ap (λ (x : Written). replied x Answer.Held) (k ∙ ap (λ (x : Written). after w (favour (x .board) n)) e)
     ∙ after-one w (favour c n) c (line Word.Held p 0) Answer.Held e (omega arith)
     ∙ ap (λ (x : Board). reply (favour x n .board) Answer.Held (line Word.Held p 0 ∷ favour x n .lines)) d
 
 -- ---- what a good board has room for, from the theory
 
-sound-of : (b : Board) → Good b → sound b ≡ true
+pub sound-of : (b : Board) → Good b → sound b ≡ true
 sound-of b g = sound-iff b .1 (good-sound b g)
 
 module _ (sets : Sets) (r : Rest) where
-  pub entry-free : (p : ℕ) (v q : FileSet) → Good (boardOf sets r) → enterCheck (boardOf sets r) p v q ≡ Check.Passed
+  pub entry-free : (p : ℕ) (v q j : FileSet) → Good (boardOf sets r) → enterCheck (boardOf sets r) p v q j ≡ Check.Passed
       → (r .entry ≡ padded 0 (names (r .entry))) × (length (names (r .entry)) < 32)
   unfolding boardOf
-  entry-free p v q g e = (g .loose .helds .form, entry-room (boardOf sets r) (board-size sets r) (sound-of (boardOf sets r) g) p v q e)
+  entry-free p v q j g e = (g .loose .helds .form, entry-room (boardOf sets r) (board-size sets r) (sound-of (boardOf sets r) g) p v q j e)
 
   pub waiting-free : (p f : ℕ) → Good (boardOf sets r) → openCheck (boardOf sets r) p f ≡ Check.Passed
       → (r .waiting ≡ padded 0 (names (r .waiting))) × (length (names (r .waiting)) < 32)
   unfolding boardOf
   waiting-free p f g e = (g .loose .waits .form, waiting-room (boardOf sets r) (board-size sets r) (sound-of (boardOf sets r) g) p f e)
+
+  pub fetching-free : (p f n : ℕ) → Good (boardOf sets r) → fetchCheck (boardOf sets r) p f n ≡ Check.Passed
+      → (r .waiting ≡ padded 0 (names (r .waiting))) × (length (names (r .waiting)) < 32)
+  unfolding boardOf
+  fetching-free p f n g e = let m = fetch-may (boardOf sets r) p f n e in
+      let c = crowd (boardOf sets r) p (g .loose) (m .is) (ap isWaiting (m .runs)) (ap isHeld (m .runs)) in (g .loose .waits .form, omega arith)
 
   pub leaves-few : Good (boardOf sets r) → r .leaves ≤ 32
   unfolding boardOf
@@ -305,9 +356,6 @@ close-settles b c p f k g e = subst Ready (sym k) (close-ready b (g .loose .base
 
 pub drop-settles : (b c : Board) (p f : ℕ) → c ≡ setProgram b p (dropping (at b p) f) → Good b → openCheck b p f ≡ Check.Passed → Ready c
 drop-settles b c p f k g e = subst Ready (sym k) (drop-ready b (g .loose .base .size) (sound-of b g) p f e)
-
-pub leave-settles : (b c : Board) (p : ℕ) → c ≡ countLeave (setProgram b p noProgram) → Good b → leaveCheck b p ≡ Check.Passed → Ready c
-leave-settles b c p k g e = subst Ready (sym k) (leave-ready b (g .loose .base .size) (sound-of b g) p e)
 
 pub cancel-settles : (b c : Board) (p : ℕ) → c ≡ withdrawn b p (at b p .standing) → Good b → cancelCheck b p ≡ Check.Passed → Ready c
 cancel-settles b c p k g e = subst Ready (sym k) (cancel-ready b (g .loose .base .size) (sound-of b g) p e)
@@ -345,18 +393,58 @@ pub favoured-is : (sets : Sets) (r : Rest) → boardOf sets r .favoured ≡ r .f
 unfolding boardOf
 favoured-is sets r = refl
 
-module _ (b : Board) (p : ℕ) (v q : FileSet) where
-  pub enter-held : b .favoured ≢ 0 → reply (hold b p v q) Answer.Held (line Word.Held p 0 ∷ []) ≡ enter b p v q
+module _ (b : Board) (p : ℕ) (v q j : FileSet) where
+  pub enter-held : b .favoured ≢ 0 → reply (hold b p v q j) Answer.Held (line Word.Held p 0 ∷ []) ≡ enter b p v q j
   unfolding enter
   enter-held e = rw (ne-eqb (b .favoured) 0 e)
 
-  pub enter-for : (w : ℕ) → b .favoured ≡ 0 → overdue b ≡ some w → holdFor b p v q w ≡ enter b p v q
+  pub enter-for : (w : ℕ) → b .favoured ≡ 0 → overdue b ≡ some w → holdFor b p v q j w ≡ enter b p v q j
   unfolding enter
   enter-for w e o = rw (eq-eqb (b .favoured) 0 e, o)
 
-  pub enter-runs : b .favoured ≡ 0 → overdue b ≡ none → reply (admit b p v q) Answer.Admit (line Word.Admit p 0 ∷ []) ≡ enter b p v q
+  pub enter-runs : b .favoured ≡ 0 → overdue b ≡ none → reply (admit b p v q j) Answer.Admit (line Word.Admit p 0 ∷ []) ≡ enter b p v q j
   unfolding enter
   enter-runs e o = rw (eq-eqb (b .favoured) 0 e, o)
+
+-- ---- fetch
+
+module _ (b : Board) (p f r : ℕ) where
+  pub fetch-waits : taken b p f r ≡ true → reply (waitingFor b p f f r) Answer.Wait (lineOf Word.Wait p f r ∷ []) ≡ fetch b p f r
+  unfolding fetch waitItem
+  fetch-waits t = rw t
+
+  pub fetch-gets : taken b p f r ≡ false
+      → reply (setProgram b p (setItem (at b p) f r)) Answer.Given (lineOf Word.Given p f r ∷ []) ≡ fetch b p f r
+  unfolding fetch
+  fetch-gets t = rw t
+
+  -- the test of the program q
+  abbrev pub takes : ℕ → Bool
+  takes q = not (eqb q p) && uses (at b q) f r
+
+  pub taken-all : taken b p f r ≡ any takes (rising (33 - 1) 1)
+  unfolding taken everyone
+  taken-all = refl
+
+  pub taken-here : (q : ℕ) → q ≤ 32 → takes q ≡ true → any takes (rising (33 - q) q) ≡ true
+  unfolding any
+  taken-here q h e = ap (any takes) (rising-step q h) ∙ rw e
+
+  pub taken-on : (q : ℕ) → q ≤ 32 → takes q ≡ false → any takes (rising (33 - q) q) ≡ any takes (rising (33 - suc q) (suc q))
+  unfolding any
+  taken-on q h e = ap (any takes) (rising-step q h) ∙ rw e
+
+  pub taken-end : (q : ℕ) → 32 < q → any takes (rising (33 - q) q) ≡ false
+  unfolding any
+  taken-end q h = ap (any takes) (rising-end q h)
+
+-- ---- open
+
+-- who opens a file has no record, so that it waits with none
+pub open-wait : (b : Board) (p f : ℕ) → Good b → openCheck b p f ≡ Check.Passed → waitingFor b p f 0 0 ≡ wait b p f
+unfolding wait
+open-wait b p f g e = let m = open-may b p f e in
+    ap₂ (waitingFor b p f) (sym (g .counts .records .own p (m .is) .no-item (m .no-item))) (sym (m .no-item))
 
 module _ (b : Board) (p f : ℕ) where
   pub open-waits : inUse b p f ≡ true → reply (wait b p f) Answer.Wait (line Word.Wait p f ∷ []) ≡ openFile b p f

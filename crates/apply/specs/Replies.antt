@@ -1,14 +1,14 @@
 -- What a call comes to: its lines as they are written, and the reply made of them; parts of the checks.
 -- Assumes nothing.
-use Prim.Native.Nat.{ℕ}
+use Prim.Native.Nat.{ℕ, suc, _≤_}
 use mathlib.Core.Path.{_≡_}
-use mathlib.Core.Bool.{Bool, not, cond}
-use mathlib.Core.List.{List, []}
+use mathlib.Core.Bool.{Bool, not, cond, _&&_}
+use mathlib.Core.List.{List, [], _++_}
 use mathlib.Core.Option.{Option·getD}
 use lib.Dec.{eqb}
 use lib.ListN.{length}
 use Rattle.files.specs.declared.FileSet.{FileSet}
-use Rattle.files.specs.Sets.{meets}
+use Rattle.files.specs.Sets.{member}
 use Rattle.rules.specs.declared.Standing.{Standing}
 use Rattle.rules.specs.declared.Board.{Board}
 use Rattle.rules.specs.declared.Refusal.{Refusal}
@@ -18,13 +18,18 @@ use Rattle.rules.specs.declared.Answer.{Answer}
 use Rattle.rules.specs.declared.Line.{Line}
 use Rattle.rules.specs.declared.Reply.{Reply}
 use Rattle.laws.specs.Lists.{padded}
-use Rattle.rules.specs.Modes.{Write}
-use Rattle.rules.specs.Boards.{isAbsent}
-use Rattle.rules.specs.Checks.{refuseIf, unlessRunning, unlessStopped}
+use Rattle.rules.specs.Modes.{Write, Inquiry, claimsMeet}
+use Rattle.rules.specs.Boards.{isAbsent, isRunning, at, setStanding, setItem}
+use Rattle.rules.specs.Checks.{refuseIf, unlessRunning, unlessUsing, unlessStopped}
 use Rattle.rules.specs.Orders.{carried}
+use Rattle.rules.specs.Calls.{waitAs}
+use Rattle.rules.specs.Settling.{handOn, settle}
 use Rattle.rules.specs.Replies.{blank}
+use Rattle.theory.specs.Loose.{Loose, Counted}
+use Rattle.theory.specs.Records.{Records}
 use Rattle.parts.specs.Entries.{Entries}
-use Rattle.store.specs.Sets.{Sets, claimsAt, opensAt}
+use Rattle.store.specs.declared.Seat.{Seat}
+use Rattle.store.specs.Sets.{Sets, openAt, claimsAt, opensAt}
 use Rattle.settling.specs.Writing.{Written, writtenIn}
 use Rattle.apply.specs.declared.Changed.{Changed}
 
@@ -56,9 +61,13 @@ numberIf t n = cond t n 0
 abbrev pub fileFirst : ℕ → Check → Check
 fileFirst f next = refuseIf (eqb f 0) Refusal.OutOfRange next
 
+-- check 19, of a record's number or 0; then the next check
+abbrev pub recordFirst : ℕ → Check → Check
+recordFirst n next = refuseIf (eqb n 0) Refusal.BadRecord next
+
 -- checks 9 and 10, of enter
-abbrev pub entryCheck : Standing → FileSet → FileSet → Check
-entryCheck s v r = refuseIf (not (isAbsent s)) Refusal.NotAbsent (refuseIf (meets v r) Refusal.ClaimsMeet Check.Passed)
+abbrev pub entryCheck : Standing → FileSet → FileSet → FileSet → Check
+entryCheck s v q j = refuseIf (not (isAbsent s)) Refusal.NotAbsent (refuseIf (claimsMeet v q j) Refusal.ClaimsMeet Check.Passed)
 
 -- checks 14 and 15, of open and drop, by the sets
 abbrev pub claimCheckAt : Sets → ℕ → ℕ → Check
@@ -69,11 +78,44 @@ claimCheckAt sets p f =
 abbrev pub useCheckAt : Sets → ℕ → ℕ → Check
 useCheckAt sets p f = refuseIf (not (opensAt sets f p)) Refusal.NotOpen Check.Passed
 
--- the checks of the call with a verb, of a program in range, by its sets and its standing; the file's number is 0 if out of range
-abbrev pub nearCheck : Sets → ℕ → Standing → ℕ → Verb → FileSet → FileSet → Check
-nearCheck sets p s f Verb.Enter v r = entryCheck s v r
-nearCheck sets p s f Verb.Open v r = fileFirst f (unlessRunning s (claimCheckAt sets p f))
-nearCheck sets p s f Verb.Close v r = fileFirst f (unlessRunning s (useCheckAt sets p f))
-nearCheck sets p s f Verb.Drop v r = fileFirst f (unlessRunning s (claimCheckAt sets p f))
-nearCheck sets p s f Verb.Leave v r = unlessRunning s Check.Passed
-nearCheck sets p s f Verb.Cancel v r = unlessStopped s Check.Passed
+-- check 20, of fetch, by the sets
+abbrev pub inquiryCheckAt : Sets → ℕ → ℕ → Check
+inquiryCheckAt sets p f = refuseIf (not (member (openAt sets p Inquiry) f)) Refusal.NoRecord Check.Passed
+
+-- check 20, of return, by the record in use
+abbrev pub returnedCheck : ℕ → Check
+returnedCheck r = refuseIf (eqb r 0) Refusal.NoRecord Check.Passed
+
+-- 11 to 13, then 21, by the seat; then the next check
+abbrev pub unlessBusy : Seat → Check → Check
+unlessBusy s next = unlessRunning (s .standing) (unlessUsing (s .item) next)
+
+-- the checks of the call with a verb, of a program in range, by its sets and its seat; the file's number is 0 if out of range, and the
+-- record's
+abbrev pub nearCheck : Sets → ℕ → Seat → ℕ → ℕ → Verb → FileSet → FileSet → FileSet → Check
+nearCheck sets p s f n Verb.Enter v q j = entryCheck (s .standing) v q j
+nearCheck sets p s f n Verb.Open v q j = fileFirst f (unlessBusy s (claimCheckAt sets p f))
+nearCheck sets p s f n Verb.Close v q j = fileFirst f (unlessBusy s (useCheckAt sets p f))
+nearCheck sets p s f n Verb.Drop v q j = fileFirst f (unlessBusy s (claimCheckAt sets p f))
+nearCheck sets p s f n Verb.Leave v q j = unlessRunning (s .standing) Check.Passed
+nearCheck sets p s f n Verb.Cancel v q j = unlessStopped (s .standing) Check.Passed
+nearCheck sets p s f n Verb.Fetch v q j = fileFirst f (recordFirst n (unlessBusy s (inquiryCheckAt sets p f)))
+nearCheck sets p s f n Verb.Return v q j = unlessRunning (s .standing) (returnedCheck (s .item))
+
+-- ---- a record handed on
+
+-- a board on which the record r of f, which nobody has any more, may be handed on before it settles, with room in the reply for the
+-- answer's line, that of the record and settling's
+pub record Handing (b : Board) (f r : ℕ) : Type 0 where
+  pub loose : Loose b
+  pub counted : Counted (b .passed) (b .programs)
+  pub records : Records (b .programs) f r
+  pub room : suc (length (handOn b f r .lines ++ settle (handOn b f r .board) .lines)) ≤ 32
+
+-- the program in a seat has the record r of f in use
+abbrev pub seatUses : Seat → ℕ → ℕ → Bool
+seatUses s f r = isRunning (s .standing) && not (eqb (s .item) 0) && eqb (s .file) f && eqb (s .item) r
+
+-- p waits for f: for the record r of the file g, or, if both are 0, for f itself
+abbrev pub waitingFor : Board → ℕ → ℕ → ℕ → ℕ → Board
+waitingFor b p f g r = waitAs b p (setItem (setStanding (at b p) (Standing.Waiting f)) g r)

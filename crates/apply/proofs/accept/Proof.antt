@@ -14,7 +14,7 @@ board s = boardOf (s .args .sets .now) (s .args .rest)
 
 -- the call, if this is its verb
 abbrev asked : tie.Start → Verb → Call
-asked s v = let a = s .args in callWith v (a .p) (a .f) (a .writable) (a .readable)
+asked s v = let a = s .args in callWith v (a .p) (a .f) (a .n) (a .writable) (a .readable) (a .inquirable)
 
 -- its checks have passed
 passed : (s : tie.Start) {v : Verb} → s .args .verb ≡ v → checked (board s) (asked s v) ≡ Check.Passed
@@ -48,6 +48,14 @@ do-cancel-requires : tie.Need-do-cancel-requires
 do-cancel-requires c κs = let t = c .before .before in let s = t .before .before in
     (s .pre .0, s .pre .1, passed s (t .enum-told6 .given .1), s .pre .3, s .pre .4, s .pre .5)
 
+do-fetch-requires : tie.Need-do-fetch-requires
+do-fetch-requires c κs = let t = c .before .before in let s = t .before .before in
+    (s .pre .0, s .pre .1, passed s (t .enum-told7 .given .1), s .pre .4, s .pre .5)
+
+do-return-requires : tie.Need-do-return-requires
+do-return-requires c κs = let t = c .before .before in let s = t .before .before in
+    (s .pre .0, s .pre .1, passed s (t .enum-told8 .given .1), s .pre .4, s .pre .5)
+
 returns : tie.Need-returns
 returns c = let t = c .before .before .before in
     (c .do-enter .ensures .0 ∙ does (t .before .before) (t .enum-told .given .1), c .do-enter .ensures .1)
@@ -72,6 +80,14 @@ returns-6 : tie.Need-returns-6
 returns-6 c = let t = c .before .before .before in
     (c .do-cancel .ensures .0 ∙ does (t .before .before) (t .enum-told6 .given .1), c .do-cancel .ensures .1)
 
+returns-7 : tie.Need-returns-7
+returns-7 c = let t = c .before .before .before in let s = t .before .before in
+    (c .do-fetch .ensures .0 ∙ does s (t .enum-told7 .given .1), (s .pre .4, c .do-fetch .ensures .1))
+
+returns-8 : tie.Need-returns-8
+returns-8 c = let t = c .before .before .before in
+    (c .do-return .ensures .0 ∙ does (t .before .before) (t .enum-told8 .given .1), c .do-return .ensures .1)
+
 pub accept-spec : {M : Type 1} → statement M
 accept-spec =
     tie.close
@@ -88,9 +104,15 @@ accept-spec =
     do-leave-requires
     (λ c. search needs)
     do-cancel-requires
+    (λ c. search needs)
+    do-fetch-requires
+    (λ c. search needs)
+    do-return-requires
     returns
     returns-2
     returns-3
     returns-4
     returns-5
-    returns-6)
+    returns-6
+    returns-7
+    returns-8)

@@ -7,7 +7,7 @@ use Rattle.rules.specs.declared.Word.{Word}
 use Rattle.rules.specs.Orders.{carried, withGiven, inUse}
 use Rattle.rules.specs.Settling.{line}
 use Rattle.rules.specs.Replies.{reply}
-use Rattle.rules.specs.Calls.{wait}
+use Rattle.apply.specs.Replies.{waitingFor}
 use Rattle.theory.specs.Sound.{loose-apart}
 use Rattle.store.specs.Sets.{Sets, IsStore, givenAt}
 use Rattle.store.specs.Store.{boardOf}
@@ -20,7 +20,7 @@ use Rattle.tables.proofs.Given.{seats-admitted}
 use Rattle.search.specs.Gives.{usesIn}
 use Rattle.search.specs.Rows.{asOrder}
 use Rattle.search.proofs.Used.{used-by}
-use Rattle.apply.proofs.Laws.{waiting-free, open-waits, open-unsafe, open-given, not-safe, is-safe}
+use Rattle.apply.proofs.Laws.{waiting-free, open-wait, open-waits, open-unsafe, open-given, not-safe, is-safe}
 use borrow.Author.Needs.{needs}
 use Rattle.apply.proofs.do_open.Statement.{statement}
 use Rattle.apply.proofs.do_open.Tie as tie
@@ -60,7 +60,7 @@ put-waiting-requires c κs = let s = start (c .before .before) in let a = s .arg
 
 returns : tie.Need-returns
 returns c = let w = c .before .before .before in let i = w .before .before in let u = i .before in let s = start u in let a = s .args in (
-  c .answered .ensures .0 ∙ ap (λ (x : Board). reply x Answer.Wait (line Word.Wait (a .p) (a .f) ∷ [])) (w .put-waiting .ensures)
+  c .answered .ensures .0 ∙ ap (λ (x : Board). reply x Answer.Wait (line Word.Wait (a .p) (a .f) ∷ [])) (w .put-waiting .ensures ∙ open-wait (board s) (a .p) (a .f) (s .pre .1) (s .pre .2))
       ∙ open-waits (board s) (a .p) (a .f) (sym (used u) ∙ i .if1 .taken),
   (s .pre .3, c .answered .ensures .1),
 )
@@ -76,7 +76,8 @@ returns-2 : tie.Need-returns-2
 returns-2 c = let w = c .before .before .before in let t = w .before .before in let o = t .before .before in let i = o .before .before in
     let u = i .before in let s = start u in let a = s .args in (
       c .answered2 .ensures .0 ∙ ap (λ (x : Board). reply x Answer.Unsafe (line Word.Unsafe (a .p) (a .f) ∷ []))
-          (w .put-waiting2 .ensures ∙ ap (λ (x : Sets). wait (boardOf x (a .rest)) (a .p) (a .f)) (same-sets o))
+          (w .put-waiting2 .ensures ∙ ap (λ (x : Sets). waitingFor (boardOf x (a .rest)) (a .p) (a .f) 0 0) (same-sets o)
+          ∙ open-wait (board s) (a .p) (a .f) (s .pre .1) (s .pre .2))
           ∙ open-unsafe (board s) (a .p) (a .f) (sym (used u) ∙ i .if1 .left)
           (not-safe (board s) (a .p) (a .f) (o .order-given .result) (sought o) (t .enum-told2 .given .1)),
       (still-store o, c .answered2 .ensures .1),

@@ -13,7 +13,7 @@ use Rattle.apply.proofs.put_running.Tie as tie
 tally-requires : tie.Need-tally-requires
 unfolding boardOf
 tally-requires c κs = let k = c .before in let s = k .before .before .before in
-    subst (λ (r : Rest). CountsFew (r .passed)) (sym (k .put .ensures .1 .0)) (s .pre .1 .counts .most)
+    subst (λ (r : Rest). CountsFew (r .passed)) (sym (k .put .ensures .1 .0)) (s .pre .1 .counts .counted .most)
 
 returns : tie.Need-returns
 unfolding admit

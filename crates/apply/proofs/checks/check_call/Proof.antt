@@ -1,4 +1,6 @@
 -- `check_call` meets its contract. Assumes nothing.
+use mathlib.Core.Path.{ap, _∙_}
+use Rattle.rules.specs.Checks.{unlessRunning}
 use borrow.Author.Needs.{needs}
 use Rattle.apply.proofs.checks.check_call.Statement.{statement}
 use Rattle.apply.proofs.checks.check_call.Tie as tie
@@ -21,6 +23,13 @@ returns-5 c = rw (c .before .enum-told5 .given .1) (c .running-check .ensures)
 returns-6 : tie.Need-returns-6
 returns-6 c = rw (c .before .enum-told6 .given .1) (c .check-cancel .ensures)
 
+returns-7 : tie.Need-returns-7
+returns-7 c = rw (c .before .enum-told7 .given .1) (c .check-fetch .ensures)
+
+returns-8 : tie.Need-returns-8
+returns-8 c = let r = c .before in let a = r .before .before .before .args in
+    rw (r .before .enum-told8 .given .1) (c .running-check2 .ensures ∙ ap (unlessRunning (a .seat .standing)) (r .return-check .ensures))
+
 pub check-call-spec : {M : Type 1} → statement M
 check-call-spec =
     tie.close
@@ -37,9 +46,16 @@ check-call-spec =
     (λ c κs. search needs)
     (λ c. search needs)
     (λ c κs. search needs)
+    (λ c. search needs)
+    (λ c κs. search needs)
+    (λ c. search needs)
+    (λ c κs. search needs)
+    (λ c κs. search needs)
     returns
     returns-2
     returns-3
     returns-4
     returns-5
-    returns-6)
+    returns-6
+    returns-7
+    returns-8)

@@ -12,14 +12,14 @@ returns-2 : tie.Need-returns-2
 returns-2 c = rw (
   sym (c .before .before .before .is-absent .ensures)
       ∙ not-false (c .before .before .before .is-absent .result) (c .before .before .if1 .left),
-  sym (c .before .meets .ensures) ∙ c .if2 .taken,
+  sym (c .before .claims-meet .ensures) ∙ c .if2 .taken,
 )
 
 returns-3 : tie.Need-returns-3
 returns-3 c = rw (
   sym (c .before .before .before .is-absent .ensures)
       ∙ not-false (c .before .before .before .is-absent .result) (c .before .before .if1 .left),
-  sym (c .before .meets .ensures) ∙ c .if2 .left,
+  sym (c .before .claims-meet .ensures) ∙ c .if2 .left,
 )
 
 pub check-enter-spec : {M : Type 1} → statement M

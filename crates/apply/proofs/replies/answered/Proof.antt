@@ -1,6 +1,6 @@
 -- `answered` meets its contract. Assumes nothing.
 use mathlib.Core.Path.{ap, _∙_}
-use Rattle.rules.specs.Settling.{line}
+use Rattle.rules.specs.Settling.{lineOf}
 use Rattle.store.specs.Store.{boardOf}
 use Rattle.settling.specs.Writing.{Written}
 use Rattle.apply.specs.Replies.{replied}
@@ -12,7 +12,7 @@ use Rattle.apply.proofs.replies.answered.Tie as tie
 returns : tie.Need-returns
 returns c = let a = c .before .before .args in (
   ap (λ (w : Written). replied w (a .answer)) (c .one-line .ensures .0)
-      ∙ wrote-reply (boardOf (a .sets .now) (a .rest)) (a .answer) (line (a .word) (a .p) (a .f)),
+      ∙ wrote-reply (boardOf (a .sets .now) (a .rest)) (a .answer) (lineOf (a .word) (a .p) (a .f) (a .n)),
   c .one-line .ensures .1 .1,
 )
 
