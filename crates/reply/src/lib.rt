@@ -27,10 +27,11 @@ const BLANK: Line = Line {
     program: 0,
     file: 0,
     refusal: 0,
+    item: 0,
 };
 
 // The lines in the array.
-fn lines_of(lines: &[[u8; 4]; 32]) -> [Line; 32]
+fn lines_of(lines: &[[u16; 5]; 32]) -> [Line; 32]
     requires { ⌜ IsEntries (now lines) ⌝ }
     ensures { λ r. ⌜ r ≡ linesIn (now (lines .entry)) ⌝ }
 {
@@ -72,8 +73,8 @@ fn with_order(b: Board, lines: [Line; 32], count: u8, answer: Answer, order: Ord
 
 // The reply to a call; `before` is the order of the board before the call, which a refusal leaves as it was.
 pub fn complete(
-    sets: &[[u64; WORDS]; 128],
-    lines: &[[u8; 4]; 32],
+    sets: &[[u64; WORDS]; 192],
+    lines: &[[u16; 5]; 32],
     c: Changed,
     before: Order,
 ) -> Reply
