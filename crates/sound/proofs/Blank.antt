@@ -10,14 +10,16 @@ use lib.Dec.{eqb}
 use lib.ListN.{length, getD, drop, replicate, drop-of-length-le}
 use lib.Seq.{drop-cons}
 use borrow.Author.Tests.{eq-eqb, eqb-true}
-use Rattle.laws.specs.Tests.{by-test, and-left, and-right, and-true, and-false}
+use Rattle.laws.specs.Tests.{by-test, and-left, and-right, and-both, and-true, and-false}
 use Rattle.files.specs.Bits.{covers}
-use Rattle.files.specs.Sets.{isEmpty}
+use Rattle.files.specs.Sets.{isEmpty, within}
 use Rattle.files.proofs.Bits.{or-none, zero-share}
 use Rattle.rules.specs.declared.Standing.{Standing}
 use Rattle.rules.specs.declared.Program.{Program}
 use Rattle.laws.specs.Lists.{all, names, same, padded}
+use Rattle.rules.specs.Modes.{Write, Read, eachMode, claimOf, openOf}
 use Rattle.rules.specs.Soundness.{setsSound, standingSound, lineSound}
+use Rattle.theory.specs.Modes.{each-mode, mode-each}
 use Rattle.tables.specs.declared.ProgramSet.{ProgramSet}
 use Rattle.tables.specs.ProgramSets.{hasProgram}
 use Rattle.sound.specs.Parts.{takes}
@@ -38,7 +40,7 @@ or-zero a b = both (eqb (bitOr a b) 0) (eqb a 0) (eqb b 0) (or-none a b)
     both false true false e = refl
     both false false z e = refl
 
-and-assoc : (x y z : Bool) → (x && y && z) ≡ (x && (y && z))
+pub and-assoc : (x y z : Bool) → (x && y && z) ≡ (x && (y && z))
 and-assoc true y z = refl
 and-assoc false y z = refl
 
@@ -71,26 +73,30 @@ blank-line l s h n e = let z : l ≡ replicate 32 0 = zeros l e ∙ ap (λ (x : 
 
 -- ---- programs by their standings
 
--- a program that has no sets is sound by itself
-nothing-sound : (q : Program) → (isEmpty (q .writable) && isEmpty (q .readable)) ≡ true → (isEmpty (q .writing) && isEmpty (q .reading)) ≡ true
-    → setsSound q ≡ true
-unfolding setsSound
-nothing-sound q e d =
-    let v = q .writable .bits in let w = q .writing .bits in let r = q .reading .bits in
-    let v₀ : v ≡ 0 = eqb-true v 0 (and-left (isEmpty (q .writable)) (isEmpty (q .readable)) e) in
-    let w₀ : w ≡ 0 = eqb-true w 0 (and-left (isEmpty (q .writing)) (isEmpty (q .reading)) d) in
-    let r₀ : r ≡ 0 = eqb-true r 0 (and-right (isEmpty (q .writing)) (isEmpty (q .reading)) d) in
-    rw (none-within w v w₀, none-within r (q .readable .bits) r₀, zero-share v (q .readable .bits) v₀)
-  where
-    none-within : (a b : ℕ) → a ≡ 0 → covers a b ≡ true
-    none-within a b e = eq-eqb (bitAnd a b) a (omega (arith, and-le-l a b))
-
 module _ (q : Program) where
   abbrev claimsNone : Bool
-  claimsNone = isEmpty (q .writable) && isEmpty (q .readable)
+  claimsNone = eachMode (λ m. isEmpty (claimOf m q))
 
   abbrev opensNone : Bool
-  opensNone = isEmpty (q .writing) && isEmpty (q .reading)
+  opensNone = eachMode (λ m. isEmpty (openOf m q))
+
+  -- a program that has no sets is sound by itself
+  nothing-sound : claimsNone ≡ true → opensNone ≡ true → setsSound q ≡ true
+  unfolding setsSound
+  nothing-sound e d =
+      let c = mode-each (λ m. isEmpty (claimOf m q)) e in
+      let v : q .writable .bits ≡ 0 = eqb-true (q .writable .bits) 0 (c Write) in
+      let r : q .readable .bits ≡ 0 = eqb-true (q .readable .bits) 0 (c Read) in
+      and-both _ _ (each-mode (λ m. within (openOf m q) (claimOf m q)) (λ m. none-within (openOf m q .bits) (claimOf m q .bits)
+      (eqb-true (openOf m q .bits) 0 (mode-each (λ m. isEmpty (openOf m q)) d m))))
+      (rw (
+        zero-share (q .writable .bits) (q .readable .bits) v,
+        zero-share (q .writable .bits) (q .inquirable .bits) v,
+        zero-share (q .readable .bits) (q .inquirable .bits) r,
+      ))
+    where
+      none-within : (a b : ℕ) → a ≡ 0 → covers a b ≡ true
+      none-within a b e = eq-eqb (bitAnd a b) a (omega (arith, and-le-l a b))
 
   pub absent-no : claimsNone ≡ false → false ≡ (setsSound q && standingSound Standing.Absent q)
   unfolding standingSound
@@ -101,7 +107,7 @@ module _ (q : Program) where
   absent-is e =
       let f = sym (ap (λ (x : Bool). x && opensNone) e) in
       by-test opensNone
-      (λ d. sym (ap (λ (x : Bool). x && standingSound Standing.Absent q) (nothing-sound q e d) ∙ sym f))
+      (λ d. sym (ap (λ (x : Bool). x && standingSound Standing.Absent q) (nothing-sound e d) ∙ sym f))
       (λ d. d ∙ sym (ap (λ (x : Bool). setsSound q && x) (sym f ∙ d) ∙ and-false (setsSound q)))
 
   pub held-no : opensNone ≡ false → false ≡ (setsSound q && standingSound Standing.Held q)

@@ -15,7 +15,7 @@ use Rattle.laws.specs.Tests.{by-test, never, no-true, true-not, and-left, and-r
 use Rattle.laws.specs.Lists.{all}
 use Rattle.laws.specs.Laws.{all-same, all-each, each-all}
 use Rattle.rules.specs.declared.Board.{Board}
-use Rattle.rules.specs.Modes.{Mode, Write, Read, byMode, touching}
+use Rattle.rules.specs.Modes.{Mode, Write, Read, Inquiry, byMode, touching}
 use Rattle.rules.specs.Boards.{everyone}
 use Rattle.rules.specs.Soundness.{noConflict}
 use Rattle.theory.specs.Modes.{by-touching, touching-by, touching-turn, touching-same}
@@ -49,13 +49,15 @@ module _ (sets : Sets) (s : IsStore sets) where
   abbrev pub ApartTo : ℕ → Type 0
   ApartTo p = (i j : ℕ) → 1 ≤ i → i < p → 1 ≤ j → j < p → i ≢ j → Apart i j
 
-  module _ (p : ℕ) (v q : List ℕ) (most : p ≤ 33) (a : v ≡ before Write (p - 1)) (b : q ≡ before Read (p - 1)) where
+  module _ (p : ℕ) (v q j : List ℕ) (most : p ≤ 33) (a : v ≡ before Write (p - 1)) (b : q ≡ before Read (p - 1))
+      (c : j ≡ before Inquiry (p - 1)) where
     abbrev now : Mode → FileSet
-    now = byMode (setOf v) (setOf q)
+    now = byMode (setOf v) (setOf q) (setOf j)
 
     is-before : (m : Mode) → now m ≡ setOf (before m (p - 1))
     is-before Write = ap setOf a
     is-before Read = ap setOf b
+    is-before Inquiry = ap setOf c
 
     -- p clashes with those before it exactly if it does with one of them
     pub clash-some : touching (openAt sets p) now ≡ true → (j : ℕ) × (1 ≤ j) × (j < p) × (touching (openAt sets p) (openAt sets j) ≡ true)

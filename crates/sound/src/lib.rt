@@ -7,27 +7,28 @@ use rules::Standing;
 use search::Order;
 use search::Uses;
 use store::Rest;
+use store::Seat;
 use store::sets;
 use tables::ProgramSet;
 ghost use mathlib.Core.Path.{_≡_};
-ghost use mathlib.Core.Bool.{true, false, cond};
-ghost use Prim.Native.Nat.{_≤_};
+ghost use mathlib.Core.Bool.{true, false, cond, _&&_};
+ghost use Prim.Native.Nat.{_-_, _≤_, _<_};
 ghost use lib.Dec.{eqb};
 ghost use lib.ListN.{length};
-ghost use Rattle.files.specs.Sets.{isEmpty};
+ghost use Rattle.files.specs.Sets.{isEmpty, within, meets};
 ghost use Rattle.laws.specs.Lists.{all, keep, names};
 ghost use Rattle.rules.specs.Boards.{everyone};
 ghost use Rattle.rules.specs.Modes.{eachMode};
 ghost use Rattle.rules.specs.Orders.{carried};
-ghost use Rattle.rules.specs.Soundness.{setsSound, lineSound, sound};
-ghost use Rattle.store.specs.Sets.{IsStore, claimAt, openAt};
-ghost use Rattle.store.specs.Store.{boardOf};
+ghost use Rattle.rules.specs.Soundness.{setsSound, itemSound, programSound, lineSound, sound};
+ghost use Rattle.store.specs.Sets.{IsStore, setIn, claimAt, openAt};
+ghost use Rattle.store.specs.Store.{programWith, boardOf};
 ghost use Rattle.tables.specs.ProgramSets.{hasProgram};
 ghost use Rattle.tables.specs.Tables.{rowsOf};
 ghost use Rattle.search.specs.Rows.{asOrder};
 ghost use Rattle.search.specs.Gives.{usesIn};
-ghost use Rattle.sound.specs.Parts.{isName, stands, takes, bareAt, isSoundWith, isSoundAt, noConflictIn, seatSet};
-ghost use Rattle.sound.specs.Parts.{waiterAt, KnownLine, WaiterFor, NoneFavoured, SomeFavoured, FavourSound, countFits, countAt, Packed};
+ghost use Rattle.sound.specs.Parts.{isName, stands, takes, bareAt, emptyIn, claimsMeetIn, isSoundWith, standsFor, isSoundAt, noConflictIn};
+ghost use Rattle.sound.specs.Parts.{seatSet, usesSeat, otherUses, anotherUses, recordFits, recordAt, waiterAt, KnownLine, WaiterFor, NoneFavoured, SomeFavoured, FavourSound, countFits, countAt, Packed};
 
 // Whether a board is sound, and its carried order.
 pub struct Judged {
@@ -35,52 +36,108 @@ pub struct Judged {
     pub order: Order,
 }
 
-// W is within V, R within Q, V and Q share nothing.
-fn sets_sound(sets: &[[u64; WORDS]; 128], p: u8) -> bool
+// Whether the set in the first place is within the one in the second.
+fn is_within(sets: &[[u64; WORDS]; 192], k: usize, n: usize) -> bool
+    requires { ⌜ (k < 192) × (n < 192) × IsStore (now sets) ⌝ }
+    ensures { λ r. ⌜ r ≡ within (setIn (now (sets .entry)) k) (setIn (now (sets .entry)) n) ⌝ }
+{
+    words::within(&sets[k], &sets[n])
+}
+
+// Whether the sets in two places share a file.
+fn do_meet(sets: &[[u64; WORDS]; 192], k: usize, n: usize) -> bool
+    requires { ⌜ (k < 192) × (n < 192) × IsStore (now sets) ⌝ }
+    ensures { λ r. ⌜ r ≡ meets (setIn (now (sets .entry)) k) (setIn (now (sets .entry)) n) ⌝ }
+{
+    words::meets(&sets[k], &sets[n])
+}
+
+// Whether the sets in three places are empty.
+fn are_empty(sets: &[[u64; WORDS]; 192], k: usize, m: usize, n: usize) -> bool
+    requires { ⌜ (k < 192) × (m < 192) × (n < 192) × IsStore (now sets) ⌝ }
+    ensures { λ r. ⌜ r ≡ emptyIn (now (sets .entry)) k m n ⌝ }
+{
+    if !words::is_empty(&sets[k]) {
+        return false;
+    }
+    if !words::is_empty(&sets[m]) {
+        return false;
+    }
+    words::is_empty(&sets[n])
+}
+
+// W is within V, R within Q, I within J.
+fn opens_claimed(sets: &[[u64; WORDS]; 192], p: u8) -> bool
     requires { ⌜ ((1 ≤ p) × (p ≤ 32)) × IsStore (now sets) ⌝ }
-    ensures { λ r. ⌜ r ≡ setsSound (bareAt (now (sets .entry)) p) ⌝ }
+    ensures { λ r. ⌜ r ≡ eachMode (λ m. within (openAt (now (sets .entry)) p m) (claimAt (now (sets .entry)) p m)) ⌝ }
+{
+    let v = sets::writable_at(p);
+    let w = sets::writing_at(p);
+    if !is_within(sets, w, v) {
+        return false;
+    }
+    let c = sets::readable_at(p);
+    let r = sets::reading_at(p);
+    if !is_within(sets, r, c) {
+        return false;
+    }
+    let j = sets::inquirable_at(p);
+    let i = sets::inquiring_at(p);
+    is_within(sets, i, j)
+}
+
+// Two of V, Q and J share a file.
+fn claims_meet(sets: &[[u64; WORDS]; 192], p: u8) -> bool
+    requires { ⌜ ((1 ≤ p) × (p ≤ 32)) × IsStore (now sets) ⌝ }
+    ensures { λ r. ⌜ r ≡ claimsMeetIn (now (sets .entry)) p ⌝ }
 {
     let v = sets::writable_at(p);
     let c = sets::readable_at(p);
-    let w = sets::writing_at(p);
-    let r = sets::reading_at(p);
-    if !words::within(&sets[w], &sets[v]) {
+    if do_meet(sets, v, c) {
+        return true;
+    }
+    let j = sets::inquirable_at(p);
+    if do_meet(sets, v, j) {
+        return true;
+    }
+    do_meet(sets, c, j)
+}
+
+// W is within V, R within Q, I within J; no two of V, Q and J share a file.
+fn sets_sound(sets: &[[u64; WORDS]; 192], p: u8) -> bool
+    requires { ⌜ ((1 ≤ p) × (p ≤ 32)) × IsStore (now sets) ⌝ }
+    ensures { λ r. ⌜ r ≡ setsSound (bareAt (now (sets .entry)) p) ⌝ }
+{
+    if !opens_claimed(sets, p) {
         return false;
     }
-    if !words::within(&sets[r], &sets[c]) {
-        return false;
-    }
-    !words::meets(&sets[v], &sets[c])
+    !claims_meet(sets, p)
 }
 
 // Nothing is claimed.
-fn claims_nothing(sets: &[[u64; WORDS]; 128], p: u8) -> bool
+fn claims_nothing(sets: &[[u64; WORDS]; 192], p: u8) -> bool
     requires { ⌜ ((1 ≤ p) × (p ≤ 32)) × IsStore (now sets) ⌝ }
     ensures { λ r. ⌜ r ≡ eachMode (λ m. isEmpty (claimAt (now (sets .entry)) p m)) ⌝ }
 {
     let v = sets::writable_at(p);
-    if !words::is_empty(&sets[v]) {
-        return false;
-    }
     let c = sets::readable_at(p);
-    words::is_empty(&sets[c])
+    let j = sets::inquirable_at(p);
+    are_empty(sets, v, c, j)
 }
 
 // Nothing is open.
-fn opens_nothing(sets: &[[u64; WORDS]; 128], p: u8) -> bool
+fn opens_nothing(sets: &[[u64; WORDS]; 192], p: u8) -> bool
     requires { ⌜ ((1 ≤ p) × (p ≤ 32)) × IsStore (now sets) ⌝ }
     ensures { λ r. ⌜ r ≡ eachMode (λ m. isEmpty (openAt (now (sets .entry)) p m)) ⌝ }
 {
     let w = sets::writing_at(p);
-    if !words::is_empty(&sets[w]) {
-        return false;
-    }
     let r = sets::reading_at(p);
-    words::is_empty(&sets[r])
+    let i = sets::inquiring_at(p);
+    are_empty(sets, w, r, i)
 }
 
 // What is said of a program with this standing by itself: absent ones have empty sets, held ones nothing open.
-fn program_sound(sets: &[[u64; WORDS]; 128], p: u8, s: Standing) -> bool
+fn program_sound(sets: &[[u64; WORDS]; 192], p: u8, s: Standing) -> bool
     requires { ⌜ ((1 ≤ p) × (p ≤ 32)) × IsStore (now sets) ⌝ }
     ensures { λ r. ⌜ r ≡ isSoundWith (now (sets .entry)) p s ⌝ }
 {
@@ -102,17 +159,56 @@ fn program_sound(sets: &[[u64; WORDS]; 128], p: u8, s: Standing) -> bool
     }
 }
 
+// Whether a program with this standing may have a record of the file: it runs, or waits for the file.
+fn may_have(s: Standing, f: u8) -> bool
+    ensures { λ r. ⌜ r ≡ standsFor s f ⌝ }
+{
+    match s {
+        Standing::Absent => false,
+        Standing::Running => true,
+        Standing::Waiting(g) => g == f,
+        Standing::Held => false,
+    }
+}
+
+// What is said of the record of p's seat: its file is in I, and p runs or waits for it; without a record there is no file of one.
+fn item_sound(sets: &[[u64; WORDS]; 192], p: u8, seat: Seat) -> bool
+    requires { ⌜ ((1 ≤ p) × (p ≤ 32)) × IsStore (now sets) ⌝ }
+    ensures { λ r. ⌜ r ≡ itemSound (programWith (now (sets .entry)) (p - 1) seat) ⌝ }
+{
+    let f = seat.file;
+    if seat.item == 0 {
+        return f == 0;
+    }
+    let i = sets::inquiring_at(p);
+    if !words::has(&sets[i], f) {
+        return false;
+    }
+    let s = seat.standing;
+    may_have(s, f)
+}
+
+// What is said of p with this seat by itself.
+fn seat_sound(sets: &[[u64; WORDS]; 192], p: u8, seat: Seat) -> bool
+    requires { ⌜ ((1 ≤ p) × (p ≤ 32)) × IsStore (now sets) ⌝ }
+    ensures { λ r. ⌜ r ≡ programSound (programWith (now (sets .entry)) (p - 1) seat) ⌝ }
+{
+    let s = seat.standing;
+    if !program_sound(sets, p, s) {
+        return false;
+    }
+    item_sound(sets, p, seat)
+}
+
 // Each program by itself.
-fn programs_sound(sets: &[[u64; WORDS]; 128], rest: Rest) -> bool
+fn programs_sound(sets: &[[u64; WORDS]; 192], rest: Rest) -> bool
     requires { ⌜ IsStore (now sets) ⌝ }
     ensures { λ r. ⌜ r ≡ all (isSoundAt (boardOf (now (sets .entry)) rest)) everyone ⌝ }
 {
     let mut p: u8 = 1;
     while p <= 32 {
         let i = (p - 1) as usize;
-        let seat = rest.seats[i];
-        let s = seat.standing;
-        if !program_sound(sets, p, s) {
+        if !seat_sound(sets, p, rest.seats[i]) {
             return false;
         }
         p += 1;
@@ -121,21 +217,24 @@ fn programs_sound(sets: &[[u64; WORDS]; 128], rest: Rest) -> bool
 }
 
 // No two different programs conflict: what each has open does not clash with what those before it have.
-fn no_conflict(sets: &[[u64; WORDS]; 128]) -> bool
+fn no_conflict(sets: &[[u64; WORDS]; 192]) -> bool
     requires { ⌜ IsStore (now sets) ⌝ }
     ensures { λ r. ⌜ r ≡ noConflictIn (now (sets .entry)) ⌝ }
 {
     let mut written = [0u64; WORDS];
     let mut read = [0u64; WORDS];
+    let mut inquired = [0u64; WORDS];
     let mut p: u8 = 1;
     while p <= 32 {
         let w = sets::writing_at(p);
         let r = sets::reading_at(p);
-        if modes::touches(&sets[w], &sets[r], &written, &read) {
+        let i = sets::inquiring_at(p);
+        if modes::touches(&sets[w], &sets[r], &sets[i], &written, &read, &inquired) {
             return false;
         }
         words::join(&mut written, &sets[w]);
         words::join(&mut read, &sets[r]);
+        words::join(&mut inquired, &sets[i]);
         p += 1;
     }
     true
@@ -239,12 +338,22 @@ fn line_sound(line: [u8; 32], set: ProgramSet) -> bool
     count_named(line) == n
 }
 
-// The waiter's file is claimed, not open by it, and can't be given now.
-fn waiter_sound(sets: &[[u64; WORDS]; 128], rows: &[u32; 32], uses: Uses, p: u8, f: u8) -> bool
+// The waiter's file is claimed, not open by it, and can't be given now; "covers file waits only": not if it waits for a record n.
+fn waiter_sound(
+    sets: &[[u64; WORDS]; 192],
+    rows: &[u32; 32],
+    uses: Uses,
+    p: u8,
+    f: u8,
+    n: u16,
+) -> bool
     requires { ⌜ ((1 ≤ p) × (p ≤ 32)) × IsStore (now sets) × (hasProgram (uses .admitted) p ≡ true) × (now rows ≡ rowsOf (now sets) (uses .admitted)) ⌝ }
-    ensures { λ r. ⌜ WaiterFor (now (sets .entry)) uses p f r ⌝ }
+    ensures { λ r. ⌜ WaiterFor (now (sets .entry)) uses p f n r ⌝ }
 {
-    if !sets::has_claim(sets, p, f, true) {
+    if n != 0 {
+        return true;
+    }
+    if !sets::has_claim(sets, p, f, 0) {
         return false;
     }
     if sets::has_open(sets, p, f) {
@@ -255,7 +364,7 @@ fn waiter_sound(sets: &[[u64; WORDS]; 128], rows: &[u32; 32], uses: Uses, p: u8,
 
 // All waiters of a line that names waiting programs.
 fn waiters_sound(
-    sets: &[[u64; WORDS]; 128],
+    sets: &[[u64; WORDS]; 192],
     rows: &[u32; 32],
     rest: Rest,
     uses: Uses,
@@ -274,7 +383,7 @@ fn waiters_sound(
         let seat = rest.seats[i];
         let s = seat.standing;
         let f = standings::awaited(s);
-        if !waiter_sound(sets, rows, uses, p, f) {
+        if !waiter_sound(sets, rows, uses, p, f, seat.item) {
             return false;
         }
         k += 1;
@@ -284,7 +393,7 @@ fn waiters_sound(
 
 // The same by who is admitted; what is open is asked only where somebody waits.
 fn line_waiters(
-    sets: &[[u64; WORDS]; 128],
+    sets: &[[u64; WORDS]; 192],
     rows: &[u32; 32],
     rest: Rest,
     admitted: ProgramSet,
@@ -370,9 +479,102 @@ fn counts_sound(rest: Rest) -> bool
     true
 }
 
-// Sets; no conflict; a completion order exists; the two lines; the waiters; the favoured program; the counts.
+// Whether a program with this seat has the record n of f in use.
+fn has_record(seat: Seat, f: u8, n: u16) -> bool
+    ensures { λ r. ⌜ r ≡ usesSeat seat f n ⌝ }
+{
+    if seat.item == 0 {
+        return false;
+    }
+    if seat.file != f {
+        return false;
+    }
+    if seat.item != n {
+        return false;
+    }
+    let s = seat.standing;
+    match s {
+        Standing::Absent => false,
+        Standing::Running => true,
+        Standing::Waiting(_) => false,
+        Standing::Held => false,
+    }
+}
+
+// Whether j, with this seat, is another than p and has the record n of f in use.
+fn other_has(p: u8, j: u8, seat: Seat, f: u8, n: u16) -> bool
+    ensures { λ r. ⌜ r ≡ otherUses p j seat f n ⌝ }
+{
+    if p == j {
+        return false;
+    }
+    has_record(seat, f, n)
+}
+
+// Whether another than p has the record n of f in use.
+fn another_has(rest: Rest, p: u8, f: u8, n: u16) -> bool
+    ensures { λ r. ⌜ r ≡ anotherUses rest p f n ⌝ }
+{
+    let mut j: u8 = 1;
+    while j <= 32 {
+        let i = (j - 1) as usize;
+        if other_has(p, j, rest.seats[i], f, n) {
+            return true;
+        }
+        j += 1;
+    }
+    false
+}
+
+// What a standing says of whether another has the program's record in use: none if it runs, "an awaited record is in use".
+fn record_fits(s: Standing, taken: bool) -> bool
+    ensures { λ r. ⌜ r ≡ recordFits s taken ⌝ }
+{
+    match s {
+        Standing::Absent => true,
+        Standing::Running => !taken,
+        Standing::Waiting(_) => taken,
+        Standing::Held => true,
+    }
+}
+
+// All records: "records in use differ", "an awaited record is in use".
+fn records_sound(rest: Rest) -> bool
+    ensures { λ r. ⌜ r ≡ all (recordAt rest) everyone ⌝ }
+{
+    let mut p: u8 = 1;
+    while p <= 32 {
+        let i = (p - 1) as usize;
+        let seat = rest.seats[i];
+        let n = seat.item;
+        if n == 0 {
+            p += 1;
+            continue;
+        }
+        let f = seat.file;
+        let taken = another_has(rest, p, f, n);
+        let s = seat.standing;
+        if !record_fits(s, taken) {
+            return false;
+        }
+        p += 1;
+    }
+    true
+}
+
+// All counts and all records.
+fn seats_sound(rest: Rest) -> bool
+    ensures { λ r. ⌜ r ≡ (all (countAt rest) everyone && all (recordAt rest) everyone) ⌝ }
+{
+    if !counts_sound(rest) {
+        return false;
+    }
+    records_sound(rest)
+}
+
+// Sets; no conflict; a completion order exists; the two lines; the waiters; the favoured program; the counts; the records.
 fn is_sound_by(
-    sets: &[[u64; WORDS]; 128],
+    sets: &[[u64; WORDS]; 192],
     rows: &[u32; 32],
     rest: Rest,
     admitted: ProgramSet,
@@ -406,11 +608,11 @@ fn is_sound_by(
     if !favour_sound(rest, waiters, held, admitted) {
         return false;
     }
-    counts_sound(rest)
+    seats_sound(rest)
 }
 
 // Whether the board is sound, and its carried order.
-pub fn judge(sets: &[[u64; WORDS]; 128], rest: Rest) -> Judged
+pub fn judge(sets: &[[u64; WORDS]; 192], rest: Rest) -> Judged
     requires { ⌜ IsStore (now sets) ⌝ }
     ensures { λ r. ⌜ (r .sound ≡ sound (boardOf (now (sets .entry)) rest)) × (r .order ≡ asOrder (carried (boardOf (now (sets .entry)) rest))) ⌝ }
 {
@@ -426,7 +628,7 @@ pub fn judge(sets: &[[u64; WORDS]; 128], rest: Rest) -> Judged
 }
 
 // Whether the board is sound.
-pub fn is_sound(sets: &[[u64; WORDS]; 128], rest: Rest) -> bool
+pub fn is_sound(sets: &[[u64; WORDS]; 192], rest: Rest) -> bool
     requires { ⌜ IsStore (now sets) ⌝ }
     ensures { λ r. ⌜ r ≡ sound (boardOf (now (sets .entry)) rest) ⌝ }
 {

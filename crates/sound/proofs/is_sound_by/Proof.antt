@@ -1,5 +1,5 @@
 -- `is_sound_by` meets its contract. Assumes nothing.
-use mathlib.Core.Path.{_≡_, sym, ap, _∙_}
+use mathlib.Core.Path.{_≡_, sym, ap, ap₂, _∙_}
 use mathlib.Core.Bool.{Bool, true, false, cond, _&&_}
 use lib.Dec.{eqb}
 use borrow.Author.Tests.{not-true, not-false}
@@ -9,17 +9,19 @@ use Rattle.rules.specs.declared.Board.{Board}
 use Rattle.laws.specs.Lists.{all, names, found}
 use Rattle.rules.specs.Boards.{everyone}
 use Rattle.rules.specs.Orders.{carried}
-use Rattle.rules.specs.Soundness.{noConflict, lineSound, noneFavoured, someFavoured, sound}
+use Rattle.rules.specs.Soundness.{noConflict, lineSound, noneFavoured, someFavoured, countSound, usesDiffer, awaitedInUse, sound}
 use Rattle.store.specs.Sets.{SetsOf}
 use Rattle.store.specs.Store.{boardOf}
 use Rattle.store.proofs.Boards.{board-sets}
 use Rattle.tables.specs.declared.ProgramSet.{ProgramSet}
 use Rattle.tables.specs.ProgramSets.{hasProgram}
 use Rattle.search.specs.Gives.{usesIn}
-use Rattle.sound.specs.Parts.{isSoundAt, standsAt, waiterAt}
+use Rattle.sound.specs.Parts.{isSoundAt, standsAt, waiterAt, countAt, recordAt}
 use Rattle.sound.proofs.Laws.{line-waiters as named-waiters}
 use Rattle.sound.proofs.Taken.{line-packed}
 use Rattle.sound.proofs.Seats.{counts-are}
+use Rattle.sound.proofs.Blank.{and-assoc}
+use Rattle.sound.proofs.Records.{records-are}
 use Rattle.sound.proofs.Conflicts.{no-conflict-is}
 use Rattle.sound.proofs.is_sound_by.Statement.{statement}
 use Rattle.sound.proofs.is_sound_by.Tie as tie
@@ -194,11 +196,17 @@ unfolding sound
 returns-7 c = let f = c .before in
     rw (past6 (f .before), sym (favours f) ∙ not-true (f .favour-sound .result) (c .if7 .taken))
 
+-- the counts and the records, by the seats
+seats : (c : tie.Else6) (r : Bool) → let s = s6 c in r ≡ (all (countAt (s .args .rest)) everyone && all (recordAt (s .args .rest)) everyone)
+    → r ≡ (all (countSound (b6 c)) everyone && usesDiffer (b6 c) && awaitedInUse (b6 c))
+seats c r e = let s = s6 c in e ∙ ap₂ _&&_ (counts-are (s .args .sets .now) (s .args .rest)) (records-are (s .args .sets .now) (s .args .rest))
+    ∙ sym (and-assoc (all (countSound (b6 c)) everyone) (usesDiffer (b6 c)) (awaitedInUse (b6 c)))
+
 returns-8 : tie.Need-returns-8
 unfolding sound
 returns-8 c = let i = c .before in let f = i .before in
     rw (past6 (f .before), sym (favours f) ∙ not-false (f .favour-sound .result) (i .if7 .left))
-    (c .counts-sound .ensures ∙ counts-are (s6 (f .before) .args .sets .now) (s6 (f .before) .args .rest))
+    (seats (c .before .before .before) _ (c .seats-sound .ensures))
 
 pub is-sound-by-spec : {M : Type 1} → statement M
 is-sound-by-spec =

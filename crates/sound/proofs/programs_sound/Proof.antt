@@ -31,14 +31,14 @@ abbrev board : tie.Start Inv-loop μ-loop → Board
 board s = boardOf (s .args .sets .now) (s .args .t2)
 
 -- whether p is sound by itself
-judged : (c : tie.After-program-sound Inv-loop μ-loop) → let l = c .before .before .before in
-    c .program-sound .result ≡ isSoundAt (board (l .before)) (l .loop .p)
+judged : (c : tie.After-seat-sound Inv-loop μ-loop) → let l = c .before .before .before in
+    c .seat-sound .result ≡ isSoundAt (board (l .before)) (l .loop .p)
 judged c = let l = c .before .before .before in let a = l .before .args in let h = c .before .before .loop-test .taken in
-    c .program-sound .ensures ∙ sound-with (a .sets .now) (a .t2) (l .loop .p) (l .loop .inv .0) (omega arith)
+    c .seat-sound .ensures ∙ sound-with (a .sets .now) (a .t2) (l .loop .p) (l .loop .inv .0) (omega arith)
 
 returns : tie.Need-returns Inv-loop μ-loop
 returns c = let l = c .before .before .before .before .loop in let b = board (c .before .before .before .before .before) in
-    sym (rw (sym (judged (c .before)) ∙ not-true (c .before .program-sound .result) (c .if1 .taken)) at
+    sym (rw (sym (judged (c .before)) ∙ not-true (c .before .seat-sound .result) (c .if1 .taken)) at
     (l .inv .2 ∙ all-step (isSoundAt b) (l .p) (omega arith)))
 
 loop-again : tie.Need-loop-again Inv-loop μ-loop
@@ -46,7 +46,7 @@ loop-again c = let l = c .before .before .before .before .loop in let b = board 
   search needs,
   search needs,
   rw (add-one (l .p)) (rw (sym (judged (c .before))
-      ∙ not-false (c .before .program-sound .result) (c .if1 .left)) at (l .inv .2 ∙ all-step (isSoundAt b) (l .p) (omega arith))),
+      ∙ not-false (c .before .seat-sound .result) (c .if1 .left)) at (l .inv .2 ∙ all-step (isSoundAt b) (l .p) (omega arith))),
 )
 
 returns-2 : tie.Need-returns-2 Inv-loop μ-loop

@@ -65,9 +65,11 @@ reached w = w .before .before .before .before
 judged : (w : tie.After-waiter-sound Inv-loop μ-loop) → let e = reached w in
     w .waiter-sound .result ≡ waiterAt (board (start e)) (getD (start e .args .t5) (at e .loop .k) 0)
 judged w = let e = reached w in let a = start e .args in let b = board (start e) in let p = getD (a .t5) (at e .loop .k) 0 in
-    let i = w .before .before .before in w .waiter-sound .ensures b (start e .pre .0) (named e .1)
+    let i = w .before .before .before in
+    let q = board-at (a .sets .now) (a .t3) p (named e .0 .0) (named e .0 .1) in w .waiter-sound .ensures b (start e .pre .0) (named e .1)
+    (ap (λ (q : Program). q .item) q ∙ ap (λ (j : ℕ). getD (a .t3 .seats) j noSeat .item) (sym (i .place-of .ensures .0)))
     ∙ ap (waiterSound b p) (w .before .awaited .ensures ∙ ap (λ (j : ℕ). awaitedOf (getD (a .t3 .seats) j noSeat .standing)) (i .place-of .ensures .0)
-    ∙ ap (λ (q : Program). awaitedOf (q .standing)) (sym (board-at (a .sets .now) (a .t3) p (named e .0 .0) (named e .0 .1))))
+    ∙ ap (λ (q : Program). awaitedOf (q .standing)) (sym q))
 
 returns-2 : tie.Need-returns-2 Inv-loop μ-loop
 returns-2 c = let w = c .before in let e = reached w in let l = at e .loop in let a = start e .args in
