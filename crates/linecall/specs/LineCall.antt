@@ -22,7 +22,7 @@ use Rattle.journal.specs.Journal.{journalLine, journalRoom, written}
 abbrev pub highestPlace : ℕ
 highestPlace = 1000000000
 
--- check 2: "journal place above 1,000,000,000, or place + 512 above the buffer's length"
+-- check 2: "journal place above 1,000,000,000, or place + 512 above the buffer's length"; "the 512 of check 2 becomes 672"
 abbrev pub journalFull : ℕ → ℕ → Bool
 journalFull room place = ltb highestPlace place || ltb room (place + journalRoom)
 
@@ -34,13 +34,14 @@ replyBy b (Reading.Refused r) c = refuse b r
 unfoldable pub replyTo : Board → Request → Reply
 replyTo b q = replyBy b (q .reading) (requestCall q)
 
--- the numbers of the call are bytes, as a journal line has them
+-- the numbers of the call fit a journal line's
 abbrev pub FitsLine : Request → Type 0
-FitsLine q = (q .asked .program ≤ 255) × (q .asked .file ≤ 255)
+FitsLine q = (q .asked .program ≤ 255) × (q .asked .file ≤ 255) × (q .asked .item ≤ 65535)
 
--- the REFUSE line: the program and the file of the line; "Refusals 3 to 7 have program and file 0", as a refused line has
+-- the REFUSE line: the program, the file and the record of the line; "Refusals 3 to 7 have program and file 0", and "the record of the call ..,
+-- 0 in refusals 3 to 7", as a refused line has
 abbrev pub refuseLine : Request → ℕ → Line
-refuseLine q n = record { word = Word.Refuse; program = q .asked .program; file = q .asked .file; refusal = n }
+refuseLine q n = record { word = Word.Refuse; program = q .asked .program; file = q .asked .file; refusal = n; item = q .asked .item }
 
 -- the journal lines of a reply: its own, or one REFUSE line
 unfoldable pub linesFor : Request → Reply → List Line

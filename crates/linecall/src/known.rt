@@ -49,16 +49,17 @@ fn refuse_line(q: Request, n: u8) -> Line
 {
     Line {
         word: Word::Refuse,
-        program: q.asked.program as u8,
-        file: q.asked.file as u8,
-        refusal: n,
+        program: q.asked.program as u16,
+        file: q.asked.file as u16,
+        refusal: n as u16,
+        item: q.asked.item as u16,
     }
 }
 
 // Writes a call's lines into the journal from the place on, and gives the new place.
 fn write_lines(
-    sets: &[[u64; WORDS]; 128],
-    lines: &[[u8; 4]; 32],
+    sets: &[[u64; WORDS]; 192],
+    lines: &[[u16; 5]; 32],
     journal: &mut [u8],
     place: usize,
     q: Request,
@@ -83,9 +84,9 @@ fn write_lines(
 
 // The direct call that a taken line asks for.
 fn call(
-    sets: &mut [[u64; WORDS]; 128],
+    sets: &mut [[u64; WORDS]; 192],
     rest: Rest,
-    lines: &mut [[u8; 4]; 32],
+    lines: &mut [[u16; 5]; 32],
     q: Request,
 ) -> Changed
     requires { ⌜ (sound (boardOf (now sets) rest) ≡ true) × IsStore (now sets) × (now lines ≡ noEntries) ⌝ }
@@ -98,9 +99,9 @@ fn call(
 
 // What a line comes to: its direct call, or a refusal.
 fn reply_to(
-    sets: &mut [[u64; WORDS]; 128],
+    sets: &mut [[u64; WORDS]; 192],
     rest: Rest,
-    lines: &mut [[u8; 4]; 32],
+    lines: &mut [[u16; 5]; 32],
     q: Request,
 ) -> Changed
     requires { ⌜ (sound (boardOf (now sets) rest) ≡ true) × IsStore (now sets) × (now lines ≡ noEntries) ⌝ }
@@ -116,9 +117,9 @@ fn reply_to(
 
 // The line call on a sound board, but for the order of its reply.
 pub fn line(
-    sets: &mut [[u64; WORDS]; 128],
+    sets: &mut [[u64; WORDS]; 192],
     rest: Rest,
-    lines: &mut [[u8; 4]; 32],
+    lines: &mut [[u16; 5]; 32],
     line: &[u8],
     journal: &mut [u8],
     place: u64,

@@ -27,7 +27,7 @@ pub fn line_call(b: Board, line: &[u8], journal: &mut [u8], place: u64) -> Poste
     ensures { λ r. ⌜ now (journal .exit) ≡ lineCall b (now (line .entry)) (now (journal .entry)) place .journal ⌝ }
     ensures { λ r. ⌜ mayCarry b (requestCall (requestOf (now (line .entry)))) (r .reply .answer) (named (r .carries)) ≡ true ⌝ }
 {
-    let mut sets = [[0u64; WORDS]; 128];
+    let mut sets = [[0u64; WORDS]; 192];
     let rest = store::sets::take(b, &mut sets);
     let j = sound::judge(&sets, rest);
     if !j.sound {
@@ -38,7 +38,7 @@ pub fn line_call(b: Board, line: &[u8], journal: &mut [u8], place: u64) -> Poste
             carries: Loop::NONE,
         };
     }
-    let mut lines = [[0u8; 4]; 32];
+    let mut lines = [[0u16; 5]; 32];
     let s = known::line(&mut sets, rest, &mut lines, line, journal, place);
     let order = j.order;
     let reply = reply::complete(&sets, &lines, s.changed, order);
