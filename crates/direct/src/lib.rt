@@ -1,4 +1,4 @@
-// The six direct calls, each with the board by value: check 1, then the rules; an UNSAFE answer carries a loop.
+// The eight direct calls, each with the board by value: check 1, then the rules; an UNSAFE answer carries a loop.
 use digraph::Loop;
 use files::FileSet;
 use files::WORDS;
@@ -11,7 +11,7 @@ ghost use mathlib.Core.Bool.{true};
 ghost use Rattle.files.specs.Sets.{noFiles};
 ghost use Rattle.rules.specs.Digraph.{mayCarry};
 ghost use Rattle.digraph.specs.Loops.{named};
-ghost use Rattle.rules.specs.Calls.{direct, callOf, callWith, Enter, Open, Close, Drop, Leave, Cancel};
+ghost use Rattle.rules.specs.Calls.{direct, callOf, callWith, Enter, Open, Close, Drop, Leave, Cancel, Fetch, Return};
 
 // What a direct call gives back: the reply, and the loop that its answer carries, none unless UNSAFE.
 pub struct Answered {
@@ -23,13 +23,13 @@ pub struct Answered {
 fn reply_to(b: Board, a: Asked) -> Reply
     ensures { λ r. ⌜ r ≡ direct b (callOf a) ⌝ }
 {
-    let mut sets = [[0u64; WORDS]; 128];
+    let mut sets = [[0u64; WORDS]; 192];
     let rest = store::sets::take(b, &mut sets);
     let j = sound::judge(&sets, rest);
     if !j.sound {
         return reply::refused_unsound(b);
     }
-    let mut lines = [[0u8; 4]; 32];
+    let mut lines = [[0u16; 5]; 32];
     let changed = apply::call(&mut sets, rest, &mut lines, a);
     let order = j.order;
     reply::complete(&sets, &lines, changed, order)
@@ -46,9 +46,15 @@ pub fn call(b: Board, a: Asked) -> Answered
 }
 
 // A program enters with its claims.
-pub fn enter(b: Board, program: u64, writable: FileSet, readable: FileSet) -> Answered
-    ensures { λ r. ⌜ r .reply ≡ direct b (Enter program writable readable) ⌝ }
-    ensures { λ r. ⌜ mayCarry b (Enter program writable readable) (r .reply .answer) (named (r .carries)) ≡ true ⌝ }
+pub fn enter(
+    b: Board,
+    program: u64,
+    writable: FileSet,
+    readable: FileSet,
+    inquirable: FileSet,
+) -> Answered
+    ensures { λ r. ⌜ r .reply ≡ direct b (Enter program writable readable inquirable) ⌝ }
+    ensures { λ r. ⌜ mayCarry b (Enter program writable readable inquirable) (r .reply .answer) (named (r .carries)) ≡ true ⌝ }
 {
     call(
         b,
@@ -56,16 +62,18 @@ pub fn enter(b: Board, program: u64, writable: FileSet, readable: FileSet) -> An
             verb: Verb::Enter,
             program: program,
             file: 0,
+            item: 0,
             writable: writable,
             readable: readable,
+            inquirable: inquirable,
         },
     )
 }
 
-// A call of a program and a file.
-fn call_file(b: Board, verb: Verb, program: u64, file: u64) -> Answered
-    ensures { λ r. ⌜ r .reply ≡ direct b (callWith verb program file noFiles noFiles) ⌝ }
-    ensures { λ r. ⌜ mayCarry b (callWith verb program file noFiles noFiles) (r .reply .answer) (named (r .carries)) ≡ true ⌝ }
+// A call of a program, a file and a record.
+fn call_file(b: Board, verb: Verb, program: u64, file: u64, item: u64) -> Answered
+    ensures { λ r. ⌜ r .reply ≡ direct b (callWith verb program file item noFiles noFiles noFiles) ⌝ }
+    ensures { λ r. ⌜ mayCarry b (callWith verb program file item noFiles noFiles noFiles) (r .reply .answer) (named (r .carries)) ≡ true ⌝ }
 {
     let none = FileSet::EMPTY;
     call(
@@ -74,8 +82,10 @@ fn call_file(b: Board, verb: Verb, program: u64, file: u64) -> Answered
             verb: verb,
             program: program,
             file: file,
+            item: item,
             writable: none,
             readable: none,
+            inquirable: none,
         },
     )
 }
@@ -85,7 +95,7 @@ pub fn open(b: Board, program: u64, file: u64) -> Answered
     ensures { λ r. ⌜ r .reply ≡ direct b (Open program file) ⌝ }
     ensures { λ r. ⌜ mayCarry b (Open program file) (r .reply .answer) (named (r .carries)) ≡ true ⌝ }
 {
-    call_file(b, Verb::Open, program, file)
+    call_file(b, Verb::Open, program, file, 0)
 }
 
 // A program closes a file.
@@ -93,7 +103,7 @@ pub fn close(b: Board, program: u64, file: u64) -> Answered
     ensures { λ r. ⌜ r .reply ≡ direct b (Close program file) ⌝ }
     ensures { λ r. ⌜ mayCarry b (Close program file) (r .reply .answer) (named (r .carries)) ≡ true ⌝ }
 {
-    call_file(b, Verb::Close, program, file)
+    call_file(b, Verb::Close, program, file, 0)
 }
 
 // A program drops a file from its claim.
@@ -101,7 +111,7 @@ pub fn drop(b: Board, program: u64, file: u64) -> Answered
     ensures { λ r. ⌜ r .reply ≡ direct b (Drop program file) ⌝ }
     ensures { λ r. ⌜ mayCarry b (Drop program file) (r .reply .answer) (named (r .carries)) ≡ true ⌝ }
 {
-    call_file(b, Verb::Drop, program, file)
+    call_file(b, Verb::Drop, program, file, 0)
 }
 
 // A program leaves.
@@ -109,7 +119,7 @@ pub fn leave(b: Board, program: u64) -> Answered
     ensures { λ r. ⌜ r .reply ≡ direct b (Leave program) ⌝ }
     ensures { λ r. ⌜ mayCarry b (Leave program) (r .reply .answer) (named (r .carries)) ≡ true ⌝ }
 {
-    call_file(b, Verb::Leave, program, 0)
+    call_file(b, Verb::Leave, program, 0, 0)
 }
 
 // A program that waits or is held is removed.
@@ -117,5 +127,21 @@ pub fn cancel(b: Board, program: u64) -> Answered
     ensures { λ r. ⌜ r .reply ≡ direct b (Cancel program) ⌝ }
     ensures { λ r. ⌜ mayCarry b (Cancel program) (r .reply .answer) (named (r .carries)) ≡ true ⌝ }
 {
-    call_file(b, Verb::Cancel, program, 0)
+    call_file(b, Verb::Cancel, program, 0, 0)
+}
+
+// A program fetches a record of a file that it has open for inquiry.
+pub fn fetch(b: Board, program: u64, file: u64, item: u64) -> Answered
+    ensures { λ r. ⌜ r .reply ≡ direct b (Fetch program file item) ⌝ }
+    ensures { λ r. ⌜ mayCarry b (Fetch program file item) (r .reply .answer) (named (r .carries)) ≡ true ⌝ }
+{
+    call_file(b, Verb::Fetch, program, file, item)
+}
+
+// A program returns the record that it has in use.
+pub fn return_item(b: Board, program: u64) -> Answered
+    ensures { λ r. ⌜ r .reply ≡ direct b (Return program) ⌝ }
+    ensures { λ r. ⌜ mayCarry b (Return program) (r .reply .answer) (named (r .carries)) ≡ true ⌝ }
+{
+    call_file(b, Verb::Return, program, 0, 0)
 }
