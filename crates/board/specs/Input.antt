@@ -67,7 +67,7 @@ flushed s = held (s .board) (s .line) []
 unfoldable pub served : Fed → Fed
 served s = held (boardAfter (s .board) (s .line)) [] (s .journal ++ bytesAfter (s .board) (s .line))
 
--- one byte; "A line over 407 bytes is handed on as its first 408."
+-- one byte; "The longest line has 602 bytes; a longer one is cut to 603."
 unfoldable pub feed : Fed → ℕ → Fed
 feed s x = cond (eqb x 10) (served s) (held (s .board) (take cutLine (s .line ++ (x ∷ []))) (s .journal))
 
