@@ -15,9 +15,9 @@ use Rattle.rules.specs.declared.Answer.{Answer}
 use Rattle.rules.specs.declared.Word.{Word}
 use Rattle.rules.specs.declared.Line.{Line}
 use Rattle.rules.specs.declared.Reply.{Reply}
-use Rattle.rules.specs.Settling.{line}
+use Rattle.rules.specs.Settling.{lineOf}
 use Rattle.rules.specs.Replies.{refusalOf, refused, wordOf, refuse, reply, settlingLines}
-use Rattle.rules.specs.Calls.{Call, Enter, Open, Close, Drop, Leave, Cancel, programOf, fileOf, direct}
+use Rattle.rules.specs.Calls.{Call, Enter, Open, Close, Drop, Leave, Cancel, Fetch, Return, programOf, fileOf, itemOf, direct}
 use Rattle.theory.specs.Answers.{answer-first}
 use Rattle.reply.proofs.Laws.{refused-by}
 use Rattle.request.specs.declared.Reading.{Reading}
@@ -64,25 +64,40 @@ number-word (Answer.Refuse r) h = refl
 
 -- ---- the first line
 
--- the program and the file of the line that asks for a call
+-- the program, the file and the record of the line that asks for a call
 says-program : (c : Call) → saying c .asked .program ≡ programOf c
-says-program (Enter p v q) = refl
+says-program (Enter p v q j) = refl
 says-program (Open p f) = refl
 says-program (Close p f) = refl
 says-program (Drop p f) = refl
 says-program (Leave p) = refl
 says-program (Cancel p) = refl
+says-program (Fetch p f r) = refl
+says-program (Return p) = refl
 
 says-file : (c : Call) → saying c .asked .file ≡ fileOf c
-says-file (Enter p v q) = refl
+says-file (Enter p v q j) = refl
 says-file (Open p f) = refl
 says-file (Close p f) = refl
 says-file (Drop p f) = refl
 says-file (Leave p) = refl
 says-file (Cancel p) = refl
+says-file (Fetch p f r) = refl
+says-file (Return p) = refl
 
-line-same : (q : Request) (c : Call) (a : Answer) → q ≡ saying c → refusalOf a ≡ 0 → line (wordOf a) (programOf c) (fileOf c) ≡ answerLine q a
-line-same q c a e z = rw (e, z, says-program c, says-file c)
+says-item : (c : Call) → saying c .asked .item ≡ itemOf c
+says-item (Enter p v q j) = refl
+says-item (Open p f) = refl
+says-item (Close p f) = refl
+says-item (Drop p f) = refl
+says-item (Leave p) = refl
+says-item (Cancel p) = refl
+says-item (Fetch p f r) = refl
+says-item (Return p) = refl
+
+line-same : (q : Request) (c : Call) (a : Answer) → q ≡ saying c → refusalOf a ≡ 0
+    → lineOf (wordOf a) (programOf c) (fileOf c) (itemOf c) ≡ answerLine q a
+line-same q c a e z = rw (e, z, says-program c, says-file c, says-item c)
 
 taken-first : (b : Board) (q : Request) (c : Call) → q ≡ saying c → eqb (refusalOf (direct b c .answer)) 0 ≡ true
     → linesFor q (direct b c) ≡ answerLine q (direct b c .answer) ∷ settlingLines (direct b c)
@@ -94,7 +109,7 @@ taken-first b q c e z =
 refused-first : (q : Request) (r : Reply) → eqb (refusalOf (r .answer)) 0 ≡ false → linesFor q r ≡ answerLine q (r .answer) ∷ []
 refused-first q r z =
     refused-lines q r (eqb-false (refusalOf (r .answer)) 0 z)
-    ∙ ap (λ (w : Word). record { word = w; program = q .asked .program; file = q .asked .file; refusal = refusalOf (r .answer) } ∷ [])
+    ∙ ap (λ (w : Word). record { word = w; program = q .asked .program; file = q .asked .file; refusal = refusalOf (r .answer); item = q .asked .item } ∷ [])
     (number-word (r .answer) z)
 
 -- what a request line is answered begins with the line of its answer

@@ -50,7 +50,7 @@ module _ (image buffer : List ℕ) (k : Loaded) (e : k ≡ readImage image) wher
 pub loop-placed : (b : Board) (p : ℕ) (l : Loop) (before after : List ℕ) (answer : ℕ) → LoopOfWaiter b p l → length (l .at) ≡ 32 → 32 ≤ length before
     → answer ≡ placedAnswer (named l) before → after ≡ placedIn (named l) before → LoopPlaced b p before answer after
 loop-placed b p l before after answer h n r ea eb = record {
-  waits = λ w. (named l, h .is-loop w, ea ∙ rw short, eb ∙ rw short);
+  waits = λ w i. (named l, h .is-loop w i, ea ∙ rw short, eb ∙ rw short);
   waits-not = λ w. let z = h .is-none w in (ea ∙ rw (short, z), eb ∙ rw (short, z));
 }
   where

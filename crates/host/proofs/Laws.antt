@@ -54,6 +54,9 @@ number-some Refusal.NotClaimed = refl
 number-some Refusal.IsOpen = refl
 number-some Refusal.NotOpen = refl
 number-some Refusal.IsRunning = refl
+number-some Refusal.BadRecord = refl
+number-some Refusal.NoRecord = refl
+number-some Refusal.HasRecord = refl
 
 -- ---- reading an image, check by check
 

@@ -113,7 +113,7 @@ empty-out c h = ap (λ (q : Reply). refusalOf (q .answer)) (direct-is-apply empt
 
 pub direct-out-of-range : DirectOutOfRange
 unfolding leaveCheck enterCheck openCheck
-direct-out-of-range = (empty-out (Leave 0) refl, empty-out (Enter 33 noFiles noFiles) refl, empty-out (Open 1 65) refl)
+direct-out-of-range = (empty-out (Leave 0) refl, empty-out (Enter 33 noFiles noFiles noFiles) refl, empty-out (Open 1 65) refl)
 
 -- ══ The journal ══
 
@@ -168,7 +168,7 @@ order-carried b line journal place s =
 -- ══ The image ══
 
 pub reads-back : ReadsBack
-reads-back b f s = image-sound (imageOf b) (record { ok = true; board = b }) (sym (loaded-back b f)) refl s
+reads-back b f s = image-sound (imageOf b) (record { ok = true; board = b }) (sym (loaded-back b f s)) refl s
 
 pub accepted-is-written : AcceptedIsWritten
 accepted-is-written image y h =

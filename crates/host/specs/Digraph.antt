@@ -2,7 +2,7 @@
 -- Assumes nothing.
 use Prim.Native.Nat.{ℕ}
 use mathlib.Core.Path.{_≡_}
-use mathlib.Core.Logic.{_≢_}
+use mathlib.Core.Logic.{_≢_, _⊎_}
 use mathlib.Core.Bool.{true, false, cond}
 use mathlib.Core.List.{List, _++_}
 use lib.Dec.{ltb}
@@ -33,12 +33,12 @@ reachRows image buffer =
 
 -- ---- a waiter's loop
 
--- what a list of 32 bytes or more then holds: for a program that waits a loop with its file given, any one, from its start on, and the answer is
--- how many programs it has; for one that doesn't wait nothing is written, and the answer is 0
+-- what a list of 32 bytes or more then holds: for a program that waits for a file a loop with it given, any one, from its start on, and the answer is
+-- how many programs it has; for one that doesn't wait, or waits for a record, nothing is written, and the answer is 0
 pub record LoopPlaced (b : Board) (p : ℕ) (before : List ℕ) (answer : ℕ) (after : List ℕ) : Type 0 where
-  pub waits : isWaiting (at b p .standing) ≡ true
+  pub waits : isWaiting (at b p .standing) ≡ true → at b p .item ≡ 0
       → (L : List ℕ) × (isLoopWith b p (awaited b p) L ≡ true) × (answer ≡ length L) × (after ≡ L ++ drop (length L) before)
-  pub waits-not : isWaiting (at b p .standing) ≡ false → (answer ≡ 0) × (after ≡ before)
+  pub waits-not : (isWaiting (at b p .standing) ≡ false) ⊎ (at b p .item ≢ 0) → (answer ≡ 0) × (after ≡ before)
 
 -- refusal 1 for an image that isn't read, then 8 for a number that is no program's, then 17 for a list of fewer than 32 bytes; 0 for none
 unfoldable pub loopRefusal : List ℕ → ℕ → List ℕ → ℕ

@@ -20,7 +20,7 @@ use Rattle.linecall.specs.LineCall.{Outcome, lineCall}
 
 -- ---- reading an image
 
--- check 1 of an image: "board not sound", or image not 1,187 bytes "or not of its layout"
+-- check 1 of an image: "board not sound", or image not 1,827 bytes "or not of its layout"
 abbrev pub soundOnly : Loaded → Loaded
 soundOnly k = cond (k .ok) (cond (sound (k .board)) k refusedImage) refusedImage
 
@@ -68,7 +68,7 @@ hostCall image line journal place =
 
 -- ---- an image to begin with
 
--- the image of the empty board is written into a buffer of 1,187 bytes; one of another length stays as it was
+-- the image of the empty board is written into a buffer of 1,827 bytes; one of another length stays as it was
 abbrev pub emptyImage : List ℕ → List ℕ
 emptyImage image = imageIn image emptyBoard
 

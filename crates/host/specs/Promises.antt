@@ -62,14 +62,14 @@ LineNeverOutOfRange = (b : Board) (line journal : List ℕ) (place : ℕ) → re
 -- .. and direct calls do meet it, on the empty board too: program 0, program 33, file 65
 abbrev pub DirectOutOfRange : Type 0
 DirectOutOfRange = (refusalOf (direct emptyBoard (Leave 0) .answer) ≡ 8)
-    × (refusalOf (direct emptyBoard (Enter 33 noFiles noFiles) .answer) ≡ 8)
+    × (refusalOf (direct emptyBoard (Enter 33 noFiles noFiles noFiles) .answer) ≡ 8)
     × (refusalOf (direct emptyBoard (Open 1 65) .answer) ≡ 8)
 
 -- ══ The journal ══
 
--- the line of an answer: its word, the program and the file of the request line, and the number of the refusal, 0 where none
+-- the line of an answer: its word, the program, the file and the record of the request line, and the number of the refusal, 0 where none
 abbrev pub answerLine : Request → Answer → Line
-answerLine q a = record { word = wordOf a; program = q .asked .program; file = q .asked .file; refusal = refusalOf a }
+answerLine q a = record { word = wordOf a; program = q .asked .program; file = q .asked .file; refusal = refusalOf a; item = q .asked .item }
 
 -- "The answer comes first", REFUSE too: the first of the lines that a call writes
 abbrev pub AnswerWrittenFirst : Type 0

@@ -63,7 +63,7 @@ pub extern "C" fn lock_board_reach(image: &[u8], rows: &mut [u8]) -> u64
     128
 }
 
-// Writes a loop with the file given that p waits for from the list's start, and answers how many programs it has; 0 if p doesn't wait.
+// Writes a loop with the file given that p waits for from the list's start, and answers how many programs it has; 0 if p doesn't wait for a file.
 fn put_loop(b: Board, p: u8, list: &mut [u8]) -> u64
     requires { ⌜ ((1 ≤ p) × (p ≤ 32)) × (sound b ≡ true) × (32 ≤ length (now list)) ⌝ }
     ensures { λ r. ⌜ LoopPlaced b p (now (list .entry)) r (now (list .exit)) ⌝ }
@@ -74,7 +74,7 @@ fn put_loop(b: Board, p: u8, list: &mut [u8]) -> u64
 }
 
 // A loop for a program that waits, with the file given that it waits for, for a C host: its program numbers from the list's start,
-// and how many they are; 0 for a program that doesn't wait. The bytes after them keep their contents. Refusals 1, 8 and 17 write nothing.
+// and how many they are; 0 for a program that doesn't wait, or waits for a record. The bytes after them keep their contents. Refusals 1, 8 and 17 write nothing.
 #[no_mangle]
 pub extern "C" fn lock_board_loop(image: &[u8], program: u64, list: &mut [u8]) -> u64
     ensures { λ r. ⌜ LoopReply (now (image .entry)) program (now (list .entry)) r (now (list .exit)) ⌝ }

@@ -17,7 +17,7 @@ pub mod digraphs;
 mod writing;
 
 // The board of an image, into the sets and the rest; an image that is not of its layout, or whose board is not sound, is refused.
-fn take_image(image: &[u8], sets: &mut [[u64; WORDS]; 128]) -> LoadedRest
+fn take_image(image: &[u8], sets: &mut [[u64; WORDS]; 192]) -> LoadedRest
     requires { ⌜ now sets ≡ emptySets ⌝ }
     ensures { λ r. ⌜ takenIn (now (sets .exit)) r ≡ readImage (now (image .entry)) ⌝ }
     ensures { λ _. ⌜ IsStore (now (sets .exit)) ⌝ }
@@ -36,7 +36,7 @@ fn take_image(image: &[u8], sets: &mut [[u64; WORDS]; 128]) -> LoadedRest
 pub fn read_image(image: &[u8]) -> Loaded
     ensures { λ r. ⌜ r ≡ readImage (now (image .entry)) ⌝ }
 {
-    let mut sets = [[0u64; WORDS]; 128];
+    let mut sets = [[0u64; WORDS]; 192];
     let taken = take_image(image, &mut sets);
     let ok = taken.ok;
     if !ok {
@@ -81,14 +81,14 @@ pub extern "C" fn lock_board_line(
     ensures { λ r. ⌜ now (image .exit) ≡ hostCall (now (image .entry)) (now (line .entry)) (now (journal .entry)) place .image ⌝ }
     ensures { λ r. ⌜ now (journal .exit) ≡ hostCall (now (image .entry)) (now (line .entry)) (now (journal .entry)) place .journal ⌝ }
 {
-    let mut sets = [[0u64; WORDS]; 128];
+    let mut sets = [[0u64; WORDS]; 192];
     let taken = take_image(image, &mut sets);
     let ok = taken.ok;
     if !ok {
         return answer_for(1, place);
     }
     let rest = taken.rest;
-    let mut lines = [[0u8; 4]; 32];
+    let mut lines = [[0u16; 5]; 32];
     let served = linecall::known::line(&mut sets, rest, &mut lines, line, journal, place);
     let changed = served.changed;
     let answer = changed.answer;
@@ -103,13 +103,13 @@ pub extern "C" fn lock_board_line(
 }
 
 // Fills a C host's image with the empty board, so that the host need not know the layout; the answer is 0.
-// An image that hasn't 1,187 bytes stays as it was; the answer is then the largest number.
+// An image that hasn't 1,827 bytes stays as it was; the answer is then the largest number.
 #[no_mangle]
 pub extern "C" fn lock_board_empty(image: &mut [u8]) -> u64
     ensures { λ r. ⌜ r ≡ emptyAnswer (now (image .entry)) ⌝ }
     ensures { λ r. ⌜ now (image .exit) ≡ emptyImage (now (image .entry)) ⌝ }
 {
-    let sets = [[0u64; WORDS]; 128];
+    let sets = [[0u64; WORDS]; 192];
     let rest = Rest::EMPTY;
     if image::put_image_of(image, &sets, rest) {
         return 0;
@@ -137,7 +137,7 @@ pub extern "C" fn lock_board_order(image: &[u8], order: &mut [u8]) -> u64
     ensures { λ r. ⌜ r ≡ orderAnswer (now (image .entry)) (now (order .entry)) ⌝ }
     ensures { λ r. ⌜ now (order .exit) ≡ orderBuffer (now (image .entry)) (now (order .entry)) ⌝ }
 {
-    let mut sets = [[0u64; WORDS]; 128];
+    let mut sets = [[0u64; WORDS]; 192];
     let loaded = image::load_in(image, &mut sets);
     let ok = loaded.ok;
     if !ok {
