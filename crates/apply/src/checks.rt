@@ -32,7 +32,7 @@ pub fn program_of(n: u64) -> u8
 }
 
 // The number if it is a file's, and 0 otherwise.
-pub fn file_of(n: u64) -> u8
+pub fn file_of(n: u64) -> u16
     ensures { λ r. ⌜ (r ≡ numberIf (isFile n) n) × (r ≤ 64) ⌝ }
 {
     if n == 0 {
@@ -41,7 +41,7 @@ pub fn file_of(n: u64) -> u8
     if 64 < n {
         return 0;
     }
-    n as u8
+    n as u16
 }
 
 // The number if it is a record's, and 0 otherwise.
@@ -58,7 +58,7 @@ pub fn record_of(n: u64) -> u16
 }
 
 // 8, of a file that `file_of` gave; then the next check.
-fn file_check(f: u8, next: Check) -> Check
+fn file_check(f: u16, next: Check) -> Check
     ensures { λ r. ⌜ r ≡ fileFirst f next ⌝ }
 {
     if f == 0 {
@@ -100,7 +100,7 @@ fn using_check(item: u16, next: Check) -> Check
 }
 
 // 14, 15.
-fn claim_check(sets: &Sets, p: u8, f: u8) -> Check
+fn claim_check(sets: &Sets, p: u8, f: u16) -> Check
     requires { ⌜ ((1 ≤ p) × (p ≤ 32)) × IsStore (now sets) ⌝ }
     ensures { λ r. ⌜ r ≡ claimCheckAt (now (sets .entry)) p f ⌝ }
 {
@@ -114,7 +114,7 @@ fn claim_check(sets: &Sets, p: u8, f: u8) -> Check
 }
 
 // 16.
-fn use_check(sets: &Sets, p: u8, f: u8) -> Check
+fn use_check(sets: &Sets, p: u8, f: u16) -> Check
     requires { ⌜ ((1 ≤ p) × (p ≤ 32)) × IsStore (now sets) ⌝ }
     ensures { λ r. ⌜ r ≡ useCheckAt (now (sets .entry)) p f ⌝ }
 {
@@ -125,7 +125,7 @@ fn use_check(sets: &Sets, p: u8, f: u8) -> Check
 }
 
 // 20, of a fetch: a file that is not open for inquiry.
-fn inquiry_check(sets: &Sets, p: u8, f: u8) -> Check
+fn inquiry_check(sets: &Sets, p: u8, f: u16) -> Check
     requires { ⌜ ((1 ≤ p) × (p ≤ 32)) × IsStore (now sets) ⌝ }
     ensures { λ r. ⌜ r ≡ inquiryCheckAt (now (sets .entry)) p f ⌝ }
 {
@@ -173,7 +173,7 @@ fn check_enter(s: Standing, writable: FileSet, readable: FileSet, inquirable: Fi
 }
 
 // 8, 11 to 13, 21, 14 and 15, of a program in range; for open and for drop.
-fn check_open(sets: &Sets, p: u8, s: Standing, item: u16, f: u8) -> Check
+fn check_open(sets: &Sets, p: u8, s: Standing, item: u16, f: u16) -> Check
     requires { ⌜ ((1 ≤ p) × (p ≤ 32)) × IsStore (now sets) ⌝ }
     ensures { λ r. ⌜ r ≡ fileFirst f (unlessRunning s (unlessUsing item (claimCheckAt (now (sets .entry)) p f))) ⌝ }
 {
@@ -184,7 +184,7 @@ fn check_open(sets: &Sets, p: u8, s: Standing, item: u16, f: u8) -> Check
 }
 
 // 8, 11 to 13, 21 and 16, of a program in range.
-fn check_close(sets: &Sets, p: u8, s: Standing, item: u16, f: u8) -> Check
+fn check_close(sets: &Sets, p: u8, s: Standing, item: u16, f: u16) -> Check
     requires { ⌜ ((1 ≤ p) × (p ≤ 32)) × IsStore (now sets) ⌝ }
     ensures { λ r. ⌜ r ≡ fileFirst f (unlessRunning s (unlessUsing item (useCheckAt (now (sets .entry)) p f))) ⌝ }
 {
@@ -195,7 +195,7 @@ fn check_close(sets: &Sets, p: u8, s: Standing, item: u16, f: u8) -> Check
 }
 
 // 8, 19, 11 to 13, 21 and 20, of a program in range that fetches the record n.
-fn check_fetch(sets: &Sets, p: u8, s: Standing, item: u16, f: u8, n: u16) -> Check
+fn check_fetch(sets: &Sets, p: u8, s: Standing, item: u16, f: u16, n: u16) -> Check
     requires { ⌜ ((1 ≤ p) × (p ≤ 32)) × IsStore (now sets) ⌝ }
     ensures { λ r. ⌜ r ≡ fileFirst f (recordFirst n (unlessRunning s (unlessUsing item (inquiryCheckAt (now (sets .entry)) p f)))) ⌝ }
 {
@@ -223,7 +223,7 @@ pub fn check_call(
     sets: &Sets,
     p: u8,
     seat: Seat,
-    f: u8,
+    f: u16,
     n: u16,
     verb: Verb,
     writable: FileSet,

@@ -171,7 +171,7 @@ fn do_enter(
 // ---- open
 
 // p waits for f, at the end of the waiting line: for the record n of the file g, or, if both are 0, for f itself.
-fn put_waiting(sets: &Sets, rest: Rest, p: u8, f: u8, g: u8, n: u16) -> Rest
+fn put_waiting(sets: &Sets, rest: Rest, p: u8, f: u16, g: u16, n: u16) -> Rest
     requires { ⌜ ((1 ≤ p) × (p ≤ 32)) × ((rest .waiting ≡ padded 0 (names (rest .waiting))) × (length (names (rest .waiting)) < 32))
         × IsStore (now sets) ⌝ }
     ensures { λ r. ⌜ boardOf (now (sets .entry)) r ≡ waitingFor (boardOf (now (sets .entry)) rest) p f g n ⌝ }
@@ -189,7 +189,7 @@ fn put_waiting(sets: &Sets, rest: Rest, p: u8, f: u8, g: u8, n: u16) -> Rest
 }
 
 // Open: WAIT if another program has f in conflicting use; UNSAFE if no order comes back with f given; otherwise GIVEN.
-fn do_open(sets: &mut Sets, rest: Rest, lines: &mut Entries, p: u8, f: u8) -> Changed
+fn do_open(sets: &mut Sets, rest: Rest, lines: &mut Entries, p: u8, f: u16) -> Changed
     requires { ⌜ ((1 ≤ p) × (p ≤ 32)) × Good (boardOf (now sets) rest) × (openCheck (boardOf (now sets) rest) p f ≡ Check.Passed)
         × IsStore (now sets) × (now lines ≡ noEntries) ⌝ }
     ensures { λ r. ⌜ ComesTo (now (sets .exit)) (now (lines .exit)) r (openFile (boardOf (now (sets .entry)) rest) p f) ⌝ }
@@ -226,7 +226,7 @@ fn is_running(s: Standing) -> bool
 }
 
 // Whether the program q in a seat, another than p, has the record n of f in use.
-fn another_has(seat: Seat, q: u8, p: u8, f: u8, n: u16) -> bool
+fn another_has(seat: Seat, q: u8, p: u8, f: u16, n: u16) -> bool
     ensures { λ r. ⌜ r ≡ not (eqb q p) && seatUses seat f n ⌝ }
 {
     if q == p {
@@ -246,7 +246,7 @@ fn another_has(seat: Seat, q: u8, p: u8, f: u8, n: u16) -> bool
 }
 
 // Whether another program than p has the record n of f in use.
-fn is_taken(sets: &Sets, rest: Rest, p: u8, f: u8, n: u16) -> bool
+fn is_taken(sets: &Sets, rest: Rest, p: u8, f: u16, n: u16) -> bool
     ensures { λ r. ⌜ r ≡ taken (boardOf (now (sets .entry)) rest) p f n ⌝ }
 {
     let mut q: u8 = 1;
@@ -262,7 +262,7 @@ fn is_taken(sets: &Sets, rest: Rest, p: u8, f: u8, n: u16) -> bool
 }
 
 // The running program p with the record n of f in use, or with none if both are 0.
-fn put_record(sets: &Sets, rest: Rest, p: u8, f: u8, n: u16) -> Rest
+fn put_record(sets: &Sets, rest: Rest, p: u8, f: u16, n: u16) -> Rest
     requires { ⌜ ((1 ≤ p) × (p ≤ 32)) × IsStore (now sets) ⌝ }
     ensures { λ r. ⌜ boardOf (now (sets .entry)) r
         ≡ setProgram (boardOf (now (sets .entry)) rest) p (setItem (at (boardOf (now (sets .entry)) rest) p) f n) ⌝ }
@@ -277,7 +277,7 @@ fn put_record(sets: &Sets, rest: Rest, p: u8, f: u8, n: u16) -> Rest
 }
 
 // Fetch: "It waits (WAIT) while another has that record, else gets it (GIVEN)."
-fn do_fetch(sets: &Sets, rest: Rest, lines: &mut Entries, p: u8, f: u8, n: u16) -> Changed
+fn do_fetch(sets: &Sets, rest: Rest, lines: &mut Entries, p: u8, f: u16, n: u16) -> Changed
     requires { ⌜ ((1 ≤ p) × (p ≤ 32)) × Good (boardOf (now sets) rest) × (fetchCheck (boardOf (now sets) rest) p f n ≡ Check.Passed)
         × IsStore (now sets) × (now lines ≡ noEntries) ⌝ }
     ensures { λ r. ⌜ ComesTo (now (sets .entry)) (now (lines .exit)) r (fetch (boardOf (now (sets .entry)) rest) p f n) ⌝ }
@@ -308,7 +308,7 @@ fn do_return(sets: &mut Sets, rest: Rest, lines: &mut Entries, p: u8) -> Changed
 // ---- close
 
 // Close: f is open no longer.
-fn do_close(sets: &mut Sets, rest: Rest, lines: &mut Entries, p: u8, f: u8) -> Changed
+fn do_close(sets: &mut Sets, rest: Rest, lines: &mut Entries, p: u8, f: u16) -> Changed
     requires { ⌜ ((1 ≤ p) × (p ≤ 32)) × Good (boardOf (now sets) rest) × (closeCheck (boardOf (now sets) rest) p f ≡ Check.Passed)
         × IsStore (now sets) × (now lines ≡ noEntries) ⌝ }
     ensures { λ r. ⌜ ComesTo (now (sets .exit)) (now (lines .exit)) r (closeFile (boardOf (now (sets .entry)) rest) p f) ⌝ }
@@ -321,7 +321,7 @@ fn do_close(sets: &mut Sets, rest: Rest, lines: &mut Entries, p: u8, f: u8) -> C
 // ---- drop
 
 // Drop: f leaves p's claim.
-fn do_drop(sets: &mut Sets, rest: Rest, lines: &mut Entries, p: u8, f: u8) -> Changed
+fn do_drop(sets: &mut Sets, rest: Rest, lines: &mut Entries, p: u8, f: u16) -> Changed
     requires { ⌜ ((1 ≤ p) × (p ≤ 32)) × Good (boardOf (now sets) rest) × (openCheck (boardOf (now sets) rest) p f ≡ Check.Passed)
         × IsStore (now sets) × (now lines ≡ noEntries) ⌝ }
     ensures { λ r. ⌜ ComesTo (now (sets .exit)) (now (lines .exit)) r (dropFile (boardOf (now (sets .entry)) rest) p f) ⌝ }
@@ -429,7 +429,7 @@ fn accept(
     lines: &mut Entries,
     p: u8,
     s: Standing,
-    f: u8,
+    f: u16,
     n: u16,
     verb: Verb,
     writable: FileSet,

@@ -26,7 +26,7 @@ pub fn one_line(
     lines: &mut Entries,
     word: Word,
     p: u8,
-    f: u8,
+    f: u16,
     n: u16,
 ) -> Progress
     requires { ⌜ now lines ≡ noEntries ⌝ }
@@ -44,7 +44,7 @@ pub fn answered(
     lines: &mut Entries,
     word: Word,
     p: u8,
-    f: u8,
+    f: u16,
     n: u16,
     answer: Answer,
 ) -> Changed
@@ -68,7 +68,7 @@ pub fn refused(sets: &Sets, rest: Rest, lines: &Entries, refusal: Refusal) -> Ch
 }
 
 // DONE, then settle.
-pub fn done(sets: &mut Sets, rest: Rest, lines: &mut Entries, p: u8, f: u8) -> Changed
+pub fn done(sets: &mut Sets, rest: Rest, lines: &mut Entries, p: u8, f: u16) -> Changed
     requires { ⌜ Ready (boardOf (now sets) rest) × IsStore (now sets) × (now lines ≡ noEntries) ⌝ }
     ensures { λ r. ⌜ ComesTo (now (sets .exit)) (now (lines .exit)) r (done (boardOf (now (sets .entry)) rest) p f) ⌝ }
     ensures { λ _. ⌜ IsStore (now (sets .exit)) × IsEntries (now (lines .exit)) ⌝ }
@@ -82,7 +82,7 @@ pub fn done(sets: &mut Sets, rest: Rest, lines: &mut Entries, p: u8, f: u8) -> C
 }
 
 // DONE, then the record n of f is handed on, then settle.
-pub fn handed_on(sets: &mut Sets, rest: Rest, lines: &mut Entries, p: u8, f: u8, n: u16) -> Changed
+pub fn handed_on(sets: &mut Sets, rest: Rest, lines: &mut Entries, p: u8, f: u16, n: u16) -> Changed
     requires { ⌜ Handing (boardOf (now sets) rest) f n × IsStore (now sets) × (now lines ≡ noEntries) ⌝ }
     ensures { λ r. ⌜ ComesTo (now (sets .exit)) (now (lines .exit)) r (finish (handOn (boardOf (now (sets .entry)) rest) f n) p 0) ⌝ }
     ensures { λ _. ⌜ IsStore (now (sets .exit)) × IsEntries (now (lines .exit)) ⌝ }

@@ -38,7 +38,7 @@ fn loop_with(b: Board, line: Line) -> Loop
     if 64 < f {
         return Loop::NONE;
     }
-    crate::loops::find_given(b, p as u8, f as u8)
+    crate::loops::find_given(b, p as u8, f)
 }
 
 // The loop that the reply to a call on the board carries.

@@ -196,7 +196,7 @@ fn is_loop(sets: &Sets, rest: Rest, l: &[u8]) -> bool
 // ---- with a file given
 
 // A loop of the board with f given to p.
-pub fn find_given(b: Board, p: u8, f: u8) -> Loop
+pub fn find_given(b: Board, p: u8, f: u16) -> Loop
     requires { ⌜ (1 ≤ p) × (p ≤ 32) ⌝ }
     ensures { λ r. ⌜ LoopOf (withGiven b p f) r ⌝ }
 {
@@ -207,7 +207,7 @@ pub fn find_given(b: Board, p: u8, f: u8) -> Loop
 }
 
 // Whether p is admitted and claims f, and the list is a loop with f given to it.
-fn is_loop_by(b: Board, p: u8, f: u8, l: &[u8]) -> bool
+fn is_loop_by(b: Board, p: u8, f: u16, l: &[u8]) -> bool
     requires { ⌜ (1 ≤ p) × (p ≤ 32) ⌝ }
     ensures { λ r. ⌜ r ≡ isLoopWith b p f (now (l .entry)) ⌝ }
 {
@@ -237,7 +237,7 @@ pub fn is_loop_with(b: Board, p: u64, f: u64, l: &[u8]) -> bool
     if 64 < f {
         return false;
     }
-    is_loop_by(b, p as u8, f as u8, l)
+    is_loop_by(b, p as u8, f as u16, l)
 }
 
 // A loop with the file given that p waits for, of a sound board; none exactly if p doesn't wait for a file.

@@ -17,7 +17,7 @@ impl FileSet {
     pub const EMPTY: FileSet = FileSet { bits: 0 };
 
     // Whether f is a file of the set.
-    pub fn has(self, f: u8) -> bool
+    pub fn has(self, f: u16) -> bool
         ensures { λ r. ⌜ r ≡ member self f ⌝ }
     {
         if f == 0 {
@@ -30,7 +30,7 @@ impl FileSet {
     }
 
     // The set and f; the set itself if f is no file.
-    pub fn with(self, f: u8) -> FileSet
+    pub fn with(self, f: u16) -> FileSet
         ensures { λ r. ⌜ r ≡ adding self f ⌝ }
     {
         if f == 0 {
@@ -45,7 +45,7 @@ impl FileSet {
     }
 
     // The set but f.
-    pub fn without(self, f: u8) -> FileSet
+    pub fn without(self, f: u16) -> FileSet
         ensures { λ r. ⌜ r ≡ removing self f ⌝ }
     {
         if f == 0 {

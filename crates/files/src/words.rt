@@ -9,7 +9,7 @@ ghost use Rattle.files.specs.Sets.{member, meets, within, isEmpty};
 ghost use Rattle.files.specs.Words.{setOf, withFile, withoutFile, wordsFor, wordwise};
 
 // Whether f is a file of the set.
-pub fn has(s: &[u64], f: u8) -> bool
+pub fn has(s: &[u64], f: u16) -> bool
     requires { ⌜ 1 ≤ length (now s) ⌝ }
     ensures { λ r. ⌜ r ≡ member (setOf (now (s .entry))) f ⌝ }
 {
@@ -24,7 +24,7 @@ pub fn has(s: &[u64], f: u8) -> bool
 }
 
 // The set gets f, if f is a file.
-pub fn add(s: &mut [u64], f: u8)
+pub fn add(s: &mut [u64], f: u16)
     requires { ⌜ 1 ≤ length (now s) ⌝ }
     ensures { λ _. ⌜ now (s .exit) ≡ withFile (now (s .entry)) f ⌝ }
 {
@@ -39,7 +39,7 @@ pub fn add(s: &mut [u64], f: u8)
 }
 
 // The set loses f.
-pub fn remove(s: &mut [u64], f: u8)
+pub fn remove(s: &mut [u64], f: u16)
     requires { ⌜ 1 ≤ length (now s) ⌝ }
     ensures { λ _. ⌜ now (s .exit) ≡ withoutFile (now (s .entry)) f ⌝ }
 {

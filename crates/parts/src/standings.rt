@@ -49,7 +49,7 @@ pub fn is_admitted(s: Standing) -> bool
 }
 
 // The file that is waited for, and 0 unless waiting.
-pub fn awaited(s: Standing) -> u8
+pub fn awaited(s: Standing) -> u16
     ensures { λ r. ⌜ r ≡ awaitedOf s ⌝ }
 {
     match s {

@@ -7,7 +7,7 @@ mod boards;
 pub enum Standing {
     Absent,
     Running,
-    Waiting(u8),
+    Waiting(u16),
     Held,
 }
 
@@ -21,7 +21,7 @@ pub struct Program {
     pub reading: FileSet,
     pub inquiring: FileSet,
     pub standing: Standing,
-    pub file: u8,
+    pub file: u16,
     pub item: u16,
 }
 

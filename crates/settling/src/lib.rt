@@ -34,13 +34,13 @@ pub struct Progress {
 }
 
 // The numbers of a line of an accepted call.
-pub fn line_of(word: Word, p: u8, f: u8, n: u16) -> Entry
+pub fn line_of(word: Word, p: u8, f: u16, n: u16) -> Entry
     ensures { λ r. ⌜ r ≡ entryOf (lineOf word p f n) ⌝ }
 {
     entries::entry_of(Line {
         word,
         program: p as u16,
-        file: f as u16,
+        file: f,
         refusal: 0,
         item: n,
     })
@@ -75,7 +75,7 @@ fn served(rest: Rest, p: u8) -> Rest
 }
 
 // The file that the program in a seat waits for; 0 if it waits for none, or for a record.
-fn asked_by(seat: Seat) -> u8
+fn asked_by(seat: Seat) -> u16
     ensures { λ r. ⌜ r ≡ askedFile (seat .standing) (seat .item) ⌝ }
 {
     if seat.item != 0 {
@@ -86,7 +86,7 @@ fn asked_by(seat: Seat) -> u8
 }
 
 // The files that the programs wait for, each in its program's place; "Settling's pass skips those who wait for a record."
-fn fill_asked(rest: Rest, asked: &mut [u8; 32])
+fn fill_asked(rest: Rest, asked: &mut [u16; 32])
     requires { ⌜ length (now asked) ≡ 32 ⌝ }
     ensures { λ _. ⌜ AskedOf rest (now (asked .exit)) ⌝ }
 {
@@ -99,7 +99,7 @@ fn fill_asked(rest: Rest, asked: &mut [u8; 32])
 }
 
 // Whether an open would now give p the file that it asks for; not if it asks for none.
-fn can_serve(sets: &Sets, uses: Uses, p: u8, f: u8) -> bool
+fn can_serve(sets: &Sets, uses: Uses, p: u8, f: u16) -> bool
     requires { ⌜ ((1 ≤ p) × (p ≤ 32)) × IsStore (now sets) ⌝ }
     ensures { λ r. ⌜ r ≡ not (eqb f 0) && giveIn (now (sets .entry)) uses p f ⌝ }
 {
@@ -110,7 +110,7 @@ fn can_serve(sets: &Sets, uses: Uses, p: u8, f: u8) -> bool
 }
 
 // The place of the next waiter, from a place of the line on, to which an open would now give its file; 32 if there is none.
-fn next_given(sets: &Sets, asked: &[u8; 32], uses: Uses, line: [u8; 32], from: usize) -> usize
+fn next_given(sets: &Sets, asked: &[u16; 32], uses: Uses, line: [u8; 32], from: usize) -> usize
     requires { ⌜ (from ≤ 32) × (all isProgram (names (drop from line)) ≡ true) × IsStore (now sets) ⌝ }
     ensures { λ r. ⌜ (from ≤ r) × (r ≤ 32) × NextFor (now (sets .entry)) (now (asked .entry)) uses line from r ⌝ }
 {
@@ -140,7 +140,7 @@ fn pass_line(sets: &mut Sets, lines: &mut Entries, w: Progress) -> Progress
 {
     let mut c = w.rest;
     let line = c.waiting;
-    let mut asked = [0u8; 32];
+    let mut asked = [0u16; 32];
     fill_asked(c, &mut asked);
     let admitted = tables::boards::admitted_seats(c);
     let mut uses = search::gives::uses_in(admitted, sets);
@@ -226,7 +226,7 @@ pub fn favour_waiter(sets: &Sets, lines: &mut Entries, w: Progress, p: u8) -> Pr
 }
 
 // Whether the program in a seat waits for the record n of f.
-fn waits_for(seat: Seat, f: u8, n: u16) -> bool
+fn waits_for(seat: Seat, f: u16, n: u16) -> bool
     ensures { λ r. ⌜ r ≡ seatWants seat f n ⌝ }
 {
     let s = seat.standing;
@@ -243,7 +243,7 @@ fn waits_for(seat: Seat, f: u8, n: u16) -> bool
 }
 
 // The oldest waiter for the record n of f, or 0.
-fn oldest_for(sets: &Sets, rest: Rest, f: u8, n: u16) -> u8
+fn oldest_for(sets: &Sets, rest: Rest, f: u16, n: u16) -> u8
     requires { ⌜ all isProgram (names (rest .waiting)) ≡ true ⌝ }
     ensures { λ r. ⌜ r ≡ Option·getD (recordWaiter (boardOf (now (sets .entry)) rest) f n) 0 ⌝ }
 {
@@ -265,7 +265,7 @@ fn oldest_for(sets: &Sets, rest: Rest, f: u8, n: u16) -> u8
 }
 
 // "the oldest waiter for the record gets it (GIVEN)": the record n of f, which nobody has in use any more, is handed on.
-pub fn hand_on(sets: &Sets, lines: &mut Entries, w: Progress, f: u8, n: u16) -> Progress
+pub fn hand_on(sets: &Sets, lines: &mut Entries, w: Progress, f: u16, n: u16) -> Progress
     requires { ⌜ Loose (boardOf (now sets) (w .rest)) × (w .count < 32) × IsStore (now sets) × IsEntries (now lines) ⌝ }
     ensures { λ r. ⌜ writtenIn (now (sets .entry)) (now (lines .exit)) r
         ≡ after (writtenIn (now (sets .entry)) (now (lines .entry)) w) (handOn (boardOf (now (sets .entry)) (w .rest)) f n) ⌝ }

@@ -161,7 +161,7 @@ fn program_sound(sets: &Sets, p: u8, s: Standing) -> bool
 }
 
 // Whether a program with this standing may have a record of the file: it runs, or waits for the file.
-fn may_have(s: Standing, f: u8) -> bool
+fn may_have(s: Standing, f: u16) -> bool
     ensures { λ r. ⌜ r ≡ standsFor s f ⌝ }
 {
     match s {
@@ -340,7 +340,7 @@ fn line_sound(line: [u8; 32], set: ProgramSet) -> bool
 }
 
 // The waiter's file is claimed, not open by it, and can't be given now; "covers file waits only": not if it waits for a record n.
-fn waiter_sound(sets: &Sets, rows: &[u32; 32], uses: Uses, p: u8, f: u8, n: u16) -> bool
+fn waiter_sound(sets: &Sets, rows: &[u32; 32], uses: Uses, p: u8, f: u16, n: u16) -> bool
     requires { ⌜ ((1 ≤ p) × (p ≤ 32)) × IsStore (now sets) × (hasProgram (uses .admitted) p ≡ true) × (now rows ≡ rowsOf (now sets) (uses .admitted)) ⌝ }
     ensures { λ r. ⌜ WaiterFor (now (sets .entry)) uses p f n r ⌝ }
 {
@@ -468,7 +468,7 @@ fn counts_sound(rest: Rest) -> bool
 }
 
 // Whether a program with this seat has the record n of f in use.
-fn has_record(seat: Seat, f: u8, n: u16) -> bool
+fn has_record(seat: Seat, f: u16, n: u16) -> bool
     ensures { λ r. ⌜ r ≡ usesSeat seat f n ⌝ }
 {
     if seat.item == 0 {
@@ -490,7 +490,7 @@ fn has_record(seat: Seat, f: u8, n: u16) -> bool
 }
 
 // Whether j, with this seat, is another than p and has the record n of f in use.
-fn other_has(p: u8, j: u8, seat: Seat, f: u8, n: u16) -> bool
+fn other_has(p: u8, j: u8, seat: Seat, f: u16, n: u16) -> bool
     ensures { λ r. ⌜ r ≡ otherUses p j seat f n ⌝ }
 {
     if p == j {
@@ -500,7 +500,7 @@ fn other_has(p: u8, j: u8, seat: Seat, f: u8, n: u16) -> bool
 }
 
 // Whether another than p has the record n of f in use.
-fn another_has(rest: Rest, p: u8, f: u8, n: u16) -> bool
+fn another_has(rest: Rest, p: u8, f: u16, n: u16) -> bool
     ensures { λ r. ⌜ r ≡ anotherUses rest p f n ⌝ }
 {
     let mut j: u8 = 1;

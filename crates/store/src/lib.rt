@@ -12,7 +12,7 @@ pub mod sets;
 // waits; 0 for none.
 pub struct Seat {
     pub standing: Standing,
-    pub file: u8,
+    pub file: u16,
     pub item: u16,
 }
 

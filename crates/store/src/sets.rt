@@ -185,7 +185,7 @@ pub fn put(sets: &mut Sets, rest: Rest, p: u8, q: Program) -> Rest
 }
 
 // The mode in which p opens f, by its number: 0 for writing, 1 for reading, 2 for inquiry.
-pub fn mode_at(sets: &Sets, p: u8, f: u8) -> u8
+pub fn mode_at(sets: &Sets, p: u8, f: u16) -> u8
     requires { ⌜ ((1 ≤ p) × (p ≤ 32)) × IsStore (now sets) ⌝ }
     ensures { λ r. ⌜ (modeNumbered r ≡ modeAt (now (sets .entry)) p f) × (r ≤ 2) ⌝ }
 {
@@ -201,7 +201,7 @@ pub fn mode_at(sets: &Sets, p: u8, f: u8) -> u8
 }
 
 // Whether p claims f in a way that clashes with the mode of this number.
-pub fn has_claim(sets: &Sets, p: u8, f: u8, mode: u8) -> bool
+pub fn has_claim(sets: &Sets, p: u8, f: u16, mode: u8) -> bool
     requires { ⌜ ((1 ≤ p) × (p ≤ 32)) × IsStore (now sets) ⌝ }
     ensures { λ r. ⌜ r ≡ claimsAt (now (sets .entry)) f (modeNumbered mode) p ⌝ }
 {
@@ -224,7 +224,7 @@ pub fn has_claim(sets: &Sets, p: u8, f: u8, mode: u8) -> bool
 }
 
 // Whether p has f open.
-pub fn has_open(sets: &Sets, p: u8, f: u8) -> bool
+pub fn has_open(sets: &Sets, p: u8, f: u16) -> bool
     requires { ⌜ ((1 ≤ p) × (p ≤ 32)) × IsStore (now sets) ⌝ }
     ensures { λ r. ⌜ r ≡ opensAt (now (sets .entry)) f p ⌝ }
 {
@@ -241,7 +241,7 @@ pub fn has_open(sets: &Sets, p: u8, f: u8) -> bool
 }
 
 // p is given f: it joins W if it is in V, R if it is in Q, and I otherwise.
-pub fn give(sets: &mut Sets, p: u8, f: u8)
+pub fn give(sets: &mut Sets, p: u8, f: u16)
     requires { ⌜ ((1 ≤ p) × (p ≤ 32)) × IsStore (now sets) ⌝ }
     ensures { λ _. ⌜ now (sets .exit) ≡ givenAt (now (sets .entry)) p f ⌝ }
 {
@@ -262,7 +262,7 @@ pub fn give(sets: &mut Sets, p: u8, f: u8)
 }
 
 // f is open to p no longer.
-pub fn close(sets: &mut Sets, p: u8, f: u8)
+pub fn close(sets: &mut Sets, p: u8, f: u16)
     requires { ⌜ ((1 ≤ p) × (p ≤ 32)) × IsStore (now sets) ⌝ }
     ensures { λ _. ⌜ now (sets .exit) ≡ closedAt (now (sets .entry)) p f ⌝ }
 {
@@ -275,7 +275,7 @@ pub fn close(sets: &mut Sets, p: u8, f: u8)
 }
 
 // f leaves p's claim.
-pub fn drop(sets: &mut Sets, p: u8, f: u8)
+pub fn drop(sets: &mut Sets, p: u8, f: u16)
     requires { ⌜ ((1 ≤ p) × (p ≤ 32)) × IsStore (now sets) ⌝ }
     ensures { λ _. ⌜ now (sets .exit) ≡ droppedAt (now (sets .entry)) p f ⌝ }
 {

@@ -71,7 +71,7 @@ fn put_number(line: &mut [u8], at: usize, width: usize, n: u64) -> usize
 }
 
 // Writes the columns of f if it is in the set.
-fn put_file(line: &mut [u8], at: usize, s: FileSet, f: u8) -> usize
+fn put_file(line: &mut [u8], at: usize, s: FileSet, f: u16) -> usize
     requires { ⌜ at + length (columnsIf (member s f) f) ≤ length (now line) ⌝ }
     ensures { λ r. ⌜ r ≡ at + length (columnsIf (member s f) f) ⌝ }
     ensures { λ r. ⌜ now (line .exit) ≡ putAt at (columnsIf (member s f) f) (now (line .entry)) ⌝ }
@@ -89,7 +89,7 @@ fn put_files(line: &mut [u8], start: usize, s: FileSet) -> usize
     ensures { λ r. ⌜ now (line .exit) ≡ putAt start (filesColumns (filesOf s)) (now (line .entry)) ⌝ }
 {
     let mut at = start;
-    let mut f: u8 = 1;
+    let mut f: u16 = 1;
     while f <= 64 {
         at = put_file(line, at, s, f);
         f += 1;
@@ -109,7 +109,7 @@ fn put_claims(line: &mut [u8], start: usize, v: FileSet, q: FileSet, j: FileSet)
 }
 
 // One more if f is in the set.
-fn counted(n: u64, s: FileSet, f: u8) -> u64
+fn counted(n: u64, s: FileSet, f: u16) -> u64
     requires { ⌜ n ≤ 64 ⌝ }
     ensures { λ r. ⌜ r ≡ n + countIf (member s f) ⌝ }
 {
@@ -124,7 +124,7 @@ fn count(s: FileSet) -> u64
     ensures { λ r. ⌜ r ≡ length (filesOf s) ⌝ }
 {
     let mut n: u64 = 0;
-    let mut f: u8 = 1;
+    let mut f: u16 = 1;
     while f <= 64 {
         n = counted(n, s, f);
         f += 1;

@@ -42,5 +42,6 @@ fill-asked-spec =
     (λ c. search needs)
     (λ c. search needs)
     (λ c. search needs)
+    (λ c. search needs)
     loop-again
     returns)

@@ -119,6 +119,7 @@ next-given-spec =
     returns
     place-of-requires
     (λ c. search needs)
+    (λ c. search needs)
     can-serve-requires
     returns-2
     (λ c. search needs)

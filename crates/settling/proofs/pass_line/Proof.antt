@@ -119,16 +119,19 @@ sub-i c = range c .0
 cast-i : tie.Need-cast-i Inv-loop μ-loop
 cast-i c = let r = range c in omega (arith, r .0, r .1)
 
+mul-f : tie.Need-mul-f Inv-loop μ-loop
+mul-f c = let r = range c in omega (arith, r .0, r .1)
+
 array-read-f : tie.Need-array-read-f Inv-loop μ-loop
 array-read-f c = let r = range c in omega (arith, r .0, r .1)
 
 served-requires : tie.Need-served-requires Inv-loop μ-loop
 served-requires c κs = let r = range c in (r .0, r .1)
 
-cast-lines : tie.Need-cast-t28 Inv-loop μ-loop
+cast-lines : tie.Need-cast-t24 Inv-loop μ-loop
 cast-lines c = let n = range (turn c) .2 in omega arith
 
-mul-lines : tie.Need-mul-t29 Inv-loop μ-loop
+mul-lines : tie.Need-mul-t30 Inv-loop μ-loop
 mul-lines c = let n = range (turn c) .2 in omega arith
 
 element-set-from-lines : tie.Need-element-set-from-lines Inv-loop μ-loop
@@ -241,6 +244,7 @@ pass-line-spec =
     (λ c. search needs)
     sub-i
     cast-i
+    mul-f
     array-read-f
     served-requires
     (λ c κs. search needs)

@@ -25,6 +25,5 @@ loop-with-spec =
     returns-2
     returns-3
     (λ c. search needs)
-    (λ c. search needs)
     (λ c κs. search needs)
     returns-4)
