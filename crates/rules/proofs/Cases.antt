@@ -682,7 +682,7 @@ ff =
 
 -- ---- CR 7
 
--- (gg) records: given, waited for, handed on to the oldest, a waiter cancelled; 13, 18, 19, 20, 21
+-- (gg) records: given, waited for, handed on to the oldest, a waiter cancelled; 10 for any two claims; 13, 18, 19, 20, 21
 gg : Case
 unfolding yes no set
 gg =
@@ -694,7 +694,11 @@ gg =
           ∷ yes (Open 1 5) Answer.Given []
           ∷ yes (Open 2 5) Answer.Given []
           ∷ yes (Open 3 5) Answer.Given []
+          ∷ no (Enter 4 (set (5 ∷ [])) noFiles (set (5 ∷ []))) Refusal.ClaimsMeet
+          ∷ no (Enter 4 noFiles (set (5 ∷ [])) (set (5 ∷ []))) Refusal.ClaimsMeet
+          ∷ no (Enter 4 (set (5 ∷ [])) (set (5 ∷ [])) noFiles) Refusal.ClaimsMeet
           ∷ no (Fetch 1 5 0) Refusal.BadRecord
+          ∷ no (Fetch 1 5 65536) Refusal.BadRecord
           ∷ no (Fetch 30 5 0) Refusal.BadRecord
           ∷ no (Fetch 33 5 0) Refusal.OutOfRange
           ∷ no (Fetch 30 5 1) Refusal.IsAbsent
@@ -709,6 +713,11 @@ gg =
           ∷ no (Close 1 60) Refusal.HasRecord
           ∷ no (Fetch 1 60 8) Refusal.HasRecord
           ∷ no (Return 2) Refusal.IsWaiting
+          ∷ no (Close 2 5) Refusal.IsWaiting
+          ∷ no (Open 2 60) Refusal.IsWaiting
+          ∷ no (Drop 2 60) Refusal.IsWaiting
+          ∷ no (Fetch 2 60 8) Refusal.IsWaiting
+          ∷ no (Drop 1 60) Refusal.HasRecord
           ∷ no (Cancel 1) Refusal.IsRunning
           ∷ yes (Return 1) Answer.Done (lineOf Word.Given 2 5 7 ∷ [])
           ∷ yes (Cancel 3) Answer.Done []
