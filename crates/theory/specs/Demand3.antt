@@ -156,9 +156,12 @@ pub record Demand3 (cs : List Call) : Type 0 where
   -- every order of the admitted programs has one held back by a later one."
   pub waits : (xs ys : List Call) (p f : ℕ) → cs ≡ xs ++ (Open p f ∷ ys) → Accepted xs (Open p f)
       → Waits (replyAfter xs (Open p f) .answer) ↔ (ConflictingUse (worked xs) p f ⊎ EveryOrderHeld (withGiven (worked xs) p f))
-  -- "It waits (WAIT) while another has that record, else gets it (GIVEN)."
+  -- "It waits (WAIT) while another has that record"
   pub fetch-waits : (xs ys : List Call) (p f r : ℕ) → cs ≡ xs ++ (Fetch p f r ∷ ys) → Accepted xs (Fetch p f r)
-      → Waits (replyAfter xs (Fetch p f r) .answer) ↔ RecordTaken (worked xs) p f r
+      → (replyAfter xs (Fetch p f r) .answer ≡ Answer.Wait) ↔ RecordTaken (worked xs) p f r
+  -- "else gets it (GIVEN)"
+  pub fetch-given : (xs ys : List Call) (p f r : ℕ) → cs ≡ xs ++ (Fetch p f r ∷ ys) → Accepted xs (Fetch p f r)
+      → (replyAfter xs (Fetch p f r) .answer ≡ Answer.Given) ↔ (RecordTaken (worked xs) p f r → ⊥)
   -- the sentence on the sum, after each call of the list
   pub favoured : (xs ys : List Call) (p : ℕ) → cs ≡ xs ++ ys → p ≢ 0 → worked xs .favoured ≡ p → FavouredBy xs p
   -- "It gets its file at the latest with the leave that brings those leaves to that number less one, and that wait is then over."

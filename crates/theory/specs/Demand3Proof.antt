@@ -214,19 +214,30 @@ open-waits xs p f a = subst (λ (r : Reply). Waits (r .answer) ↔ (ConflictingU
 
 -- ── Fetches ──
 
-fetch-answer : (b : Board) (p f r : ℕ) → Waits (fetch b p f r .answer) ↔ RecordTaken b p f r
+-- what a fetch answers: WAIT exactly if the record is taken, GIVEN exactly if it is not
+abbrev FetchAnswers : Board → ℕ → ℕ → ℕ → Answer → Type 0
+FetchAnswers b p f r a = ((a ≡ Answer.Wait) ↔ RecordTaken b p f r) × ((a ≡ Answer.Given) ↔ (RecordTaken b p f r → ⊥))
+
+fetch-answer : (b : Board) (p f r : ℕ) → FetchAnswers b p f r (fetch b p f r .answer)
 unfolding fetch reply
 fetch-answer b p f r = by-test (taken b p f r)
-    (λ t. (λ _. taken-by b p f r t, λ _. inl (rw t)))
-    (λ t. (λ w. absurd (given-waits (rw t at w)), λ u. never (by-taken b p f r (u .0) (u .1) (u .2) (u .3)) t))
+    (λ t. (
+      (λ _. taken-by b p f r t, λ _. rw t),
+      (λ e. absurd (wait-given (rw t at e)), λ u. absurd (u (taken-by b p f r t))),
+    ))
+    (λ t. let free : RecordTaken b p f r → ⊥ = λ u. never (by-taken b p f r (u .0) (u .1) (u .2) (u .3)) t in (
+      (λ e. absurd (given-wait (rw t at e)), λ u. absurd (free u)),
+      (λ _. free, λ _. rw t),
+    ))
   where
-    given-waits : Waits Answer.Given → ⊥
-    given-waits (inl e) = let z : _≡_ {A = ℕ} 0 1 = cc in omega arith
-    given-waits (inr e) = let z : _≡_ {A = ℕ} 0 1 = cc in omega arith
+    wait-given : Answer.Wait ≡ Answer.Given → ⊥
+    wait-given e = let z : _≡_ {A = ℕ} 0 1 = cc in omega arith
 
-fetch-waits : (xs : List Call) (p f r : ℕ) → Accepted xs (Fetch p f r) → Waits (replyAfter xs (Fetch p f r) .answer) ↔
-    RecordTaken (worked xs) p f r
-fetch-waits xs p f r a = subst (λ (q : Reply). Waits (q .answer) ↔ RecordTaken (worked xs) p f r)
+    given-wait : Answer.Given ≡ Answer.Wait → ⊥
+    given-wait e = let z : _≡_ {A = ℕ} 0 1 = cc in omega arith
+
+fetch-answers : (xs : List Call) (p f r : ℕ) → Accepted xs (Fetch p f r) → FetchAnswers (worked xs) p f r (replyAfter xs (Fetch p f r) .answer)
+fetch-answers xs p f r a = subst (λ (q : Reply). FetchAnswers (worked xs) p f r (q .answer))
     (sym (apply-accepted (worked xs) (Fetch p f r) (passed-of (worked xs) (Fetch p f r) a))) (fetch-answer (worked xs) p f r)
 
 -- ── The favoured program ──
@@ -424,7 +435,8 @@ demand3 cs n = record {
   each = stands-at cs;
   order = last-order cs n;
   waits = λ xs ys p f _ a. open-waits xs p f a;
-  fetch-waits = λ xs ys p f r _ a. fetch-waits xs p f r a;
+  fetch-waits = λ xs ys p f r _ a. fetch-answers xs p f r a .0;
+  fetch-given = λ xs ys p f r _ a. fetch-answers xs p f r a .1;
   favoured = λ xs ys p _ z e. favoured-by xs p z e;
   gets = λ xs ys zs c d p f r _ h _ k. favoured-gets xs (ys ++ (d ∷ [])) c p f r h k;
 }
