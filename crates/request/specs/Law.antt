@@ -10,6 +10,7 @@ use Rattle.files.specs.declared.FileSet.{FileSet}
 use Rattle.files.specs.Sets.{OfFiles}
 use Rattle.laws.specs.Lists.{all}
 use Rattle.rules.specs.Calls.{Call, Enter}
+use Rattle.rules.specs.declared.Claims.{Claims}
 use Rattle.rules.specs.declared.Asked.{Asked}
 use Rattle.request.specs.declared.Reading.{Reading}
 use Rattle.request.specs.declared.Request.{Request}
@@ -21,9 +22,13 @@ use Rattle.request.specs.Requests.{requestCall, labelByte, requestOf, la
 abbrev pub IsLabel : List ℕ → Type 0
 IsLabel l = (length l ≡ labelWidth) × (all labelByte l ≡ true)
 
--- the numbers are those of a program, of a file, and of a record; claims are sets of the files 1 to 64
+-- claims are sets of the files 1 to 64
+abbrev pub ClaimsInRange : Claims → Type 0
+ClaimsInRange c = OfFiles (c .writable) × OfFiles (c .readable) × OfFiles (c .inquirable)
+
+-- the numbers are those of a program, of a file, and of a record, and the claims are such sets
 abbrev pub RangeAs : Shape → Asked → Type 0
-RangeAs Shape.Entry a = (1 ≤ a .program) × (a .program ≤ 32) × OfFiles (a .writable) × OfFiles (a .readable) × OfFiles (a .inquirable)
+RangeAs Shape.Entry a = (1 ≤ a .program) × (a .program ≤ 32) × ClaimsInRange (a .claims)
 RangeAs Shape.File a = (1 ≤ a .program) × (a .program ≤ 32) × (1 ≤ a .file) × (a .file ≤ 64)
 RangeAs Shape.Record a =
     (1 ≤ a .program) × (a .program ≤ 32) × (1 ≤ a .file) × (a .file ≤ 64) × (1 ≤ a .item) × (a .item ≤ 65535)

@@ -32,7 +32,7 @@ use Rattle.writer.proofs.Laws.{alone-length, file-length, record-length
 -- ---- numbers and labels, as tests and as facts, by the shape of the line
 
 in-range : (s : Shape) (a : Asked) → ClaimsAs s a → numbersGood s a ≡ true → recordGood s a ≡ true → RangeAs s a
-in-range Shape.Entry a k h i = (least 32 (a .program) h, most 32 (a .program) h, k .0, k .1, k .2)
+in-range Shape.Entry a k h i = (least 32 (a .program) h, most 32 (a .program) h, k)
 in-range Shape.File a k h i =
     let p = and-left (isNumber 32 (a .program)) (isNumber 64 (a .file)) h in
     let f = and-right (isNumber 32 (a .program)) (isNumber 64 (a .file)) h in
@@ -58,7 +58,7 @@ record-test Shape.Record a h = is-number 65535 (a .item) (h .4) (h .5)
 record-test Shape.Alone a h = refl
 
 range-claims : (s : Shape) (a : Asked) → RangeAs s a → ClaimsAs s a
-range-claims Shape.Entry a h = (h .2, h .3, h .4)
+range-claims Shape.Entry a h = h .2
 range-claims Shape.File a h = Prim.tt
 range-claims Shape.Record a h = Prim.tt
 range-claims Shape.Alone a h = Prim.tt
@@ -216,9 +216,9 @@ written-is-taken l = (taken-of-written l, written-of-taken l)
 longest : (s : Shape) (a : Asked) (label : List ℕ) → labelGood s label ≡ true → length (lineAs s a label) ≤ longestLine
 longest Shape.Entry a label g =
     let n = enter-length a label (label-fact label g .0) in
-    let v = files-length (a .writable) in
-    let q = files-length (a .readable) in
-    let j = files-length (a .inquirable) in
+    let v = files-length (a .claims .writable) in
+    let q = files-length (a .claims .readable) in
+    let j = files-length (a .claims .inquirable) in
     omega (arith, n, v, q, j)
 longest Shape.File a label g = omega (arith, file-length a)
 longest Shape.Record a label g = omega (arith, record-length a)

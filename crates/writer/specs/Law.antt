@@ -6,21 +6,20 @@ use mathlib.Core.Logic.{_↔_, _≢_}
 use mathlib.Core.Bool.{true}
 use mathlib.Core.List.{List, [], _++_}
 use lib.ListN.{length, take, drop}
-use Rattle.files.specs.Sets.{OfFiles}
 use Rattle.rules.specs.declared.Asked.{Asked}
 use Rattle.rules.specs.Calls.{Call}
 use Rattle.request.specs.declared.Reading.{Reading}
 use Rattle.request.specs.declared.Shape.{Shape}
 use Rattle.request.specs.Verbs.{shapeOf, longestLine}
 use Rattle.request.specs.Requests.{requestCall, requestOf, hasLabel, labelOf, askedBy, lineOf}
-use Rattle.request.specs.Law.{IsLabel, InRange, saying}
+use Rattle.request.specs.Law.{IsLabel, ClaimsInRange, InRange, saying}
 use Rattle.writer.specs.declared.Unwritten.{Unwritten}
 use Rattle.writer.specs.declared.Writing.{Writing}
 use Rattle.writer.specs.Writer.{writingOf, bufferAfter}
 
 -- the claims that a line of this shape has are sets of the files 1 to 64, as every set of the code
 abbrev pub ClaimsAs : Shape → Asked → Type 0
-ClaimsAs Shape.Entry a = OfFiles (a .writable) × OfFiles (a .readable) × OfFiles (a .inquirable)
+ClaimsAs Shape.Entry a = ClaimsInRange (a .claims)
 ClaimsAs Shape.File a = Unit {0}
 ClaimsAs Shape.Record a = Unit {0}
 ClaimsAs Shape.Alone a = Unit {0}
