@@ -3,9 +3,9 @@ use Prim.Native.Nat.{ℕ, _+_, _*_, _≤_}
 use mathlib.Core.Path.{_≡_, refl, ap, ap₂, sym, subst, _∙_}
 use mathlib.Core.List.{List, [], _++_, append-nil}
 use mathlib.Core.Option.{some}
-use mathlib.Core.Bool.{true, _&&_}
+use mathlib.Core.Bool.{true, cond, _&&_}
 use lib.Dec.{eqb, ltb}
-use lib.ListN.{length, take, drop, replicate, length-append, length-take, length-drop, take-append-drop}
+use lib.ListN.{length, take, drop, length-append, length-take, length-drop, take-append-drop}
 use lib.Seq.{take-at, drop-at, drop-drop, take-all}
 use native.Mathlib.Omega.{arith}
 use borrow.Author.Tests.{eqb-true}
@@ -19,7 +19,7 @@ use Rattle.columns.proofs.Rows.{flat-length}
 use Rattle.rules.specs.declared.Asked.{Asked}
 use Rattle.rules.specs.declared.Refusal.{Refusal}
 use Rattle.rules.specs.declared.Verb.{Verb}
-use Rattle.rules.specs.Calls.{Call, Enter, claiming, noClaims, callOf}
+use Rattle.rules.specs.Calls.{Call, claiming, noClaims, callOf}
 use Rattle.request.specs.declared.Reading.{Reading}
 use Rattle.request.specs.declared.Request.{Request}
 use Rattle.request.specs.declared.Shape.{Shape}
@@ -29,7 +29,7 @@ use Rattle.request.specs.Requests.{asking, taken, requestCall, begins, p
 use Rattle.request.specs.Requests.{jField, recordField, recordLine}
 use Rattle.request.specs.Requests.{labelByte, labelPart, filesIn, rises, setOf, entryFiles, entryCounts, entryLine, fileLine, aloneLine}
 use Rattle.request.specs.Requests.{readAs, verbOf, requestOf, hasLabel, isEntry, labelOf, filesOf, filesColumns, askedBy, lineAs, lineFor, lineOf}
-use Rattle.request.specs.Law.{IsLabel, RangeAs, InRange, saying, TakenWith, AsksFor, LineLaw, SayingLaw, LabelLaw}
+use Rattle.request.specs.Law.{IsLabel, RangeAs, InRange, saying, labelAs, TakenWith, AsksFor, LineLaw, SayingLaw, LabelLaw}
 use Rattle.request.proofs.Verbs.{AskedBack, verb-good, verb-length, ProperAs, call-good, line-begins, verb-found}
 use Rattle.request.proofs.Verbs.{program-columns, file-columns, count-columns, record-columns}
 use Rattle.request.proofs.Laws.{entry-good, counts-good, file-good, record-good, alone-good}
@@ -214,8 +214,8 @@ entry-read a label h k g =
     ∙ counts-good (a .verb) l (a .program) (length vs) (length qs) (length js) nw nr nj (m .long) ∙ e
     ∙ ap₂ (λ (f n : ℕ). taken (a .verb) (a .program) f n (a .claims)) (sym (k .0)) (sym (k .1))
 
-as-read : (s : Shape) (a : Asked) (label : List ℕ) → RangeAs s a → ProperAs s a → IsLabel label → read-back s a label
-as-read Shape.Entry a label h k g = entry-read a label h k g
+as-read : (s : Shape) (a : Asked) (label : List ℕ) → RangeAs s a → ProperAs s a → (hasLabel s ≡ true → IsLabel label) → read-back s a label
+as-read Shape.Entry a label h k g = entry-read a label h k (g refl)
 as-read Shape.File a label h k g = file-read a label h k
 as-read Shape.Record a label h k g = record-read a label h k
 as-read Shape.Alone a label h k g = alone-read a label h k
@@ -228,13 +228,17 @@ line-read c label h g = let a = askedBy c in
     (as-read (shapeOf (a .verb)) a label h (call-good c .proper) g)
 
 -- and its label is the one that stands in it
-pub label-there : (a : Asked) (label : List ℕ) → length label ≡ labelWidth → labelPart (lineAs Shape.Entry a label) ≡ label
+label-at : (s : Shape) (a : Asked) (label : List ℕ) → (hasLabel s ≡ true → IsLabel label)
+    → cond (hasLabel s) (labelPart (lineAs s a label)) [] ≡ labelAs s label
 unfolding labelPart
-label-there a label h = parts a label h .label
+label-at Shape.Entry a label g = parts a label (g refl .0) .label
+label-at Shape.File a label g = refl
+label-at Shape.Record a label g = refl
+label-at Shape.Alone a label g = refl
 
 pub label-read : LabelLaw
 unfolding labelOf lineFor
-label-read p v q j label h g = rw (line-read (Enter p v q j) label h g) (label-there (askedBy (Enter p v q j)) label (g .0))
+label-read c label h g = rw (line-read c label h g) (label-at (shapeOf (askedBy c .verb)) (askedBy c) label g)
 
 -- ---- a line that is taken is the line that asks for its call
 
@@ -484,25 +488,11 @@ read-line l h = by-option (verbOf l) (λ e. not-taken Refusal.NoVerb (rw e at h)
 
 -- ---- both ways in one
 
--- the label matters to lines that have one
-as-label : (s : Shape) (a : Asked) (l : List ℕ) → (hasLabel s ≡ true → IsLabel l)
-    → (label : List ℕ) × IsLabel label × (lineAs s a l ≡ lineAs s a label)
-unfolding all
-as-label Shape.Entry a l h = (l, h refl, refl)
-as-label Shape.File a l h = (replicate labelWidth 32, (refl, refl), refl)
-as-label Shape.Record a l h = (replicate labelWidth 32, (refl, refl), refl)
-as-label Shape.Alone a l h = (replicate labelWidth 32, (refl, refl), refl)
-
-pub some-label : (c : Call) (l : List ℕ) → (isEntry (saying c) ≡ true → IsLabel l) → (label : List ℕ) × IsLabel label × (lineOf c l ≡ lineOf c label)
-unfolding lineFor
-some-label c l h = as-label (shapeOf (askedBy c .verb)) (askedBy c) l h
-
 asks-of-taken : (l : List ℕ) (c : Call) → TakenWith l c → AsksFor l c
 asks-of-taken l c h =
     let s = read-line l (h .0) in
     let e = h .1 in
-    let m = some-label (requestCall (requestOf l)) (labelPart l) (λ z. s .label (ap isEntry (s .call) ∙ z)) in
-    rw (← e) (s .range, (m .0, m .1, s .line ∙ m .2))
+    rw (← e) (s .range, (labelPart l, λ z. s .label (ap isEntry (s .call) ∙ z), s .line))
 
 taken-of-asks : (l : List ℕ) (c : Call) → AsksFor l c → TakenWith l c
 taken-of-asks l c h =
