@@ -56,7 +56,7 @@ use Rattle.search.specs.Rows.{asOrder}
 use Rattle.search.proofs.Laws.{drop-replicate}
 use Rattle.search.proofs.Ordered.{order-none, order-found}
 use Rattle.settling.specs.Writing.{Written, after, Fits}
-use Rattle.apply.specs.Replies.{wrote, replied, numberIf, fileFirst, recordFirst, entryCheck, claimCheckAt, useCheckAt, inquiryCheckAt, returnedCheck, unlessBusy, nearCheck, waitingFor}
+use Rattle.apply.specs.Replies.{wrote, replied, numberIf, fileFirst, recordFirst, entryCheck, claimCheckAt, useCheckAt, inquiryCheckAt, returnedCheck, unlessBusy, nearCheck, waitingFor, Carries}
 
 -- ---- a call on a good board
 
@@ -266,6 +266,15 @@ wrote-reply b a l = refl
 pub wrote-none : (b : Board) (r : Refusal) → replied (wrote b []) (Answer.Refuse r) ≡ refuse b r
 unfolding refuse reply
 wrote-none b r = refl
+
+-- none was found
+pub none-carries : (b : Board) → Carries b (record { kind = Search.Stuck; at = replicate 32 0 })
+none-carries b e = never {t = false} e refl
+
+-- the one that was found with f given is that of the board with f given
+pub found-carries : (b c : Board) (r : Order) (n : ℕ) → r ≡ asOrder (carried b) → r .kind ≡ Search.Found n → c ≡ b
+    → Carries c (record { kind = Search.Found n; at = r .at })
+found-carries b c r n e k d _ = ap (λ (x : Search). record { kind = x; at = r .at }) (sym k) ∙ e ∙ ap (λ (x : Board). asOrder (carried x)) (sym d)
 
 -- ---- lines in their array
 

@@ -2,7 +2,7 @@
 -- Assumes nothing.
 use Prim.Native.Nat.{ℕ, suc, _≤_}
 use mathlib.Core.Path.{_≡_}
-use mathlib.Core.Bool.{Bool, not, cond, _&&_}
+use mathlib.Core.Bool.{Bool, true, not, cond, _&&_}
 use mathlib.Core.List.{List, [], _++_}
 use mathlib.Core.Option.{Option·getD}
 use lib.Dec.{eqb}
@@ -27,9 +27,12 @@ use Rattle.rules.specs.Settling.{handOn, settle}
 use Rattle.rules.specs.Replies.{blank}
 use Rattle.theory.specs.Loose.{Loose, Counted}
 use Rattle.theory.specs.Records.{Records}
-use Rattle.parts.specs.Entries.{Entries}
+use Rattle.parts.specs.Entries.{Entries, IsEntries}
 use Rattle.store.specs.declared.Seat.{Seat}
-use Rattle.store.specs.Sets.{Sets, openAt, claimsAt, opensAt}
+use Rattle.store.specs.Sets.{Sets, IsStore, openAt, claimsAt, opensAt}
+use Rattle.store.specs.Store.{boardOf}
+use Rattle.search.specs.declared.Order.{Order}
+use Rattle.search.specs.Rows.{asOrder, isFound}
 use Rattle.settling.specs.Writing.{Written, writtenIn}
 use Rattle.apply.specs.declared.Changed.{Changed}
 
@@ -52,6 +55,14 @@ replied w a =
 -- what the call with this reply comes to, with these sets and lines: its board, lines and answer
 abbrev pub ComesTo : Sets → Entries → Changed → Reply → Type 0
 ComesTo sets lines c r = replied (writtenIn sets lines (c .progress)) (c .answer) ≡ r
+
+-- an order, if one was found, is the carried order of the board
+abbrev pub Carries : Board → Order → Type 0
+Carries b o = isFound (o .kind) ≡ true → o ≡ asOrder (carried b)
+
+-- what a call comes to stands in sets and lines of their form, and an order found on the way is that of its board
+abbrev pub InForm : Sets → Entries → Changed → Type 0
+InForm sets lines c = IsStore sets × IsEntries lines × Carries (boardOf sets (c .progress .rest)) (c .order)
 
 -- the number if the test passes, and 0 otherwise
 abbrev pub numberIf : Bool → ℕ → ℕ

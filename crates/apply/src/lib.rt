@@ -9,6 +9,7 @@ use rules::Refusal;
 use rules::Standing;
 use rules::Verb;
 use rules::Word;
+use search::Order;
 use search::Search;
 use settling::Progress;
 use store::Rest;
@@ -31,15 +32,17 @@ ghost use Rattle.theory.specs.Loose.{Good};
 ghost use Rattle.parts.specs.Entries.{IsEntries, noEntries};
 ghost use Rattle.store.specs.Sets.{IsStore};
 ghost use Rattle.store.specs.Store.{standingAt, boardOf};
-ghost use Rattle.apply.specs.Replies.{ComesTo, seatUses, waitingFor};
+ghost use Rattle.apply.specs.Replies.{ComesTo, Carries, InForm, seatUses, waitingFor};
 
 mod checks;
 pub mod replies;
 
-// What a call comes to: the rest of the board after it, with the number of lines written, and the answer.
+// What a call comes to: the rest of the board after it, with the number of lines written, the answer, and the order of that board
+// if the call found it on its way, otherwise none.
 pub struct Changed {
     pub progress: Progress,
     pub answer: Answer,
+    pub order: Order,
 }
 
 // ---- enter
@@ -119,14 +122,16 @@ fn hold_for(
         × (enterCheck (boardOf (now sets) rest) p writable readable inquirable ≡ Check.Passed) × ((1 ≤ w) × (w ≤ 32)) × IsStore (now sets)
         × (now lines ≡ noEntries) ⌝ }
     ensures { λ r. ⌜ ComesTo (now (sets .exit)) (now (lines .exit)) r (holdFor (boardOf (now (sets .entry)) rest) p writable readable inquirable w) ⌝ }
-    ensures { λ _. ⌜ IsStore (now (sets .exit)) × IsEntries (now (lines .exit)) ⌝ }
+    ensures { λ r. ⌜ InForm (now (sets .exit)) (now (lines .exit)) r ⌝ }
 {
     let c = put_held(sets, rest, p, writable, readable, inquirable);
     let held = replies::one_line(sets, c, lines, Word::Held, p, 0, 0);
     let progress = settling::favour_waiter(sets, lines, held, w);
+    let order = Order::NONE;
     Changed {
         progress,
         answer: Answer::Held,
+        order,
     }
 }
 
@@ -144,7 +149,7 @@ fn do_enter(
     requires { ⌜ ((1 ≤ p) × (p ≤ 32)) × Good (boardOf (now sets) rest)
         × (enterCheck (boardOf (now sets) rest) p writable readable inquirable ≡ Check.Passed) × IsStore (now sets) × (now lines ≡ noEntries) ⌝ }
     ensures { λ r. ⌜ ComesTo (now (sets .exit)) (now (lines .exit)) r (enter (boardOf (now (sets .entry)) rest) p writable readable inquirable) ⌝ }
-    ensures { λ _. ⌜ IsStore (now (sets .exit)) × IsEntries (now (lines .exit)) ⌝ }
+    ensures { λ r. ⌜ InForm (now (sets .exit)) (now (lines .exit)) r ⌝ }
 {
     let favoured = rest.favoured;
     if favoured != 0 {
@@ -193,7 +198,7 @@ fn do_open(sets: &mut Sets, rest: Rest, lines: &mut Entries, p: u8, f: u16) -> C
     requires { ⌜ ((1 ≤ p) × (p ≤ 32)) × Good (boardOf (now sets) rest) × (openCheck (boardOf (now sets) rest) p f ≡ Check.Passed)
         × IsStore (now sets) × (now lines ≡ noEntries) ⌝ }
     ensures { λ r. ⌜ ComesTo (now (sets .exit)) (now (lines .exit)) r (openFile (boardOf (now (sets .entry)) rest) p f) ⌝ }
-    ensures { λ _. ⌜ IsStore (now (sets .exit)) × IsEntries (now (lines .exit)) ⌝ }
+    ensures { λ r. ⌜ InForm (now (sets .exit)) (now (lines .exit)) r ⌝ }
 {
     let admitted = tables::boards::admitted_seats(rest);
     let uses = search::gives::uses_in(admitted, sets);
@@ -203,12 +208,17 @@ fn do_open(sets: &mut Sets, rest: Rest, lines: &mut Entries, p: u8, f: u16) -> C
     }
     let order = search::gives::order_given(sets, rest, p, f);
     let kind = order.kind;
-    let Search::Found(_) = kind else {
+    let Search::Found(n) = kind else {
         let c = put_waiting(sets, rest, p, f, 0, 0);
         return replies::answered(sets, c, lines, Word::Unsafe, p, f, 0, Answer::Unsafe);
     };
     store::sets::give(sets, p, f);
-    replies::answered(sets, rest, lines, Word::Given, p, f, 0, Answer::Given)
+    let at = order.at;
+    let given = Order {
+        kind: Search::Found(n),
+        at: at,
+    };
+    replies::given(sets, rest, lines, p, f, given)
 }
 
 // ---- fetch
@@ -281,7 +291,7 @@ fn do_fetch(sets: &Sets, rest: Rest, lines: &mut Entries, p: u8, f: u16, n: u16)
     requires { ⌜ ((1 ≤ p) × (p ≤ 32)) × Good (boardOf (now sets) rest) × (fetchCheck (boardOf (now sets) rest) p f n ≡ Check.Passed)
         × IsStore (now sets) × (now lines ≡ noEntries) ⌝ }
     ensures { λ r. ⌜ ComesTo (now (sets .entry)) (now (lines .exit)) r (fetch (boardOf (now (sets .entry)) rest) p f n) ⌝ }
-    ensures { λ _. ⌜ IsEntries (now (lines .exit)) ⌝ }
+    ensures { λ r. ⌜ IsEntries (now (lines .exit)) × Carries (boardOf (now (sets .entry)) (r .progress .rest)) (r .order) ⌝ }
 {
     if is_taken(sets, rest, p, f, n) {
         let c = put_waiting(sets, rest, p, f, f, n);
@@ -298,7 +308,7 @@ fn do_return(sets: &mut Sets, rest: Rest, lines: &mut Entries, p: u8) -> Changed
     requires { ⌜ ((1 ≤ p) × (p ≤ 32)) × Good (boardOf (now sets) rest) × (returnCheck (boardOf (now sets) rest) p ≡ Check.Passed)
         × IsStore (now sets) × (now lines ≡ noEntries) ⌝ }
     ensures { λ r. ⌜ ComesTo (now (sets .exit)) (now (lines .exit)) r (returnItem (boardOf (now (sets .entry)) rest) p) ⌝ }
-    ensures { λ _. ⌜ IsStore (now (sets .exit)) × IsEntries (now (lines .exit)) ⌝ }
+    ensures { λ r. ⌜ InForm (now (sets .exit)) (now (lines .exit)) r ⌝ }
 {
     let seat = store::seat_at(rest, p);
     let c = put_record(sets, rest, p, 0, 0);
@@ -312,7 +322,7 @@ fn do_close(sets: &mut Sets, rest: Rest, lines: &mut Entries, p: u8, f: u16) -> 
     requires { ⌜ ((1 ≤ p) × (p ≤ 32)) × Good (boardOf (now sets) rest) × (closeCheck (boardOf (now sets) rest) p f ≡ Check.Passed)
         × IsStore (now sets) × (now lines ≡ noEntries) ⌝ }
     ensures { λ r. ⌜ ComesTo (now (sets .exit)) (now (lines .exit)) r (closeFile (boardOf (now (sets .entry)) rest) p f) ⌝ }
-    ensures { λ _. ⌜ IsStore (now (sets .exit)) × IsEntries (now (lines .exit)) ⌝ }
+    ensures { λ r. ⌜ InForm (now (sets .exit)) (now (lines .exit)) r ⌝ }
 {
     store::sets::close(sets, p, f);
     replies::done(sets, rest, lines, p, f)
@@ -325,7 +335,7 @@ fn do_drop(sets: &mut Sets, rest: Rest, lines: &mut Entries, p: u8, f: u16) -> C
     requires { ⌜ ((1 ≤ p) × (p ≤ 32)) × Good (boardOf (now sets) rest) × (openCheck (boardOf (now sets) rest) p f ≡ Check.Passed)
         × IsStore (now sets) × (now lines ≡ noEntries) ⌝ }
     ensures { λ r. ⌜ ComesTo (now (sets .exit)) (now (lines .exit)) r (dropFile (boardOf (now (sets .entry)) rest) p f) ⌝ }
-    ensures { λ _. ⌜ IsStore (now (sets .exit)) × IsEntries (now (lines .exit)) ⌝ }
+    ensures { λ r. ⌜ InForm (now (sets .exit)) (now (lines .exit)) r ⌝ }
 {
     store::sets::drop(sets, p, f);
     replies::done(sets, rest, lines, p, f)
@@ -353,7 +363,7 @@ fn do_leave(sets: &mut Sets, rest: Rest, lines: &mut Entries, p: u8) -> Changed
     requires { ⌜ ((1 ≤ p) × (p ≤ 32)) × Good (boardOf (now sets) rest) × (leaveCheck (boardOf (now sets) rest) p ≡ Check.Passed)
         × IsStore (now sets) × (now lines ≡ noEntries) ⌝ }
     ensures { λ r. ⌜ ComesTo (now (sets .exit)) (now (lines .exit)) r (leave (boardOf (now (sets .entry)) rest) p) ⌝ }
-    ensures { λ _. ⌜ IsStore (now (sets .exit)) × IsEntries (now (lines .exit)) ⌝ }
+    ensures { λ r. ⌜ InForm (now (sets .exit)) (now (lines .exit)) r ⌝ }
 {
     let seat = store::seat_at(rest, p);
     let gone = Program::ABSENT;
@@ -414,7 +424,7 @@ fn do_cancel(sets: &mut Sets, rest: Rest, lines: &mut Entries, p: u8, s: Standin
     requires { ⌜ ((1 ≤ p) × (p ≤ 32)) × Good (boardOf (now sets) rest) × (cancelCheck (boardOf (now sets) rest) p ≡ Check.Passed)
         × (s ≡ standingAt rest p) × IsStore (now sets) × (now lines ≡ noEntries) ⌝ }
     ensures { λ r. ⌜ ComesTo (now (sets .exit)) (now (lines .exit)) r (cancel (boardOf (now (sets .entry)) rest) p) ⌝ }
-    ensures { λ _. ⌜ IsStore (now (sets .exit)) × IsEntries (now (lines .exit)) ⌝ }
+    ensures { λ r. ⌜ InForm (now (sets .exit)) (now (lines .exit)) r ⌝ }
 {
     let c = withdraw(sets, rest, p, s);
     replies::done(sets, c, lines, p, 0)
@@ -441,7 +451,7 @@ fn accept(
         × IsStore (now sets) × (now lines ≡ noEntries) ⌝ }
     ensures { λ r. ⌜ ComesTo (now (sets .exit)) (now (lines .exit)) r
         (accepted (boardOf (now (sets .entry)) rest) (callWith verb p f n writable readable inquirable)) ⌝ }
-    ensures { λ _. ⌜ IsStore (now (sets .exit)) × IsEntries (now (lines .exit)) ⌝ }
+    ensures { λ r. ⌜ InForm (now (sets .exit)) (now (lines .exit)) r ⌝ }
 {
     match verb {
         Verb::Enter => do_enter(sets, rest, lines, p, writable, readable, inquirable),
@@ -459,7 +469,7 @@ fn accept(
 fn call_by(sets: &mut Sets, rest: Rest, lines: &mut Entries, p: u8, a: Asked) -> Changed
     requires { ⌜ ((1 ≤ p) × (p ≤ 32)) × (p ≡ a .program) × Good (boardOf (now sets) rest) × IsStore (now sets) × (now lines ≡ noEntries) ⌝ }
     ensures { λ r. ⌜ ComesTo (now (sets .exit)) (now (lines .exit)) r (apply (boardOf (now (sets .entry)) rest) (callOf a)) ⌝ }
-    ensures { λ _. ⌜ IsStore (now (sets .exit)) × IsEntries (now (lines .exit)) ⌝ }
+    ensures { λ r. ⌜ InForm (now (sets .exit)) (now (lines .exit)) r ⌝ }
 {
     let f = checks::file_of(a.file);
     let n = checks::record_of(a.item);
@@ -492,7 +502,7 @@ fn call_by(sets: &mut Sets, rest: Rest, lines: &mut Entries, p: u8, a: Asked) ->
 pub fn call(sets: &mut Sets, rest: Rest, lines: &mut Entries, a: Asked) -> Changed
     requires { ⌜ (sound (boardOf (now sets) rest) ≡ true) × IsStore (now sets) × (now lines ≡ noEntries) ⌝ }
     ensures { λ r. ⌜ ComesTo (now (sets .exit)) (now (lines .exit)) r (apply (boardOf (now (sets .entry)) rest) (callOf a)) ⌝ }
-    ensures { λ _. ⌜ IsStore (now (sets .exit)) × IsEntries (now (lines .exit)) ⌝ }
+    ensures { λ r. ⌜ InForm (now (sets .exit)) (now (lines .exit)) r ⌝ }
 {
     let p = checks::program_of(a.program);
     if p == 0 {

@@ -4,11 +4,14 @@ use parts::entries::Entries;
 use rules::Answer;
 use rules::Refusal;
 use rules::Word;
+use search::Order;
 use settling::Progress;
 use store::Rest;
 use store::sets::Sets;
 ghost use mathlib.Core.Path.{_≡_};
 ghost use mathlib.Core.List.{[], _∷_};
+ghost use Rattle.rules.specs.declared.Answer.{Answer};
+ghost use Rattle.rules.specs.declared.Word.{Word};
 ghost use Rattle.rules.specs.Settling.{lineOf, handOn};
 ghost use Rattle.rules.specs.Replies.{reply, refuse};
 ghost use Rattle.rules.specs.Calls.{finish, done};
@@ -17,7 +20,7 @@ ghost use Rattle.parts.specs.Entries.{IsEntries, noEntries};
 ghost use Rattle.store.specs.Sets.{IsStore};
 ghost use Rattle.store.specs.Store.{boardOf};
 ghost use Rattle.settling.specs.Writing.{writtenIn};
-ghost use Rattle.apply.specs.Replies.{wrote, ComesTo, Handing};
+ghost use Rattle.apply.specs.Replies.{wrote, ComesTo, Carries, InForm, Handing};
 
 // The rest, with one line written.
 pub fn one_line(
@@ -50,20 +53,43 @@ pub fn answered(
 ) -> Changed
     requires { ⌜ now lines ≡ noEntries ⌝ }
     ensures { λ r. ⌜ ComesTo (now (sets .entry)) (now (lines .exit)) r (reply (boardOf (now (sets .entry)) rest) answer (lineOf word p f n ∷ [])) ⌝ }
-    ensures { λ _. ⌜ IsEntries (now (lines .exit)) ⌝ }
+    ensures { λ r. ⌜ IsEntries (now (lines .exit)) × Carries (boardOf (now (sets .entry)) (r .progress .rest)) (r .order) ⌝ }
 {
     let progress = one_line(sets, rest, lines, word, p, f, n);
-    Changed { progress, answer }
+    let order = Order::NONE;
+    Changed {
+        progress,
+        answer,
+        order,
+    }
+}
+
+// GIVEN, with the order that was found for it.
+pub fn given(sets: &Sets, rest: Rest, lines: &mut Entries, p: u8, f: u8, order: Order) -> Changed
+    requires { ⌜ (now lines ≡ noEntries) × Carries (boardOf (now sets) rest) order ⌝ }
+    ensures { λ r. ⌜ ComesTo (now (sets .entry)) (now (lines .exit)) r
+        (reply (boardOf (now (sets .entry)) rest) Answer.Given (lineOf Word.Given p f 0 ∷ [])) ⌝ }
+    ensures { λ r. ⌜ IsEntries (now (lines .exit)) × Carries (boardOf (now (sets .entry)) (r .progress .rest)) (r .order) ⌝ }
+{
+    let progress = one_line(sets, rest, lines, Word::Given, p, f, 0);
+    Changed {
+        progress,
+        answer: Answer::Given,
+        order,
+    }
 }
 
 // A refusal: the board is as it was, and no line is written.
 pub fn refused(sets: &Sets, rest: Rest, lines: &Entries, refusal: Refusal) -> Changed
     requires { ⌜ now lines ≡ noEntries ⌝ }
     ensures { λ r. ⌜ ComesTo (now (sets .entry)) (now (lines .entry)) r (refuse (boardOf (now (sets .entry)) rest) refusal) ⌝ }
+    ensures { λ r. ⌜ Carries (boardOf (now (sets .entry)) (r .progress .rest)) (r .order) ⌝ }
 {
+    let order = Order::NONE;
     Changed {
         progress: Progress { rest, count: 0 },
         answer: Answer::Refuse(refusal),
+        order,
     }
 }
 
@@ -71,13 +97,15 @@ pub fn refused(sets: &Sets, rest: Rest, lines: &Entries, refusal: Refusal) -> Ch
 pub fn done(sets: &mut Sets, rest: Rest, lines: &mut Entries, p: u8, f: u16) -> Changed
     requires { ⌜ Ready (boardOf (now sets) rest) × IsStore (now sets) × (now lines ≡ noEntries) ⌝ }
     ensures { λ r. ⌜ ComesTo (now (sets .exit)) (now (lines .exit)) r (done (boardOf (now (sets .entry)) rest) p f) ⌝ }
-    ensures { λ _. ⌜ IsStore (now (sets .exit)) × IsEntries (now (lines .exit)) ⌝ }
+    ensures { λ r. ⌜ InForm (now (sets .exit)) (now (lines .exit)) r ⌝ }
 {
     let w = one_line(sets, rest, lines, Word::Done, p, f, 0);
     let progress = settling::settled(sets, lines, w);
+    let order = Order::NONE;
     Changed {
         progress,
         answer: Answer::Done,
+        order,
     }
 }
 
@@ -85,11 +113,16 @@ pub fn done(sets: &mut Sets, rest: Rest, lines: &mut Entries, p: u8, f: u16) -> 
 pub fn handed_on(sets: &mut Sets, rest: Rest, lines: &mut Entries, p: u8, f: u16, n: u16) -> Changed
     requires { ⌜ Handing (boardOf (now sets) rest) f n × IsStore (now sets) × (now lines ≡ noEntries) ⌝ }
     ensures { λ r. ⌜ ComesTo (now (sets .exit)) (now (lines .exit)) r (finish (handOn (boardOf (now (sets .entry)) rest) f n) p 0) ⌝ }
-    ensures { λ _. ⌜ IsStore (now (sets .exit)) × IsEntries (now (lines .exit)) ⌝ }
+    ensures { λ r. ⌜ InForm (now (sets .exit)) (now (lines .exit)) r ⌝ }
 {
     let w = one_line(sets, rest, lines, Word::Done, p, 0, 0);
     let h = settling::hand_on(sets, lines, w, f, n);
     let progress = settling::settled(sets, lines, h);
     let answer = Answer::Done;
-    Changed { progress, answer }
+    let order = Order::NONE;
+    Changed {
+        progress,
+        answer,
+        order,
+    }
 }

@@ -39,7 +39,7 @@ line-reads l =
       number = refl;
       label = refl;
       rising = refl;
-      call = λ v p f n w r j k i i₂. refl;
+      call = λ v p f n c k i i₂. refl;
     }) l
 
 -- ══ A call with its numbers in range ══

@@ -18,7 +18,7 @@ use Rattle.rules.specs.Calls.{Call, Enter, Open, Leave, direct}
 use Rattle.request.specs.declared.Reading.{Reading}
 use Rattle.request.specs.declared.Request.{Request}
 use Rattle.request.specs.Requests.{requestOf, lineOf}
-use Rattle.request.specs.Law.{InRange, IsLabel}
+use Rattle.request.specs.Law.{InRange, LabelFor}
 use Rattle.journal.specs.Journal.{journalLine, lineBytes, written}
 use Rattle.image.specs.Image.{imageOf}
 use Rattle.image.specs.Law.{BoardOfCode, Bytes}
@@ -27,9 +27,10 @@ use Rattle.host.specs.Host.{readImage, hostCall, orderNow}
 
 -- ══ Lines ══
 
--- "Line calls ..: demand 2 has each do what the direct call with its line's numbers does": the line that asks for c, with any label
+-- "Line calls ..: demand 2 has each do what the direct call with its line's numbers does": the line that asks for c; an ENTER with
+-- any label, and another call whatever stands as label
 abbrev pub LineDoesItsCall : Type 0
-LineDoesItsCall = (b : Board) (c : Call) (label journal : List ℕ) (place : ℕ) → InRange c → IsLabel label
+LineDoesItsCall = (b : Board) (c : Call) (label journal : List ℕ) (place : ℕ) → InRange c → LabelFor c label
     → journalFull (length journal) place ≡ false → lineCall b (lineOf c label) journal place .reply ≡ direct b c
 
 -- ".. or leave the board as it was": a line that isn't taken gets its refusal, with the order of the unchanged board, and one REFUSE line

@@ -1,46 +1,32 @@
 // The writer of request lines, for a C host.
 use crate::refusal_answer;
-use files::FileSet;
+use image::SET_LEN;
 use rules::Asked;
+use rules::Claims;
 use writer::Writing;
 ghost use mathlib.Core.Path.{_≡_};
-ghost use Prim.Native.Nat.{_+_, _*_, _≤_, _<_};
-ghost use lib.ListN.{length};
-ghost use Rattle.image.specs.Image.{setSection};
-ghost use Rattle.host.specs.Writing.{claimsLength, claimsGood, claimAt, writingAnswer, writeAnswer, writeBuffer};
+ghost use Rattle.host.specs.Writing.{claimsGood, claimsIn, writingAnswer, writeAnswer, writeBuffer};
 
 // ---- claims
 
-// Two bytes, lowest first.
-fn pair(a: u8, b: u8) -> u64
-    ensures { λ r. ⌜ (r ≡ a + 256 * b) × (r < 65536) ⌝ }
-{
-    a as u64 + 256 * (b as u64)
-}
+// How many bytes the claims have: V, Q and J, each as an image has a set.
+pub const CLAIMS_LEN: usize = 3 * SET_LEN;
 
-// The set of its bytes, as an image has it.
-fn read_set(s: &[u8]) -> FileSet
-    requires { ⌜ length (now s) ≡ setSection .size ⌝ }
-    ensures { λ r. ⌜ r ≡ setSection .read (now (s .entry)) ⌝ }
+// The claims of their bytes; none where these haven't their length.
+fn claims_in(claims: &[u8]) -> Claims
+    ensures { λ r. ⌜ r ≡ claimsIn (now (claims .entry)) ⌝ }
 {
-    let a = pair(s[0], s[1]);
-    let b = pair(s[2], s[3]);
-    let c = pair(s[4], s[5]);
-    let d = pair(s[6], s[7]);
-    FileSet {
-        bits: a + 65536 * b + 4294967296 * (c + 65536 * d),
+    if claims.len() != CLAIMS_LEN {
+        return Claims::NONE;
     }
-}
-
-// The claim that begins with a byte of the claims; none where they haven't their length.
-fn claim_at(claims: &[u8], at: usize) -> FileSet
-    requires { ⌜ at + setSection .size ≤ claimsLength ⌝ }
-    ensures { λ r. ⌜ r ≡ claimAt (now (claims .entry)) at ⌝ }
-{
-    if claims.len() == 24 {
-        return read_set(&claims[at..at + 8]);
+    let writable = image::read_set(&claims[0..SET_LEN]);
+    let readable = image::read_set(&claims[SET_LEN..2 * SET_LEN]);
+    let inquirable = image::read_set(&claims[2 * SET_LEN..CLAIMS_LEN]);
+    Claims {
+        writable,
+        readable,
+        inquirable,
     }
-    FileSet::EMPTY
 }
 
 // An ENTER has claims of their length; those of another verb are not looked at.
@@ -48,7 +34,7 @@ fn claims_good(verb: u64, claims: &[u8]) -> bool
     ensures { λ r. ⌜ r ≡ claimsGood verb (now (claims .entry)) ⌝ }
 {
     if verb == 1 {
-        return claims.len() == 24;
+        return claims.len() == CLAIMS_LEN;
     }
     true
 }
@@ -66,7 +52,8 @@ fn answer_of(w: Writing) -> u64
 }
 
 // Writes the line that asks for the call from the buffer's start, and answers its length. A number that is no verb's gets 3, an ENTER
-// whose claims (V, Q and J, eight bytes each) haven't 24 bytes 8; the writer's refusals are 8, 19, 6 and 17. A refusal writes nothing, and bytes after the line keep their contents.
+// whose claims haven't their length 8; the writer's refusals are 8, 19, 6 and 17. A refusal writes nothing, and bytes after the line keep
+// their contents.
 #[no_mangle]
 pub extern "C" fn lock_board_write(
     verb: u64,
@@ -90,17 +77,13 @@ pub extern "C" fn lock_board_write(
         return refusal_answer(8);
     }
     let verb = request::verb_at((verb - 1) as usize);
-    let writable = claim_at(claims, 0);
-    let readable = claim_at(claims, 8);
-    let inquirable = claim_at(claims, 16);
+    let claims = claims_in(claims);
     let asked = Asked {
         verb,
         program,
         file,
         item,
-        writable,
-        readable,
-        inquirable,
+        claims,
     };
     let written = writer::write(asked, label, line);
     answer_of(written)

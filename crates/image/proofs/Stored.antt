@@ -59,27 +59,43 @@ sets-taken q p k m {l} {l₁} {l₂} h n e f a b = rows-put q (p - 1) l l₁ l�
 
 -- ---- a seat read
 
-module _ (s x : List ℕ) (u a : ℕ) (n : length x ≡ inquirySection .size)
-    (eu : u ≡ getD x 16 0 + 256 * getD x 17 0) (ea : a ≡ getD x 18 0 + 256 * getD x 19 0) where
+-- how many bytes stand before the standing's byte in a program's row, and before the record in use in its second row
+abbrev kindAt : ℕ
+kindAt = 4 * setSection .size
+
+abbrev usedAt : ℕ
+usedAt = 2 * setSection .size
+
+-- the number of two bytes of a row, lowest first
+abbrev twoAt : List ℕ → ℕ → ℕ
+twoAt x n = getD x n 0 + 256 * getD x (n + 1) 0
+
+module _ (s x : List ℕ) (u a : ℕ) (n : length x ≡ inquirySection .size) (eu : u ≡ twoAt x usedAt) (ea : a ≡ twoAt x (usedAt + 2)) where
+  -- the standing's byte, and the awaited-file byte
+  abbrev k : ℕ
+  k = getD s kindAt 0
+
+  abbrev f : ℕ
+  f = getD s (kindAt + 1) 0
+
   used-read : u ≡ inquirySection .read x .1 .0
-  used-read = eu ∙ sym (item-at x 16 (omega arith))
+  used-read = eu ∙ sym (item-at x usedAt (omega arith))
 
   wanted-read : a ≡ inquirySection .read x .1 .1
-  wanted-read = ea ∙ sym (rw (drop-drop 2 16 x) (item-at x 18 (omega arith)))
+  wanted-read = ea ∙ sym (rw (drop-drop 2 usedAt x) (item-at x (usedAt + 2) (omega arith)))
 
-  kind-read : rowSection .read s .1 .0 ≡ getD s 32 0
-  kind-read = getD-drop 32 s 0 0
+  kind-read : rowSection .read s .1 .0 ≡ k
+  kind-read = getD-drop kindAt s 0 0
 
-  file-read : rowSection .read s .1 .1 ≡ getD s 33 0
-  file-read = getD-drop 1 (drop 32 s) 0 0 ∙ getD-drop 32 s 1 0
+  file-read : rowSection .read s .1 .1 ≡ f
+  file-read = getD-drop 1 (drop kindAt s) 0 0 ∙ getD-drop kindAt s 1 0
 
   -- the test of the two rows
-  pub seat-tested : seatFits (getD s 32 0) (getD s 33 0) u a ≡ rowsAgree (rowSection .read s) (inquirySection .read x)
+  pub seat-tested : seatFits k f u a ≡ rowsAgree (rowSection .read s) (inquirySection .read x)
   seat-tested = rw (kind-read, file-read, ← used-read, ← wanted-read)
 
   -- the seat in the two rows
-  pub seat-read : (t : Standing) (file item : ℕ) → t ≡ standingOf (getD s 32 0) (getD s 33 0) → file ≡ fileOf (getD s 32 0) (getD s 33 0) a
-      → item ≡ itemOf (getD s 32 0) u a
+  pub seat-read : (t : Standing) (file item : ℕ) → t ≡ standingOf k f → file ≡ fileOf k f a → item ≡ itemOf k u a
       → record { standing = t; file = file; item = item } ≡ seatOf (joined (rowSection .read s) (inquirySection .read x))
   seat-read t file item et ef ei = rw (et, ef, ei, kind-read, file-read, ← used-read, ← wanted-read)
 

@@ -143,8 +143,12 @@ countsSection = run 32
 abbrev pub itemsSection : Section (ℕ × ℕ)
 itemsSection = number 2 ▸ number 2
 
+-- what comes before the second rows
+abbrev pub Front : Type 0
+Front = (((List Row × List ℕ) × List ℕ) × ((ℕ × ℕ) × ℕ)) × List ℕ
+
 abbrev pub BoardParts : Type 0
-BoardParts = ((((List Row × List ℕ) × List ℕ) × ((ℕ × ℕ) × ℕ)) × List ℕ) × List InquiryRow
+BoardParts = Front × List InquiryRow
 
 -- the second row, by the section of a set
 abbrev pub inquiryWith : Section FileSet → Section InquiryRow
@@ -155,8 +159,7 @@ module _ (set : Section FileSet) (file : Section ℕ) where
   abbrev pub rowWith : Section Row
   rowWith = set ▸ set ▸ set ▸ set ▸ (byte ▸ file)
 
-  -- what comes before the second rows
-  abbrev pub frontWith : Section ((((List Row × List ℕ) × List ℕ) × ((ℕ × ℕ) × ℕ)) × List ℕ)
+  abbrev pub frontWith : Section Front
   frontWith = many 32 rowWith ▸ lineSection ▸ lineSection ▸ numbersSection ▸ countsSection
 
   abbrev pub partsWith : Section BoardParts
@@ -195,7 +198,7 @@ rowsSection = many 32 rowSection
 abbrev pub inquiriesSection : Section (List InquiryRow)
 inquiriesSection = many 32 inquirySection
 
-abbrev pub frontSection : Section ((((List Row × List ℕ) × List ℕ) × ((ℕ × ℕ) × ℕ)) × List ℕ)
+abbrev pub frontSection : Section Front
 frontSection = frontWith setSection byte
 
 abbrev pub partsSection : Section BoardParts

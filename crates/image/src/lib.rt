@@ -26,7 +26,7 @@ ghost use Rattle.image.specs.Stored.{loadedIn};
 ghost use Rattle.columns.specs.Rows.{putAt};
 
 // How many bytes a set has.
-const SET_LEN: usize = 8;
+pub const SET_LEN: usize = 8;
 
 // Where the sets after the first begin in a program's row, where its standing does, and how many bytes a row has.
 const READABLE_AT: usize = SET_LEN;
@@ -301,7 +301,7 @@ fn pair(a: u8, b: u8) -> u64
 }
 
 // The set of its bytes.
-fn read_set(s: &[u8]) -> FileSet
+pub fn read_set(s: &[u8]) -> FileSet
     requires { ⌜ length (now s) ≡ setSection .size ⌝ }
     ensures { λ r. ⌜ r ≡ setSection .read (now (s .entry)) ⌝ }
 {

@@ -21,7 +21,7 @@ ghost use Rattle.parts.specs.Entries.{IsEntries, noEntries};
 ghost use Rattle.store.specs.Sets.{IsStore};
 ghost use Rattle.store.specs.Store.{boardOf};
 ghost use Rattle.settling.specs.Writing.{writtenIn};
-ghost use Rattle.apply.specs.Replies.{replied, ComesTo};
+ghost use Rattle.apply.specs.Replies.{replied, ComesTo, InForm};
 ghost use Rattle.linecall.specs.LineCall.{journalFull, FitsLine, refuseLine, linesFor, replyTo, lineCall};
 
 // What the call comes to, and the new place in the journal.
@@ -87,7 +87,7 @@ fn write_lines(
 fn call(sets: &mut Sets, rest: Rest, lines: &mut Entries, q: Request) -> Changed
     requires { ⌜ (sound (boardOf (now sets) rest) ≡ true) × IsStore (now sets) × (now lines ≡ noEntries) ⌝ }
     ensures { λ r. ⌜ ComesTo (now (sets .exit)) (now (lines .exit)) r (direct (boardOf (now (sets .entry)) rest) (requestCall q)) ⌝ }
-    ensures { λ _. ⌜ IsStore (now (sets .exit)) × IsEntries (now (lines .exit)) ⌝ }
+    ensures { λ r. ⌜ InForm (now (sets .exit)) (now (lines .exit)) r ⌝ }
 {
     let asked = q.asked;
     apply::call(sets, rest, lines, asked)
@@ -97,7 +97,7 @@ fn call(sets: &mut Sets, rest: Rest, lines: &mut Entries, q: Request) -> Changed
 fn reply_to(sets: &mut Sets, rest: Rest, lines: &mut Entries, q: Request) -> Changed
     requires { ⌜ (sound (boardOf (now sets) rest) ≡ true) × IsStore (now sets) × (now lines ≡ noEntries) ⌝ }
     ensures { λ r. ⌜ ComesTo (now (sets .exit)) (now (lines .exit)) r (replyTo (boardOf (now (sets .entry)) rest) q) ⌝ }
-    ensures { λ _. ⌜ IsStore (now (sets .exit)) × IsEntries (now (lines .exit)) ⌝ }
+    ensures { λ r. ⌜ InForm (now (sets .exit)) (now (lines .exit)) r ⌝ }
 {
     let reading = q.reading;
     match reading {
@@ -120,7 +120,7 @@ pub fn line(
         (lineCall (boardOf (now (sets .entry)) rest) (now (line .entry)) (now (journal .entry)) place .reply) ⌝ }
     ensures { λ r. ⌜ r .place ≡ lineCall (boardOf (now (sets .entry)) rest) (now (line .entry)) (now (journal .entry)) place .place ⌝ }
     ensures { λ _. ⌜ now (journal .exit) ≡ lineCall (boardOf (now (sets .entry)) rest) (now (line .entry)) (now (journal .entry)) place .journal ⌝ }
-    ensures { λ _. ⌜ IsStore (now (sets .exit)) × IsEntries (now (lines .exit)) ⌝ }
+    ensures { λ r. ⌜ InForm (now (sets .exit)) (now (lines .exit)) (r .changed) ⌝ }
 {
     if is_full(journal.len(), place) {
         let changed = apply::replies::refused(sets, rest, lines, Refusal::JournalFull);

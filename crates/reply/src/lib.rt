@@ -20,7 +20,7 @@ ghost use Rattle.store.specs.Sets.{IsStore};
 ghost use Rattle.store.specs.Store.{boardOf};
 ghost use Rattle.search.specs.Rows.{asOrder};
 ghost use Rattle.settling.specs.Writing.{writtenIn};
-ghost use Rattle.apply.specs.Replies.{replied};
+ghost use Rattle.apply.specs.Replies.{replied, Carries};
 
 // What stands in the places after the last line.
 const BLANK: Line = Line {
@@ -72,10 +72,11 @@ fn with_order(b: Board, lines: [Line; 32], count: u8, answer: Answer, order: Ord
     }
 }
 
-// The reply to a call; `before` is the order of the board before the call, which a refusal leaves as it was.
+// The reply to a call, with the order that the call found on its way, or else one that is sought; `before` is the order of the board
+// before the call, which a refusal leaves as it was.
 pub fn complete(sets: &Sets, lines: &Entries, c: Changed, before: Order) -> Reply
     requires { ⌜ (refused (c .answer) ≡ true → before ≡ asOrder (carried (boardOf (now sets) (c .progress .rest))))
-        × IsStore (now sets) × IsEntries (now lines) ⌝ }
+        × IsStore (now sets) × IsEntries (now lines) × Carries (boardOf (now sets) (c .progress .rest)) (c .order) ⌝ }
     ensures { λ r. ⌜ r ≡ replied (writtenIn (now (sets .entry)) (now (lines .entry)) (c .progress)) (c .answer) ⌝ }
 {
     let answer = c.answer;
@@ -86,6 +87,10 @@ pub fn complete(sets: &Sets, lines: &Entries, c: Changed, before: Order) -> Repl
     let written = lines_of(lines);
     if parts::refusals::of_answer(answer) != 0 {
         return with_order(b, written, count, answer, before);
+    }
+    let found = c.order;
+    if search::is_found(found) {
+        return with_order(b, written, count, answer, found);
     }
     let order = search::carried_in(sets, rest);
     with_order(b, written, count, answer, order)

@@ -3,8 +3,8 @@ use Prim.Native.Nat.{ℕ}
 use mathlib.Core.Path.{_≡_, refl}
 use mathlib.Core.List.{List, [], _∷_, map}
 use Rattle.columns.specs.Columns.{readAll, numberOf}
-use Rattle.files.specs.Sets.{noFiles}
 use Rattle.laws.specs.Lists.{all, first, same}
+use Rattle.rules.specs.Calls.{noClaims}
 use Rattle.rules.specs.Replies.{number}
 use Rattle.rules.specs.declared.Verb.{Verb}
 use Rattle.request.specs.declared.Reading.{Reading}
@@ -73,7 +73,7 @@ table = refl
 
 -- the six letters of CANCEL fill columns 1 to 6, and the program follows at once
 cancel-taken : map requestOf ((67 ∷ 65 ∷ 78 ∷ 67 ∷ 69 ∷ 76 ∷ 32 ∷ 32 ∷ 55 ∷ []) ∷ (67 ∷ 65 ∷ 78 ∷ 67 ∷ 69 ∷ 76 ∷ 32 ∷ 51 ∷ 50 ∷ []) ∷ [])
-    ≡ taken Verb.Cancel 7 0 0 noFiles noFiles noFiles ∷ taken Verb.Cancel 32 0 0 noFiles noFiles noFiles ∷ []
+    ≡ taken Verb.Cancel 7 0 0 noClaims ∷ taken Verb.Cancel 32 0 0 noClaims ∷ []
 unfolding readAll numberOf first same
     begins programField aloneLine verbOf requestOf
 cancel-taken = refl
@@ -81,8 +81,8 @@ cancel-taken = refl
 -- "FETCH lines have the file in columns 10–12 and the record in 13–17; RETURN has 9."
 record-taken : map requestOf ((70 ∷ 69 ∷ 84 ∷ 67 ∷ 72 ∷ 32 ∷ 32 ∷ 32 ∷ 55 ∷ 32 ∷ 32 ∷ 53 ∷ 32 ∷ 32 ∷ 32 ∷ 32 ∷ 49 ∷ []) ∷ (70 ∷ 69 ∷ 84 ∷ 67 ∷ 72 ∷ 32 ∷ 32 ∷ 51 ∷ 50 ∷ 32 ∷ 54 ∷ 52 ∷ 54 ∷ 53 ∷ 53 ∷ 51 ∷ 53 ∷ [])
     ∷ (82 ∷ 69 ∷ 84 ∷ 85 ∷ 82 ∷ 78 ∷ 32 ∷ 32 ∷ 55 ∷ []) ∷ [])
-    ≡ taken Verb.Fetch 7 5 1 noFiles noFiles noFiles ∷ taken Verb.Fetch 32 64 65535 noFiles noFiles noFiles
-    ∷ taken Verb.Return 7 0 0 noFiles noFiles noFiles ∷ []
+    ≡ taken Verb.Fetch 7 5 1 noClaims ∷ taken Verb.Fetch 32 64 65535 noClaims
+    ∷ taken Verb.Return 7 0 0 noClaims ∷ []
 unfolding readAll numberOf first same
     begins programField fileField recordField recordLine aloneLine verbOf requestOf
 record-taken = refl

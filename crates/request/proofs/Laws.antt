@@ -16,8 +16,9 @@ use Rattle.columns.specs.declared.Field.{Field}
 use Rattle.columns.specs.Columns.{wordWidth, fileWidth, numberOf}
 use Rattle.columns.proofs.Laws.{field-cases, number-is}
 use Rattle.files.specs.declared.FileSet.{FileSet}
-use Rattle.files.specs.Sets.{noFiles, adding}
+use Rattle.files.specs.Sets.{adding}
 use Rattle.rules.specs.declared.Refusal.{Refusal}
+use Rattle.rules.specs.Calls.{claiming, noClaims}
 use Rattle.laws.specs.Lists.{all, first, same}
 use Rattle.laws.specs.Laws.{no-some, some-same}
 use Rattle.rules.specs.declared.Verb.{Verb}
@@ -195,7 +196,7 @@ all-three false b c x y = refl
 abbrev pub enterBy : Verb → Group → Group → Group → ℕ → Request
 enterBy k v q j p =
     cond (v .good) (cond (q .good) (cond (j .good) (cond (v .rising) (cond (q .rising) (cond (j .rising)
-    (taken k p 0 0 (v .files) (q .files) (j .files))
+    (taken k p 0 0 (claiming (v .files) (q .files) (j .files)))
     (refused Refusal.NotRising)) (refused Refusal.NotRising)) (refused Refusal.NotRising)) (refused Refusal.BadNumber))
     (refused Refusal.BadNumber)) (refused Refusal.BadNumber)
 
@@ -223,7 +224,7 @@ module _ (k : Verb) (v q j : Group) (p : ℕ) where
   j-falls (e, d, c) h i m = rw (e, d, c, h, i, m)
 
   pub all-good : AllFiles v q j → v .rising ≡ true → q .rising ≡ true → j .rising ≡ true
-      → enterBy k v q j p ≡ taken k p 0 0 (v .files) (q .files) (j .files)
+      → enterBy k v q j p ≡ taken k p 0 0 (claiming (v .files) (q .files) (j .files))
   all-good (e, d, c) h i m = rw (e, d, c, h, i, m)
 
 pub enter-by : (k : Verb) (l : List ℕ) (p w r j : ℕ)
@@ -318,7 +319,7 @@ module _ (v : Verb) (l : List ℕ) where
   file-file p n e d = rw (eq-eqb (length l) fileLength n, e, d)
 
   pub file-good : (p f : ℕ) → length l ≡ fileLength → programField l ≡ Field.Number p → fileField l ≡ Field.Number f
-      → fileLine v l ≡ taken v p f 0 noFiles noFiles noFiles
+      → fileLine v l ≡ taken v p f 0 noClaims
   unfolding fileLine
   file-good p f n e d = rw (eq-eqb (length l) fileLength n, e, d)
 
@@ -341,7 +342,7 @@ module _ (v : Verb) (l : List ℕ) where
   record-record p f n e d c = rw (eq-eqb (length l) recordLength n, e, d, c)
 
   pub record-good : (p f m : ℕ) → length l ≡ recordLength → programField l ≡ Field.Number p → fileField l ≡ Field.Number f
-      → recordField l ≡ Field.Number m → recordLine v l ≡ taken v p f m noFiles noFiles noFiles
+      → recordField l ≡ Field.Number m → recordLine v l ≡ taken v p f m noClaims
   unfolding recordLine
   record-good p f m n e d c = rw (eq-eqb (length l) recordLength n, e, d, c)
 
@@ -353,7 +354,7 @@ module _ (v : Verb) (l : List ℕ) where
   unfolding aloneLine
   alone-program n e = rw (eq-eqb (length l) aloneLength n, e)
 
-  pub alone-good : (p : ℕ) → length l ≡ aloneLength → programField l ≡ Field.Number p → aloneLine v l ≡ taken v p 0 0 noFiles noFiles noFiles
+  pub alone-good : (p : ℕ) → length l ≡ aloneLength → programField l ≡ Field.Number p → aloneLine v l ≡ taken v p 0 0 noClaims
   unfolding aloneLine
   alone-good p n e = rw (eq-eqb (length l) aloneLength n, e)
 

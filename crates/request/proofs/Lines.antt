@@ -3,9 +3,9 @@ use Prim.Native.Nat.{ℕ, _+_, _*_, _≤_}
 use mathlib.Core.Path.{_≡_, refl, ap, ap₂, sym, subst, _∙_}
 use mathlib.Core.List.{List, [], _++_, append-nil}
 use mathlib.Core.Option.{some}
-use mathlib.Core.Bool.{true, _&&_}
+use mathlib.Core.Bool.{true, cond, _&&_}
 use lib.Dec.{eqb, ltb}
-use lib.ListN.{length, take, drop, replicate, length-append, length-take, length-drop, take-append-drop}
+use lib.ListN.{length, take, drop, length-append, length-take, length-drop, take-append-drop}
 use lib.Seq.{take-at, drop-at, drop-drop, take-all}
 use native.Mathlib.Omega.{arith}
 use borrow.Author.Tests.{eqb-true}
@@ -16,11 +16,10 @@ use Rattle.columns.specs.declared.Field.{Field}
 use Rattle.columns.specs.Columns.{wordWidth, programWidth, fileWidth, recordWidth, columnsOf}
 use Rattle.columns.proofs.Laws.{columns-length, field-cases, number-is}
 use Rattle.columns.proofs.Rows.{flat-length}
-use Rattle.files.specs.Sets.{noFiles}
 use Rattle.rules.specs.declared.Asked.{Asked}
 use Rattle.rules.specs.declared.Refusal.{Refusal}
 use Rattle.rules.specs.declared.Verb.{Verb}
-use Rattle.rules.specs.Calls.{Call, Enter, callOf}
+use Rattle.rules.specs.Calls.{Call, claiming, noClaims, callOf}
 use Rattle.request.specs.declared.Reading.{Reading}
 use Rattle.request.specs.declared.Request.{Request}
 use Rattle.request.specs.declared.Shape.{Shape}
@@ -30,8 +29,8 @@ use Rattle.request.specs.Requests.{asking, taken, requestCall, begins, p
 use Rattle.request.specs.Requests.{jField, recordField, recordLine}
 use Rattle.request.specs.Requests.{labelByte, labelPart, filesIn, rises, setOf, entryFiles, entryCounts, entryLine, fileLine, aloneLine}
 use Rattle.request.specs.Requests.{readAs, verbOf, requestOf, hasLabel, isEntry, labelOf, filesOf, filesColumns, askedBy, lineAs, lineFor, lineOf}
-use Rattle.request.specs.Law.{IsLabel, RangeAs, InRange, saying, TakenWith, AsksFor, LineLaw, SayingLaw, LabelLaw}
-use Rattle.request.proofs.Verbs.{AskedBack, verb-good, verb-length, NoClaims, ProperAs, call-good, line-begins, verb-found}
+use Rattle.request.specs.Law.{IsLabel, RangeAs, InRange, saying, labelAs, TakenWith, AsksFor, LineLaw, SayingLaw, LabelLaw}
+use Rattle.request.proofs.Verbs.{AskedBack, verb-good, verb-length, ProperAs, call-good, line-begins, verb-found}
 use Rattle.request.proofs.Verbs.{program-columns, file-columns, count-columns, record-columns}
 use Rattle.request.proofs.Laws.{entry-good, counts-good, file-good, record-good, alone-good}
 use Rattle.request.proofs.Groups.{set-bits, files-files, files-rise, files-length, set-back, list-back, columns-back, files-read}
@@ -45,10 +44,6 @@ past n k l x y e h = (rw e (take-at x y k h), sym (drop-drop k n l) ∙ rw e (dr
 -- what a line says that is read as it was written
 abbrev read-back : Shape → Asked → List ℕ → Type 0
 read-back s a label = readAs s (a .verb) (lineAs s a label) ≡ record { reading = Reading.Taken; asked = a }
-
--- a line without claims
-no-claims : (v : Verb) (p f n : ℕ) (a : Asked) → NoClaims a → taken v p f n noFiles noFiles noFiles ≡ taken v p f n (a .writable) (a .readable) (a .inquirable)
-no-claims v p f n a k = rw (k .no-v, k .no-q, k .no-j)
 
 -- OPEN, CLOSE, DROP
 file-read : (a : Asked) (label : List ℕ) → RangeAs Shape.File a → ProperAs Shape.File a → read-back Shape.File a label
@@ -70,8 +65,7 @@ file-read a label h k =
     let j = ap (take fileWidth) (i .1) ∙ take-all fileWidth f (omega (arith, columns-length fileWidth (a .file))) in
     file-good (a .verb) l (a .program) (a .file) n (ap programIn (i .0) ∙ program-columns (a .program) (h .0) (h .1))
     (ap fileIn j ∙ file-columns (a .file) (h .2) (h .3))
-    ∙ ap (λ (n : ℕ). taken (a .verb) (a .program) (a .file) n noFiles noFiles noFiles) (sym (k .0))
-    ∙ no-claims (a .verb) (a .program) (a .file) (a .item) a (k .1)
+    ∙ ap₂ (taken (a .verb) (a .program) (a .file)) (sym (k .0)) (sym (k .1))
 
 -- FETCH
 record-read : (a : Asked) (label : List ℕ) → RangeAs Shape.Record a → ProperAs Shape.Record a → read-back Shape.Record a label
@@ -97,7 +91,7 @@ record-read a label h k =
     let m = ap (take recordWidth) (j .1) ∙ take-all recordWidth r (omega (arith, columns-length recordWidth (a .item))) in
     record-good (a .verb) l (a .program) (a .file) (a .item) n (ap programIn (i .0) ∙ program-columns (a .program) (h .0) (h .1))
     (ap fileIn (j .0) ∙ file-columns (a .file) (h .2) (h .3)) (ap recordIn m ∙ record-columns (a .item) (h .4) (h .5))
-    ∙ no-claims (a .verb) (a .program) (a .file) (a .item) a k
+    ∙ ap (taken (a .verb) (a .program) (a .file) (a .item)) (sym k)
 
 -- LEAVE, CANCEL, RETURN
 alone-read : (a : Asked) (label : List ℕ) → RangeAs Shape.Alone a → ProperAs Shape.Alone a → read-back Shape.Alone a label
@@ -110,29 +104,29 @@ alone-read a label h k =
     let v = drop-at (verbColumns (a .verb)) p programAt (verb-length (a .verb)) in
     let j = ap (take programWidth) v ∙ take-all programWidth p (omega arith) in
     alone-good (a .verb) l (a .program) n (ap programIn j ∙ program-columns (a .program) (h .0) (h .1))
-    ∙ ap₂ (λ (f n : ℕ). taken (a .verb) (a .program) f n noFiles noFiles noFiles) (sym (k .0)) (sym (k .1))
-    ∙ no-claims (a .verb) (a .program) (a .file) (a .item) a (k .2)
+    ∙ ap₂ (λ (f n : ℕ). taken (a .verb) (a .program) f n noClaims) (sym (k .0)) (sym (k .1))
+    ∙ ap (taken (a .verb) (a .program) (a .file) (a .item)) (sym (k .2))
 
 -- the parts of an ENTER line
 record Parts (a : Asked) (given l : List ℕ) : Type 0 where
   program : take programWidth (drop programAt l) ≡ columnsOf programWidth (a .program)
   label : take labelWidth (drop labelAt l) ≡ given
-  w : take fileWidth (drop wAt l) ≡ columnsOf fileWidth (length (filesOf (a .writable)))
-  r : take fileWidth (drop rAt l) ≡ columnsOf fileWidth (length (filesOf (a .readable)))
-  j : take fileWidth (drop jAt l) ≡ columnsOf fileWidth (length (filesOf (a .inquirable)))
-  vs : drop filesAt l ≡ filesColumns (filesOf (a .writable)) ++ (filesColumns (filesOf (a .readable)) ++ filesColumns (filesOf (a .inquirable)))
-  qs : drop (entryLength (length (filesOf (a .writable)))) l ≡ filesColumns (filesOf (a .readable)) ++ filesColumns (filesOf (a .inquirable))
-  js : drop (entryLength (length (filesOf (a .writable)) + length (filesOf (a .readable)))) l ≡ filesColumns (filesOf (a .inquirable))
-  long : length l ≡ entryLength (length (filesOf (a .writable)) + length (filesOf (a .readable)) + length (filesOf (a .inquirable)))
+  w : take fileWidth (drop wAt l) ≡ columnsOf fileWidth (length (filesOf (a .claims .writable)))
+  r : take fileWidth (drop rAt l) ≡ columnsOf fileWidth (length (filesOf (a .claims .readable)))
+  j : take fileWidth (drop jAt l) ≡ columnsOf fileWidth (length (filesOf (a .claims .inquirable)))
+  vs : drop filesAt l ≡ filesColumns (filesOf (a .claims .writable)) ++ (filesColumns (filesOf (a .claims .readable)) ++ filesColumns (filesOf (a .claims .inquirable)))
+  qs : drop (entryLength (length (filesOf (a .claims .writable)))) l ≡ filesColumns (filesOf (a .claims .readable)) ++ filesColumns (filesOf (a .claims .inquirable))
+  js : drop (entryLength (length (filesOf (a .claims .writable)) + length (filesOf (a .claims .readable)))) l ≡ filesColumns (filesOf (a .claims .inquirable))
+  long : length l ≡ entryLength (length (filesOf (a .claims .writable)) + length (filesOf (a .claims .readable)) + length (filesOf (a .claims .inquirable)))
 
 parts : (a : Asked) (label : List ℕ) → length label ≡ labelWidth → Parts a label (lineAs Shape.Entry a label)
 parts a label h =
     let l = lineAs Shape.Entry a label in
     let v = verbColumns (a .verb) in
     let p = columnsOf programWidth (a .program) in
-    let vs = filesOf (a .writable) in
-    let qs = filesOf (a .readable) in
-    let js = filesOf (a .inquirable) in
+    let vs = filesOf (a .claims .writable) in
+    let qs = filesOf (a .claims .readable) in
+    let js = filesOf (a .claims .inquirable) in
     let nj = flat-length (columnsOf fileWidth) fileWidth (columns-length fileWidth) js in
     let nv = flat-length (columnsOf fileWidth) fileWidth (columns-length fileWidth) vs in
     let nq = flat-length (columnsOf fileWidth) fileWidth (columns-length fileWidth) qs in
@@ -188,42 +182,40 @@ entry-read : (a : Asked) (label : List ℕ) → RangeAs Shape.Entry a → Proper
 unfolding entryFiles programField wField rField jField labelPart
 entry-read a label h k g =
     let l = lineAs Shape.Entry a label in
-    let vs = filesOf (a .writable) in
-    let qs = filesOf (a .readable) in
-    let js = filesOf (a .inquirable) in
+    let vs = filesOf (a .claims .writable) in
+    let qs = filesOf (a .claims .readable) in
+    let js = filesOf (a .claims .inquirable) in
     let m = parts a label (g .0) in
     let np = ap programIn (m .program) ∙ program-columns (a .program) (h .0) (h .1) in
-    let nw = ap countIn (m .w) ∙ count-columns (length vs) (files-length (a .writable)) in
-    let nr = ap countIn (m .r) ∙ count-columns (length qs) (files-length (a .readable)) in
-    let nj = ap countIn (m .j) ∙ count-columns (length js) (files-length (a .inquirable)) in
+    let nw = ap countIn (m .w) ∙ count-columns (length vs) (files-length (a .claims .writable)) in
+    let nr = ap countIn (m .r) ∙ count-columns (length qs) (files-length (a .claims .readable)) in
+    let nj = ap countIn (m .j) ∙ count-columns (length js) (files-length (a .claims .inquirable)) in
     let lab = ap (all labelByte) (m .label) ∙ g .1 in
     let fv : filesIn (length vs) (drop filesAt l) ≡ some vs =
-    ap (filesIn (length vs)) (m .vs) ∙ columns-back vs (filesColumns qs ++ filesColumns js) (files-files (a .writable)) in
+    ap (filesIn (length vs)) (m .vs) ∙ columns-back vs (filesColumns qs ++ filesColumns js) (files-files (a .claims .writable)) in
     let fq : filesIn (length qs) (drop (entryLength (length vs)) l) ≡ some qs =
-    ap (filesIn (length qs)) (m .qs) ∙ columns-back qs (filesColumns js) (files-files (a .readable)) in
+    ap (filesIn (length qs)) (m .qs) ∙ columns-back qs (filesColumns js) (files-files (a .claims .readable)) in
     let fj : filesIn (length js) (drop (entryLength (length vs + length qs)) l) ≡ some js =
-    ap (filesIn (length js)) (m .js ∙ sym (append-nil (filesColumns js))) ∙ columns-back js [] (files-files (a .inquirable)) in
+    ap (filesIn (length js)) (m .js ∙ sym (append-nil (filesColumns js))) ∙ columns-back js [] (files-files (a .claims .inquirable)) in
     let room : filesAt ≤ length l = omega (arith, m .long) in
-    let e : entryFiles (a .verb) l (a .program) (length vs) (length qs) (length js)
-    ≡ taken (a .verb) (a .program) 0 0 (a .writable) (a .readable) (a .inquirable) =
+    let e : entryFiles (a .verb) l (a .program) (length vs) (length qs) (length js) ≡ taken (a .verb) (a .program) 0 0 (a .claims) =
     rw (
       fv,
       fq,
       fj,
-      files-rise (a .writable),
-      files-rise (a .readable),
-      files-rise (a .inquirable),
-      set-back (a .writable) (h .2),
-      set-back (a .readable)
-          (h .3),
-      set-back (a .inquirable) (h .4),
+      files-rise (a .claims .writable),
+      files-rise (a .claims .readable),
+      files-rise (a .claims .inquirable),
+      set-back (a .claims .writable) (h .2 .0),
+      set-back (a .claims .readable) (h .2 .1),
+      set-back (a .claims .inquirable) (h .2 .2),
     ) in
     entry-good (a .verb) l (a .program) room np lab
     ∙ counts-good (a .verb) l (a .program) (length vs) (length qs) (length js) nw nr nj (m .long) ∙ e
-    ∙ ap₂ (λ (f n : ℕ). taken (a .verb) (a .program) f n (a .writable) (a .readable) (a .inquirable)) (sym (k .0)) (sym (k .1))
+    ∙ ap₂ (λ (f n : ℕ). taken (a .verb) (a .program) f n (a .claims)) (sym (k .0)) (sym (k .1))
 
-as-read : (s : Shape) (a : Asked) (label : List ℕ) → RangeAs s a → ProperAs s a → IsLabel label → read-back s a label
-as-read Shape.Entry a label h k g = entry-read a label h k g
+as-read : (s : Shape) (a : Asked) (label : List ℕ) → RangeAs s a → ProperAs s a → (hasLabel s ≡ true → IsLabel label) → read-back s a label
+as-read Shape.Entry a label h k g = entry-read a label h k (g refl)
 as-read Shape.File a label h k g = file-read a label h k
 as-read Shape.Record a label h k g = record-read a label h k
 as-read Shape.Alone a label h k g = alone-read a label h k
@@ -236,13 +228,17 @@ line-read c label h g = let a = askedBy c in
     (as-read (shapeOf (a .verb)) a label h (call-good c .proper) g)
 
 -- and its label is the one that stands in it
-pub label-there : (a : Asked) (label : List ℕ) → length label ≡ labelWidth → labelPart (lineAs Shape.Entry a label) ≡ label
+label-at : (s : Shape) (a : Asked) (label : List ℕ) → (hasLabel s ≡ true → IsLabel label)
+    → cond (hasLabel s) (labelPart (lineAs s a label)) [] ≡ labelAs s label
 unfolding labelPart
-label-there a label h = parts a label h .label
+label-at Shape.Entry a label g = parts a label (g refl .0) .label
+label-at Shape.File a label g = refl
+label-at Shape.Record a label g = refl
+label-at Shape.Alone a label g = refl
 
 pub label-read : LabelLaw
 unfolding labelOf lineFor
-label-read p v q j label h g = rw (line-read (Enter p v q j) label h g) (label-there (askedBy (Enter p v q j)) label (g .0))
+label-read c label h g = rw (line-read c label h g) (label-at (shapeOf (askedBy c .verb)) (askedBy c) label g)
 
 -- ---- a line that is taken is the line that asks for its call
 
@@ -283,7 +279,7 @@ alone-asks v l back b h =
     let i = cut 0 wordWidth l (verbColumns v) (verb-is v l b) in
     let j = cut-last programAt programWidth l (columnsOf programWidth p) (eqb-true (length l) aloneLength e) (n .2) in
     record {
-      asked = asking v p 0 0 noFiles noFiles noFiles;
+      asked = asking v p 0 0 noClaims;
       reads = rw (e, d);
       verb = refl;
       back = back p;
@@ -307,7 +303,7 @@ file-asks v l back b h =
     let j = cut programAt programWidth l (columnsOf programWidth p) (n .2) in
     let o = cut-last fileAt fileWidth l (columnsOf fileWidth f) (eqb-true (length l) fileLength e) (m .2) in
     record {
-      asked = asking v p f 0 noFiles noFiles noFiles;
+      asked = asking v p f 0 noClaims;
       reads = rw (e, d, k);
       verb = refl;
       back = back p f;
@@ -335,7 +331,7 @@ record-asks v l back b h =
     let u = cut fileAt fileWidth l (columnsOf fileWidth f) (m .2) in
     let o = cut-last recordAt recordWidth l (columnsOf recordWidth r) (eqb-true (length l) recordLength e) (q .2) in
     record {
-      asked = asking v p f r noFiles noFiles noFiles;
+      asked = asking v p f r noClaims;
       reads = rw (e, d, k, c);
       verb = refl;
       back = back p f r;
@@ -367,7 +363,7 @@ record Entry (v : Verb) (l : List ℕ) : Type 0 where
   vs-rise : rises vs ≡ true
   qs-rise : rises qs ≡ true
   js-rise : rises js ≡ true
-  says : entryLine v l ≡ taken v p 0 0 (setOf vs) (setOf qs) (setOf js)
+  says : entryLine v l ≡ taken v p 0 0 (claiming (setOf vs) (setOf qs) (setOf js))
 
 entry : (v : Verb) (l : List ℕ) → entryLine v l .reading ≡ Reading.Taken → Entry v l
 unfolding entryLine entryCounts entryFiles
@@ -415,6 +411,7 @@ entry-asks v l back b t =
     let vs = t .vs in
     let qs = t .qs in
     let js = t .js in
+    let claims = claiming (setOf vs) (setOf qs) (setOf js) in
     let n = number-is programWidth 1 32 (take programWidth (drop programAt l)) (t .p) (t .at-p) in
     let nw = number-is fileWidth 0 64 (take fileWidth (drop wAt l)) (t .w) (t .at-w) in
     let nr = number-is fileWidth 0 64 (take fileWidth (drop rAt l)) (t .r) (t .at-r) in
@@ -449,11 +446,11 @@ entry-asks v l back b t =
     (d4 ∙ ap (λ (x : List ℕ). columnsOf fileWidth (length qs) ++ x) (dj ∙ ap (λ (x : List ℕ). columnsOf fileWidth (length js) ++ x)
     (d5 ∙ ap (λ (x : List ℕ). filesColumns vs ++ x) (d6 ∙ ap (λ (x : List ℕ). filesColumns qs ++ x) last))))))) in
     record {
-      asked = asking v (t .p) 0 0 (setOf vs) (setOf qs) (setOf js);
+      asked = asking v (t .p) 0 0 claims;
       reads = t .says;
       verb = refl;
-      back = back (t .p) (setOf vs) (setOf qs) (setOf js);
-      range = (n .0, n .1, set-bits vs (rv .files), set-bits qs (rq .files), set-bits js (rj .files));
+      back = back (t .p) claims;
+      range = (n .0, n .1, (set-bits vs (rv .files), set-bits qs (rq .files), set-bits js (rj .files)));
       line = line ∙ sym (rw (bv, bq, bj));
       label = λ z. (size, t .label);
     }
@@ -491,25 +488,11 @@ read-line l h = by-option (verbOf l) (λ e. not-taken Refusal.NoVerb (rw e at h)
 
 -- ---- both ways in one
 
--- the label matters to lines that have one
-as-label : (s : Shape) (a : Asked) (l : List ℕ) → (hasLabel s ≡ true → IsLabel l)
-    → (label : List ℕ) × IsLabel label × (lineAs s a l ≡ lineAs s a label)
-unfolding all
-as-label Shape.Entry a l h = (l, h refl, refl)
-as-label Shape.File a l h = (replicate labelWidth 32, (refl, refl), refl)
-as-label Shape.Record a l h = (replicate labelWidth 32, (refl, refl), refl)
-as-label Shape.Alone a l h = (replicate labelWidth 32, (refl, refl), refl)
-
-pub some-label : (c : Call) (l : List ℕ) → (isEntry (saying c) ≡ true → IsLabel l) → (label : List ℕ) × IsLabel label × (lineOf c l ≡ lineOf c label)
-unfolding lineFor
-some-label c l h = as-label (shapeOf (askedBy c .verb)) (askedBy c) l h
-
 asks-of-taken : (l : List ℕ) (c : Call) → TakenWith l c → AsksFor l c
 asks-of-taken l c h =
     let s = read-line l (h .0) in
     let e = h .1 in
-    let m = some-label (requestCall (requestOf l)) (labelPart l) (λ z. s .label (ap isEntry (s .call) ∙ z)) in
-    rw (← e) (s .range, (m .0, m .1, s .line ∙ m .2))
+    rw (← e) (s .range, (labelPart l, λ z. s .label (ap isEntry (s .call) ∙ z), s .line))
 
 taken-of-asks : (l : List ℕ) (c : Call) → AsksFor l c → TakenWith l c
 taken-of-asks l c h =

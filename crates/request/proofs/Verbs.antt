@@ -11,11 +11,10 @@ use Rattle.laws.specs.Laws.{first-same}
 use Rattle.columns.specs.declared.Field.{Field}
 use Rattle.columns.specs.Columns.{wordWidth, programWidth, fileWidth, recordWidth, columnsOf}
 use Rattle.columns.proofs.Laws.{number-columns}
-use Rattle.files.specs.declared.FileSet.{FileSet}
-use Rattle.files.specs.Sets.{noFiles}
 use Rattle.rules.specs.declared.Verb.{Verb}
+use Rattle.rules.specs.declared.Claims.{Claims}
 use Rattle.rules.specs.declared.Asked.{Asked}
-use Rattle.rules.specs.Calls.{Call, Enter, Open, Close, Drop, Leave, Cancel, Fetch, Return, callWith, callOf}
+use Rattle.rules.specs.Calls.{Call, Enter, Open, Close, Drop, Leave, Cancel, Fetch, Return, noClaims, callWith, callOf}
 use Rattle.request.specs.declared.Shape.{Shape}
 use Rattle.request.specs.Verbs.{verbs, verbColumns, shapeOf}
 use Rattle.request.specs.Requests.{asking, begins, programIn, fileIn, countIn, recordIn, verbOf, askedBy, lineAs}
@@ -24,16 +23,14 @@ use Rattle.request.specs.Requests.{asking, begins, programIn, fileIn, co
 
 -- what is asked for by a line of this shape is what its call asks for
 abbrev pub AskedBack : Shape → Verb → Type 0
-AskedBack Shape.Entry v = (p : ℕ) (w r j : FileSet) → askedBy (callWith v p 0 0 w r j) ≡ asking v p 0 0 w r j
-AskedBack Shape.File v = (p f : ℕ) → askedBy (callWith v p f 0 noFiles noFiles noFiles) ≡ asking v p f 0 noFiles noFiles noFiles
-AskedBack Shape.Record v = (p f n : ℕ) → askedBy (callWith v p f n noFiles noFiles noFiles) ≡ asking v p f n noFiles noFiles noFiles
-AskedBack Shape.Alone v = (p : ℕ) → askedBy (callWith v p 0 0 noFiles noFiles noFiles) ≡ asking v p 0 0 noFiles noFiles noFiles
+AskedBack Shape.Entry v = (p : ℕ) (k : Claims) → askedBy (callWith v p 0 0 k) ≡ asking v p 0 0 k
+AskedBack Shape.File v = (p f : ℕ) → askedBy (callWith v p f 0 noClaims) ≡ asking v p f 0 noClaims
+AskedBack Shape.Record v = (p f n : ℕ) → askedBy (callWith v p f n noClaims) ≡ asking v p f n noClaims
+AskedBack Shape.Alone v = (p : ℕ) → askedBy (callWith v p 0 0 noClaims) ≡ asking v p 0 0 noClaims
 
 -- what a line of this shape says is the same
 abbrev pub SameAs : Shape → Asked → Asked → Type 0
-SameAs Shape.Entry a b =
-    (a .verb ≡ b .verb) × (a .program ≡ b .program) × (a .writable ≡ b .writable) × (a .readable ≡ b .readable)
-    × (a .inquirable ≡ b .inquirable)
+SameAs Shape.Entry a b = (a .verb ≡ b .verb) × (a .program ≡ b .program) × (a .claims ≡ b .claims)
 SameAs Shape.File a b = (a .verb ≡ b .verb) × (a .program ≡ b .program) × (a .file ≡ b .file)
 SameAs Shape.Record a b = (a .verb ≡ b .verb) × (a .program ≡ b .program) × (a .file ≡ b .file) × (a .item ≡ b .item)
 SameAs Shape.Alone a b = (a .verb ≡ b .verb) × (a .program ≡ b .program)
@@ -42,45 +39,39 @@ pub record VerbGood (v : Verb) : Type 0 where
   pub size : length (verbColumns v) ≡ wordWidth
   pub found : first (λ u. same (verbColumns v) (verbColumns u)) verbs ≡ some v
   pub back : AskedBack (shapeOf v) v
-  pub verb : (p f n : ℕ) (w r j : FileSet) → askedBy (callWith v p f n w r j) .verb ≡ v
-  pub same : (p f n : ℕ) (w r j : FileSet) → SameAs (shapeOf v) (askedBy (callWith v p f n w r j)) (asking v p f n w r j)
+  pub verb : (p f n : ℕ) (k : Claims) → askedBy (callWith v p f n k) .verb ≡ v
+  pub same : (p f n : ℕ) (k : Claims) → SameAs (shapeOf v) (askedBy (callWith v p f n k)) (asking v p f n k)
 
 pub verb-good : (v : Verb) → VerbGood v
 unfolding first same
 verb-good Verb.Enter =
-    record { size = refl; found = refl; back = λ p w r j. refl; verb = λ p f n w r j. refl; same = λ p f n w r j. (refl, refl, refl, refl, refl) }
+    record { size = refl; found = refl; back = λ p k. refl; verb = λ p f n k. refl; same = λ p f n k. (refl, refl, refl) }
 verb-good Verb.Open =
-    record { size = refl; found = refl; back = λ p f. refl; verb = λ p f n w r j. refl; same = λ p f n w r j. (refl, refl, refl) }
+    record { size = refl; found = refl; back = λ p f. refl; verb = λ p f n k. refl; same = λ p f n k. (refl, refl, refl) }
 verb-good Verb.Close =
-    record { size = refl; found = refl; back = λ p f. refl; verb = λ p f n w r j. refl; same = λ p f n w r j. (refl, refl, refl) }
+    record { size = refl; found = refl; back = λ p f. refl; verb = λ p f n k. refl; same = λ p f n k. (refl, refl, refl) }
 verb-good Verb.Drop =
-    record { size = refl; found = refl; back = λ p f. refl; verb = λ p f n w r j. refl; same = λ p f n w r j. (refl, refl, refl) }
+    record { size = refl; found = refl; back = λ p f. refl; verb = λ p f n k. refl; same = λ p f n k. (refl, refl, refl) }
 verb-good Verb.Leave =
-    record { size = refl; found = refl; back = λ p. refl; verb = λ p f n w r j. refl; same = λ p f n w r j. (refl, refl) }
+    record { size = refl; found = refl; back = λ p. refl; verb = λ p f n k. refl; same = λ p f n k. (refl, refl) }
 verb-good Verb.Cancel =
-    record { size = refl; found = refl; back = λ p. refl; verb = λ p f n w r j. refl; same = λ p f n w r j. (refl, refl) }
+    record { size = refl; found = refl; back = λ p. refl; verb = λ p f n k. refl; same = λ p f n k. (refl, refl) }
 verb-good Verb.Fetch =
-    record { size = refl; found = refl; back = λ p f n. refl; verb = λ p f n w r j. refl; same = λ p f n w r j. (refl, refl, refl, refl) }
+    record { size = refl; found = refl; back = λ p f n. refl; verb = λ p f n k. refl; same = λ p f n k. (refl, refl, refl, refl) }
 verb-good Verb.Return =
-    record { size = refl; found = refl; back = λ p. refl; verb = λ p f n w r j. refl; same = λ p f n w r j. (refl, refl) }
+    record { size = refl; found = refl; back = λ p. refl; verb = λ p f n k. refl; same = λ p f n k. (refl, refl) }
 
 pub verb-length : (v : Verb) → length (verbColumns v) ≡ wordWidth
 verb-length v = verb-good v .size
 
 -- ---- a clause for each call
 
--- no claims
-pub record NoClaims (a : Asked) : Type 0 where
-  pub no-v : a .writable ≡ noFiles
-  pub no-q : a .readable ≡ noFiles
-  pub no-j : a .inquirable ≡ noFiles
-
 -- what a line of this shape does not say is 0 or empty
 abbrev pub ProperAs : Shape → Asked → Type 0
 ProperAs Shape.Entry a = (a .file ≡ 0) × (a .item ≡ 0)
-ProperAs Shape.File a = (a .item ≡ 0) × NoClaims a
-ProperAs Shape.Record a = NoClaims a
-ProperAs Shape.Alone a = (a .file ≡ 0) × (a .item ≡ 0) × NoClaims a
+ProperAs Shape.File a = (a .item ≡ 0) × (a .claims ≡ noClaims)
+ProperAs Shape.Record a = a .claims ≡ noClaims
+ProperAs Shape.Alone a = (a .file ≡ 0) × (a .item ≡ 0) × (a .claims ≡ noClaims)
 
 pub record CallGood (c : Call) : Type 0 where
   pub back : callOf (askedBy c) ≡ c
@@ -88,13 +79,13 @@ pub record CallGood (c : Call) : Type 0 where
 
 pub call-good : (c : Call) → CallGood c
 call-good (Enter p v q j) = record { back = refl; proper = (refl, refl) }
-call-good (Open p f) = record { back = refl; proper = (refl, record { no-v = refl; no-q = refl; no-j = refl }) }
-call-good (Close p f) = record { back = refl; proper = (refl, record { no-v = refl; no-q = refl; no-j = refl }) }
-call-good (Drop p f) = record { back = refl; proper = (refl, record { no-v = refl; no-q = refl; no-j = refl }) }
-call-good (Leave p) = record { back = refl; proper = (refl, refl, record { no-v = refl; no-q = refl; no-j = refl }) }
-call-good (Cancel p) = record { back = refl; proper = (refl, refl, record { no-v = refl; no-q = refl; no-j = refl }) }
-call-good (Fetch p f r) = record { back = refl; proper = record { no-v = refl; no-q = refl; no-j = refl } }
-call-good (Return p) = record { back = refl; proper = (refl, refl, record { no-v = refl; no-q = refl; no-j = refl }) }
+call-good (Open p f) = record { back = refl; proper = (refl, refl) }
+call-good (Close p f) = record { back = refl; proper = (refl, refl) }
+call-good (Drop p f) = record { back = refl; proper = (refl, refl) }
+call-good (Leave p) = record { back = refl; proper = (refl, refl, refl) }
+call-good (Cancel p) = record { back = refl; proper = (refl, refl, refl) }
+call-good (Fetch p f r) = record { back = refl; proper = refl }
+call-good (Return p) = record { back = refl; proper = (refl, refl, refl) }
 
 -- ---- the verb of a line
 

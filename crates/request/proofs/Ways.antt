@@ -10,8 +10,8 @@ use lib.ListN.{length, take, drop}
 use Rattle.columns.specs.declared.Field.{Field}
 use Rattle.columns.specs.Columns.{programWidth, fileWidth, recordWidth, numberOf, onNumber}
 use Rattle.columns.proofs.Laws.{number-is}
-use Rattle.files.specs.declared.FileSet.{FileSet}
 use Rattle.laws.specs.Lists.{all, withFound}
+use Rattle.rules.specs.declared.Claims.{Claims}
 use Rattle.rules.specs.declared.Refusal.{Refusal}
 use Rattle.rules.specs.declared.Verb.{Verb}
 use Rattle.request.specs.declared.Request.{Request}
@@ -28,7 +28,7 @@ pub record Ways (P : Request → Type 0) : Type 0 where
   pub number : P (refused Refusal.BadNumber)
   pub label : P (refused Refusal.BadLabel)
   pub rising : P (refused Refusal.NotRising)
-  pub call : (v : Verb) (p f n : ℕ) (w r j : FileSet) → p ≤ 32 → f ≤ 64 → n ≤ 65535 → P (taken v p f n w r j)
+  pub call : (v : Verb) (p f n : ℕ) (c : Claims) → p ≤ 32 → f ≤ 64 → n ≤ 65535 → P (taken v p f n c)
 
 module _ (P : Request → Type 0) (h : Ways P) where
   either : (t : Bool) {x y : Request} → P x → P y → P (cond t x y)
@@ -56,7 +56,7 @@ module _ (P : Request → Type 0) (h : Ways P) where
   unfolding entryFiles
   files-ways v l p w r j k = some-files (filesIn w (drop filesAt l)) (h .number) (λ vs. some-files (filesIn r (drop (entryLength w) l)) (h .number)
       (λ qs. some-files (filesIn j (drop (entryLength (w + r)) l)) (h .number)
-      (λ js. either (rises vs && rises qs && rises js) (h .call v p 0 0 _ _ _ k (omega arith) (omega arith)) (h .rising))))
+      (λ js. either (rises vs && rises qs && rises js) (h .call v p 0 0 _ k (omega arith) (omega arith)) (h .rising))))
 
   counts-ways : (v : Verb) (l : List ℕ) (p : ℕ) → p ≤ 32 → P (entryCounts v l p)
   unfolding entryCounts wField rField jField
@@ -71,12 +71,12 @@ module _ (P : Request → Type 0) (h : Ways P) where
   shape-ways Shape.Entry v l = either (ltb (length l) filesAt) (h .length) (program-ways l
       (λ p k. either (all labelByte (labelPart l)) (counts-ways v l p k) (h .label)))
   shape-ways Shape.File v l = either (eqb (length l) fileLength)
-      (program-ways l (λ p k. a-number fileWidth 1 64 (take fileWidth (drop fileAt l)) (h .number) (λ f i. h .call v p f 0 _ _ _ k i (omega arith))))
+      (program-ways l (λ p k. a-number fileWidth 1 64 (take fileWidth (drop fileAt l)) (h .number) (λ f i. h .call v p f 0 _ k i (omega arith))))
       (h .length)
   shape-ways Shape.Record v l = either (eqb (length l) recordLength)
       (program-ways l (λ p k. a-number fileWidth 1 64 (take fileWidth (drop fileAt l)) (h .number) (λ f i.
-      a-number recordWidth 1 65535 (take recordWidth (drop recordAt l)) (h .number) (λ n i₂. h .call v p f n _ _ _ k i i₂)))) (h .length)
-  shape-ways Shape.Alone v l = either (eqb (length l) aloneLength) (program-ways l (λ p k. h .call v p 0 0 _ _ _ k (omega arith) (omega arith)))
+      a-number recordWidth 1 65535 (take recordWidth (drop recordAt l)) (h .number) (λ n i₂. h .call v p f n _ k i i₂)))) (h .length)
+  shape-ways Shape.Alone v l = either (eqb (length l) aloneLength) (program-ways l (λ p k. h .call v p 0 0 _ k (omega arith) (omega arith)))
       (h .length)
 
   begun-ways : (b : Option Verb) (l : List ℕ) → P (withFound b (refused Refusal.NoVerb) (λ v. readAs (shapeOf v) v l))
@@ -99,5 +99,5 @@ numbers-fit l =
       number = none;
       label = none;
       rising = none;
-      call = λ v p f n w r j k i i₂. (omega arith, omega arith, i₂);
+      call = λ v p f n c k i i₂. (omega arith, omega arith, i₂);
     }) l

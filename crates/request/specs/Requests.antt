@@ -11,10 +11,11 @@ use Rattle.columns.specs.Columns.{wordWidth, programWidth, fileWidth, recordWid
 use Rattle.columns.specs.Rows.{flat}
 use Rattle.files.specs.declared.FileSet.{FileSet}
 use Rattle.files.specs.Sets.{noFiles, member, adding}
+use Rattle.rules.specs.declared.Claims.{Claims}
 use Rattle.rules.specs.declared.Asked.{Asked}
 use Rattle.rules.specs.declared.Refusal.{Refusal}
 use Rattle.laws.specs.Lists.{all, keep, first, withFound, rising, same}
-use Rattle.rules.specs.Calls.{Call, Enter, Open, Close, Drop, Leave, Cancel, Fetch, Return, callOf}
+use Rattle.rules.specs.Calls.{Call, Enter, Open, Close, Drop, Leave, Cancel, Fetch, Return, claiming, noClaims, callOf}
 use Rattle.rules.specs.declared.Verb.{Verb}
 use Rattle.request.specs.declared.Reading.{Reading}
 use Rattle.request.specs.declared.Request.{Request}
@@ -25,17 +26,17 @@ use Rattle.request.specs.Verbs.{recordAt, recordLength, jAt, filesAt, en
 
 -- ---- what reading a line gives
 
--- the call with this verb, program, file and record, and the claims V, Q and J
-abbrev pub asking : Verb → ℕ → ℕ → ℕ → FileSet → FileSet → FileSet → Asked
-asking v p f n w r j = record { verb = v; program = p; file = f; item = n; writable = w; readable = r; inquirable = j }
+-- the call with this verb, program, file, record and claims
+abbrev pub asking : Verb → ℕ → ℕ → ℕ → Claims → Asked
+asking v p f n c = record { verb = v; program = p; file = f; item = n; claims = c }
 
 -- a refused line: no numbers and no claims
 abbrev pub refused : Refusal → Request
-refused r = record { reading = Reading.Refused r; asked = asking Verb.Enter 0 0 0 noFiles noFiles noFiles }
+refused r = record { reading = Reading.Refused r; asked = asking Verb.Enter 0 0 0 noClaims }
 
--- a line that is taken: its verb, program, file and record, and its claims V, Q and J
-abbrev pub taken : Verb → ℕ → ℕ → ℕ → FileSet → FileSet → FileSet → Request
-taken v p f n w r j = record { reading = Reading.Taken; asked = asking v p f n w r j }
+-- a line that is taken: its verb, program, file, record and claims
+abbrev pub taken : Verb → ℕ → ℕ → ℕ → Claims → Request
+taken v p f n c = record { reading = Reading.Taken; asked = asking v p f n c }
 
 -- the direct call that a line asks for
 abbrev pub requestCall : Request → Call
@@ -121,7 +122,7 @@ entryFiles v l p w r j =
     withFound (filesIn w (drop filesAt l)) (refused Refusal.BadNumber) (λ vs.
     withFound (filesIn r (drop (entryLength w) l)) (refused Refusal.BadNumber) (λ qs.
     withFound (filesIn j (drop (entryLength (w + r)) l)) (refused Refusal.BadNumber) (λ js.
-    cond (rises vs && rises qs && rises js) (taken v p 0 0 (setOf vs) (setOf qs) (setOf js)) (refused Refusal.NotRising))))
+    cond (rises vs && rises qs && rises js) (taken v p 0 0 (claiming (setOf vs) (setOf qs) (setOf js))) (refused Refusal.NotRising))))
 
 -- ENTER, after the label: the counts w, r and j, then the length
 unfoldable pub entryCounts : Verb → List ℕ → ℕ → Request
@@ -144,7 +145,7 @@ fileLine v l =
     cond (eqb (length l) fileLength)
     (onNumber (programField l) (refused Refusal.BadNumber) (λ p.
     onNumber (fileField l) (refused Refusal.BadNumber) (λ f.
-    taken v p f 0 noFiles noFiles noFiles)))
+    taken v p f 0 noClaims)))
     (refused Refusal.BadLength)
 
 -- FETCH: program, file and record
@@ -154,14 +155,14 @@ recordLine v l =
     (onNumber (programField l) (refused Refusal.BadNumber) (λ p.
     onNumber (fileField l) (refused Refusal.BadNumber) (λ f.
     onNumber (recordField l) (refused Refusal.BadNumber) (λ n.
-    taken v p f n noFiles noFiles noFiles))))
+    taken v p f n noClaims))))
     (refused Refusal.BadLength)
 
 -- LEAVE, CANCEL, RETURN: the program alone
 unfoldable pub aloneLine : Verb → List ℕ → Request
 aloneLine v l =
     cond (eqb (length l) aloneLength)
-    (onNumber (programField l) (refused Refusal.BadNumber) (λ p. taken v p 0 0 noFiles noFiles noFiles))
+    (onNumber (programField l) (refused Refusal.BadNumber) (λ p. taken v p 0 0 noClaims))
     (refused Refusal.BadLength)
 
 -- what a line of this shape says
@@ -215,14 +216,14 @@ filesColumns fs = flat (columnsOf fileWidth) fs
 
 -- how a line asks for a call: all that does not apply is 0 or empty
 abbrev pub askedBy : Call → Asked
-askedBy (Enter p v q j) = asking Verb.Enter p 0 0 v q j
-askedBy (Open p f) = asking Verb.Open p f 0 noFiles noFiles noFiles
-askedBy (Close p f) = asking Verb.Close p f 0 noFiles noFiles noFiles
-askedBy (Drop p f) = asking Verb.Drop p f 0 noFiles noFiles noFiles
-askedBy (Leave p) = asking Verb.Leave p 0 0 noFiles noFiles noFiles
-askedBy (Cancel p) = asking Verb.Cancel p 0 0 noFiles noFiles noFiles
-askedBy (Fetch p f r) = asking Verb.Fetch p f r noFiles noFiles noFiles
-askedBy (Return p) = asking Verb.Return p 0 0 noFiles noFiles noFiles
+askedBy (Enter p v q j) = asking Verb.Enter p 0 0 (claiming v q j)
+askedBy (Open p f) = asking Verb.Open p f 0 noClaims
+askedBy (Close p f) = asking Verb.Close p f 0 noClaims
+askedBy (Drop p f) = asking Verb.Drop p f 0 noClaims
+askedBy (Leave p) = asking Verb.Leave p 0 0 noClaims
+askedBy (Cancel p) = asking Verb.Cancel p 0 0 noClaims
+askedBy (Fetch p f r) = asking Verb.Fetch p f r noClaims
+askedBy (Return p) = asking Verb.Return p 0 0 noClaims
 
 -- a line of this shape; "ENTER: 10–17 label, 18–20 count w, 21–23 count r .., then w files of V and r of Q", with "a third count in columns
 -- 24–26 and the J files last"
@@ -231,12 +232,12 @@ lineAs Shape.Entry a label =
     verbColumns (a .verb)
     ++ (columnsOf programWidth (a .program)
     ++ (label
-    ++ (columnsOf fileWidth (length (filesOf (a .writable)))
-    ++ (columnsOf fileWidth (length (filesOf (a .readable)))
-    ++ (columnsOf fileWidth (length (filesOf (a .inquirable)))
-    ++ (filesColumns (filesOf (a .writable))
-    ++ (filesColumns (filesOf (a .readable))
-    ++ filesColumns (filesOf (a .inquirable)))))))))
+    ++ (columnsOf fileWidth (length (filesOf (a .claims .writable)))
+    ++ (columnsOf fileWidth (length (filesOf (a .claims .readable)))
+    ++ (columnsOf fileWidth (length (filesOf (a .claims .inquirable)))
+    ++ (filesColumns (filesOf (a .claims .writable))
+    ++ (filesColumns (filesOf (a .claims .readable))
+    ++ filesColumns (filesOf (a .claims .inquirable)))))))))
 lineAs Shape.File a label = verbColumns (a .verb) ++ (columnsOf programWidth (a .program) ++ columnsOf fileWidth (a .file))
 lineAs Shape.Record a label =
     verbColumns (a .verb) ++ (columnsOf programWidth (a .program) ++ (columnsOf fileWidth (a .file) ++ columnsOf recordWidth (a .item)))

@@ -2,6 +2,7 @@
 use columns::Field;
 use files::FileSet;
 use rules::Asked;
+use rules::Claims;
 use rules::Refusal;
 use rules::Verb;
 ghost use mathlib.Core.Path.{_≡_};
@@ -89,9 +90,7 @@ fn refusing(r: Refusal) -> Request
         program: 0,
         file: 0,
         item: 0,
-        writable: FileSet::EMPTY,
-        readable: FileSet::EMPTY,
-        inquirable: FileSet::EMPTY,
+        claims: Claims::NONE,
     };
     Request {
         reading: Reading::Refused(r),
@@ -303,25 +302,15 @@ fn read_group(line: &[u8], start: usize, count: usize) -> Group
 // ---- lines, by the shape of the verb
 
 // A line that is taken, with these numbers and claims; what does not apply is 0 or empty.
-fn taking(
-    verb: Verb,
-    program: u64,
-    file: u64,
-    item: u64,
-    writable: FileSet,
-    readable: FileSet,
-    inquirable: FileSet,
-) -> Request
-    ensures { λ q. ⌜ q ≡ taken verb program file item writable readable inquirable ⌝ }
+fn taking(verb: Verb, program: u64, file: u64, item: u64, claims: Claims) -> Request
+    ensures { λ q. ⌜ q ≡ taken verb program file item claims ⌝ }
 {
     let asked = Asked {
         verb,
         program,
         file,
         item,
-        writable,
-        readable,
-        inquirable,
+        claims,
     };
     Request {
         reading: Reading::Taken,
@@ -358,7 +347,12 @@ fn read_files(line: &[u8], verb: Verb, program: u64, w: usize, r: usize, j: usiz
     let writable = v.files;
     let readable = q.files;
     let inquirable = i.files;
-    taking(verb, program, 0, 0, writable, readable, inquirable)
+    let claims = Claims {
+        writable,
+        readable,
+        inquirable,
+    };
+    taking(verb, program, 0, 0, claims)
 }
 
 // ENTER, after the label: the counts, then the length.
@@ -417,15 +411,7 @@ fn read_file(line: &[u8], verb: Verb) -> Request
     let Field::Number(f) = second else {
         return refusing(Refusal::BadNumber);
     };
-    taking(
-        verb,
-        p,
-        f,
-        0,
-        FileSet::EMPTY,
-        FileSet::EMPTY,
-        FileSet::EMPTY,
-    )
+    taking(verb, p, f, 0, Claims::NONE)
 }
 
 // FETCH: program, file and record.
@@ -447,15 +433,7 @@ fn read_record(line: &[u8], verb: Verb) -> Request
     let Field::Number(n) = third else {
         return refusing(Refusal::BadNumber);
     };
-    taking(
-        verb,
-        p,
-        f,
-        n,
-        FileSet::EMPTY,
-        FileSet::EMPTY,
-        FileSet::EMPTY,
-    )
+    taking(verb, p, f, n, Claims::NONE)
 }
 
 // LEAVE, CANCEL and RETURN: the program alone.
@@ -469,15 +447,7 @@ fn read_alone(line: &[u8], verb: Verb) -> Request
     let Field::Number(p) = field else {
         return refusing(Refusal::BadNumber);
     };
-    taking(
-        verb,
-        p,
-        0,
-        0,
-        FileSet::EMPTY,
-        FileSet::EMPTY,
-        FileSet::EMPTY,
-    )
+    taking(verb, p, 0, 0, Claims::NONE)
 }
 
 // What a line says that begins with the verb.

@@ -5,10 +5,12 @@ use mathlib.Core.Bool.{cond}
 use mathlib.Core.List.{[], _∷_, _++_}
 use lib.Dec.{eqb}
 use Rattle.files.specs.declared.FileSet.{FileSet}
+use Rattle.files.specs.Sets.{noFiles}
 use Rattle.rules.specs.declared.Standing.{Standing}
 use Rattle.rules.specs.declared.Program.{Program}
 use Rattle.rules.specs.declared.Board.{Board}
 use Rattle.rules.specs.declared.Verb.{Verb}
+use Rattle.rules.specs.declared.Claims.{Claims}
 use Rattle.rules.specs.declared.Asked.{Asked}
 use Rattle.rules.specs.declared.Check.{Check}
 use Rattle.rules.specs.declared.Answer.{Answer}
@@ -133,20 +135,27 @@ pub data Call : Type 0 where
   Fetch : ℕ → ℕ → ℕ → Call
   Return : ℕ → Call
 
+-- the claims V, Q and J
+abbrev pub claiming : FileSet → FileSet → FileSet → Claims
+claiming v q j = record { writable = v; readable = q; inquirable = j }
+
+abbrev pub noClaims : Claims
+noClaims = claiming noFiles noFiles noFiles
+
 -- the call with a verb and these numbers and claims
-abbrev pub callWith : Verb → ℕ → ℕ → ℕ → FileSet → FileSet → FileSet → Call
-callWith Verb.Enter p f r v q j = Enter p v q j
-callWith Verb.Open p f r v q j = Open p f
-callWith Verb.Close p f r v q j = Close p f
-callWith Verb.Drop p f r v q j = Drop p f
-callWith Verb.Leave p f r v q j = Leave p
-callWith Verb.Cancel p f r v q j = Cancel p
-callWith Verb.Fetch p f r v q j = Fetch p f r
-callWith Verb.Return p f r v q j = Return p
+abbrev pub callWith : Verb → ℕ → ℕ → ℕ → Claims → Call
+callWith Verb.Enter p f r c = Enter p (c .writable) (c .readable) (c .inquirable)
+callWith Verb.Open p f r c = Open p f
+callWith Verb.Close p f r c = Close p f
+callWith Verb.Drop p f r c = Drop p f
+callWith Verb.Leave p f r c = Leave p
+callWith Verb.Cancel p f r c = Cancel p
+callWith Verb.Fetch p f r c = Fetch p f r
+callWith Verb.Return p f r c = Return p
 
 -- the call that is asked for
 abbrev pub callOf : Asked → Call
-callOf a = callWith (a .verb) (a .program) (a .file) (a .item) (a .writable) (a .readable) (a .inquirable)
+callOf a = callWith (a .verb) (a .program) (a .file) (a .item) (a .claims)
 
 -- the program that a call names
 abbrev pub programOf : Call → ℕ

@@ -1,18 +1,28 @@
-// An absent program, and the empty board.
+// No claims, an absent program, and the empty board.
 use crate::Board;
+use crate::Claims;
 use crate::Program;
 use crate::Standing;
 use files::FileSet;
 
+impl Claims {
+    // No claims.
+    pub const NONE: Claims = Claims {
+        writable: FileSet::EMPTY,
+        readable: FileSet::EMPTY,
+        inquirable: FileSet::EMPTY,
+    };
+}
+
 impl Program {
     // An absent program, with empty sets.
     pub const ABSENT: Program = Program {
-        writable: FileSet { bits: 0 },
-        readable: FileSet { bits: 0 },
-        inquirable: FileSet { bits: 0 },
-        writing: FileSet { bits: 0 },
-        reading: FileSet { bits: 0 },
-        inquiring: FileSet { bits: 0 },
+        writable: FileSet::EMPTY,
+        readable: FileSet::EMPTY,
+        inquirable: FileSet::EMPTY,
+        writing: FileSet::EMPTY,
+        reading: FileSet::EMPTY,
+        inquiring: FileSet::EMPTY,
         standing: Standing::Absent,
         file: 0,
         item: 0,

@@ -51,15 +51,20 @@ pub enum Verb {
     Return,
 }
 
-// What a call asks. The file counts for open, close, drop and fetch only, the record for fetch only, the claims (V, Q and J) for enter only.
+// What a program claims: V for writing, Q for reading and J for inquiry.
+pub struct Claims {
+    pub writable: FileSet,
+    pub readable: FileSet,
+    pub inquirable: FileSet,
+}
+
+// What a call asks. The file counts for open, close, drop and fetch only, the record for fetch only, the claims for enter only.
 pub struct Asked {
     pub verb: Verb,
     pub program: u64,
     pub file: u64,
     pub item: u64,
-    pub writable: FileSet,
-    pub readable: FileSet,
-    pub inquirable: FileSet,
+    pub claims: Claims,
 }
 
 // Why a call is refused, in the order of their numbers: 01's 1 to 16, 18 for a cancel of a running program, and 19 to 21 for records.

@@ -1,7 +1,7 @@
 -- What is promised of the writer and the reader together. Assumes nothing.
 use Prim.Native.Nat.{ℕ, _≤_}
 use mathlib.Core.Path.{_≡_, refl, ap, sym, _∙_}
-use mathlib.Core.Bool.{true, false, cond}
+use mathlib.Core.Bool.{true, false}
 use mathlib.Core.List.{List, []}
 use lib.Dec.{eqb, ltb}
 use lib.ListN.{length, take, drop}
@@ -19,20 +19,20 @@ use Rattle.request.specs.declared.Request.{Request}
 use Rattle.request.specs.declared.Shape.{Shape}
 use Rattle.request.specs.Verbs.{shapeOf, labelWidth, longestLine}
 use Rattle.request.specs.Requests.{requestCall, labelByte, requestOf, hasLabel, isEntry, labelPart, labelOf, askedBy, lineAs, lineFor, lineOf}
-use Rattle.request.specs.Law.{IsLabel, RangeAs, InRange, saying}
+use Rattle.request.specs.Law.{IsLabel, RangeAs, saying}
 use Rattle.request.proofs.Verbs.{call-good}
 use Rattle.request.proofs.Groups.{files-length}
-use Rattle.request.proofs.Lines.{line-read, label-there, read-line, some-label}
+use Rattle.request.proofs.Lines.{line-read, label-read, read-line}
 use Rattle.writer.specs.declared.Writing.{Writing}
 use Rattle.writer.specs.Writer.{unwrittenNumber, numbersGood, recordGood, isLabel, labelGood, writingOf, bufferAfter}
-use Rattle.writer.specs.Law.{ClaimsAs, labelAs, labelIn, WritesInto, ReadsBack, WritesBack, Written, WrittenIsTaken, LongestLine}
+use Rattle.writer.specs.Law.{ClaimsAs, WritesInto, ReadsBack, WritesBack, Written, WrittenIsTaken, LongestLine}
 use Rattle.writer.specs.Law.{AlwaysWritten, BytesAfterKept, RefusalFillsNothing}
 use Rattle.writer.proofs.Laws.{alone-length, file-length, record-length, enter-length}
 
 -- ---- numbers and labels, as tests and as facts, by the shape of the line
 
 in-range : (s : Shape) (a : Asked) → ClaimsAs s a → numbersGood s a ≡ true → recordGood s a ≡ true → RangeAs s a
-in-range Shape.Entry a k h i = (least 32 (a .program) h, most 32 (a .program) h, k .0, k .1, k .2)
+in-range Shape.Entry a k h i = (least 32 (a .program) h, most 32 (a .program) h, k)
 in-range Shape.File a k h i =
     let p = and-left (isNumber 32 (a .program)) (isNumber 64 (a .file)) h in
     let f = and-right (isNumber 32 (a .program)) (isNumber 64 (a .file)) h in
@@ -58,7 +58,7 @@ record-test Shape.Record a h = is-number 65535 (a .item) (h .4) (h .5)
 record-test Shape.Alone a h = refl
 
 range-claims : (s : Shape) (a : Asked) → RangeAs s a → ClaimsAs s a
-range-claims Shape.Entry a h = (h .2, h .3, h .4)
+range-claims Shape.Entry a h = h .2
 range-claims Shape.File a h = Prim.tt
 range-claims Shape.Record a h = Prim.tt
 range-claims Shape.Alone a h = Prim.tt
@@ -142,30 +142,16 @@ refusal-fills-nothing c label buffer r h = rw h
 
 -- ---- reading what was written
 
--- the label that stands in a line of this shape
-label-at : (s : Shape) (a : Asked) (label : List ℕ) → (hasLabel s ≡ true → IsLabel label)
-    → cond (hasLabel s) (labelPart (lineAs s a label)) [] ≡ labelAs s label
-label-at Shape.Entry a label h = label-there a label (h refl .0)
-label-at Shape.File a label h = refl
-label-at Shape.Record a label h = refl
-label-at Shape.Alone a label h = refl
-
-label-back : (c : Call) (label : List ℕ) → InRange c → (isEntry (saying c) ≡ true → IsLabel label) → requestOf (lineOf c label) ≡ saying c
-    → labelOf (lineOf c label) ≡ labelIn c label
-unfolding labelOf lineFor
-label-back c label r h e = rw e (label-at (shapeIn c) (askedBy c) label h)
-
 pub reads-back : ReadsBack
 reads-back c label buffer n k h =
     let d = passed c label buffer n h in
     let l = lineOf c label in
     let r = in-range (shapeIn c) (askedBy c) k (d .range) (d .record-good) in
     let g = good-label (shapeIn c) label (d .label-good) in
-    let m = some-label c label g in
-    let e : requestOf l ≡ saying c = ap requestOf (m .2) ∙ line-read c (m .0) r (m .1) in
+    let e : requestOf l ≡ saying c = line-read c label r g in
     let w = writes c label buffer l (d .range) (d .record-good) (d .label-good) refl (omega (arith, d .long, d .fits)) in
     let t : take n (bufferAfter c label buffer) ≡ l = ap (take n) (w .1) ∙ take-at l (drop (length l) buffer) n (sym (d .long)) in
-    (ap requestOf t ∙ e, ap (λ (x : List ℕ). requestCall (requestOf x)) t ∙ ap requestCall e ∙ call-good c .back, ap labelOf t ∙ label-back c label r g e)
+    (ap requestOf t ∙ e, ap (λ (x : List ℕ). requestCall (requestOf x)) t ∙ ap requestCall e ∙ call-good c .back, ap labelOf t ∙ label-read c label r g)
 
 -- ---- writing what was read
 
@@ -216,9 +202,9 @@ written-is-taken l = (taken-of-written l, written-of-taken l)
 longest : (s : Shape) (a : Asked) (label : List ℕ) → labelGood s label ≡ true → length (lineAs s a label) ≤ longestLine
 longest Shape.Entry a label g =
     let n = enter-length a label (label-fact label g .0) in
-    let v = files-length (a .writable) in
-    let q = files-length (a .readable) in
-    let j = files-length (a .inquirable) in
+    let v = files-length (a .claims .writable) in
+    let q = files-length (a .claims .readable) in
+    let j = files-length (a .claims .inquirable) in
     omega (arith, n, v, q, j)
 longest Shape.File a label g = omega (arith, file-length a)
 longest Shape.Record a label g = omega (arith, record-length a)

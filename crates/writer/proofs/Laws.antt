@@ -18,6 +18,7 @@ use Rattle.columns.proofs.Rows.{flat-length}
 use Rattle.files.specs.declared.FileSet.{FileSet}
 use Rattle.files.specs.Sets.{isFile}
 use Rattle.rules.specs.declared.Verb.{Verb}
+use Rattle.rules.specs.declared.Claims.{Claims}
 use Rattle.rules.specs.declared.Asked.{Asked}
 use Rattle.laws.specs.Lists.{all, keep, rising}
 use Rattle.rules.specs.Boards.{isProgram}
@@ -167,48 +168,41 @@ entry-length v p w r j label h =
       columns-length fileWidth j,
     )
 
--- the columns of an ENTER line before its files, and those of its files
+-- the columns of an ENTER line before its files
 abbrev pub headOf : Asked → List ℕ → List ℕ
-headOf a label = entryColumns (a .verb) (a .program) label (length (filesOf (a .writable))) (length (filesOf (a .readable)))
-    (length (filesOf (a .inquirable)))
+headOf a label = entryColumns (a .verb) (a .program) label (length (filesOf (a .claims .writable))) (length (filesOf (a .claims .readable)))
+    (length (filesOf (a .claims .inquirable)))
 
-abbrev pub claimsIn : Asked → List ℕ
-claimsIn a = claimsColumns (a .writable) (a .readable) (a .inquirable)
-
-abbrev pub filesIn : Asked → ℕ
-filesIn a = claimsCount (a .writable) (a .readable) (a .inquirable)
-
-entry-line : (a : Asked) (label : List ℕ) → lineAs Shape.Entry a label ≡ headOf a label ++ claimsIn a
+entry-line : (a : Asked) (label : List ℕ) → lineAs Shape.Entry a label ≡ headOf a label ++ claimsColumns (a .claims)
 unfolding entryColumns
 entry-line a label = simp append-assoc
 
 files-columns : (fs : List ℕ) → length (filesColumns fs) ≡ fileWidth * length fs
 files-columns fs = flat-length (columnsOf fileWidth) fileWidth (columns-length fileWidth) fs
 
-claims-length : (v q j : FileSet) → length (claimsColumns v q j) ≡ fileWidth * claimsCount v q j
-claims-length v q j =
-    let x = filesColumns (filesOf v) in
-    let y = filesColumns (filesOf q) in
-    let z = filesColumns (filesOf j) in
+claims-length : (c : Claims) → length (claimsColumns c) ≡ fileWidth * claimsCount c
+claims-length c =
+    let x = filesColumns (filesOf (c .writable)) in
+    let y = filesColumns (filesOf (c .readable)) in
+    let z = filesColumns (filesOf (c .inquirable)) in
     omega (
       arith,
       length-append x (y ++ z),
       length-append y z,
-      files-columns (filesOf v),
-      files-columns (filesOf q),
-      files-columns (filesOf j),
+      files-columns (filesOf (c .writable)),
+      files-columns (filesOf (c .readable)),
+      files-columns (filesOf (c .inquirable)),
     )
 
 head-of-length : (a : Asked) (label : List ℕ) → length label ≡ labelWidth → length (headOf a label) ≡ filesAt
-head-of-length a label h = entry-length (a .verb) (a .program) (length (filesOf (a .writable))) (length (filesOf (a .readable)))
-    (length (filesOf (a .inquirable))) label h
+head-of-length a label h = entry-length (a .verb) (a .program) (length (filesOf (a .claims .writable))) (length (filesOf (a .claims .readable)))
+    (length (filesOf (a .claims .inquirable))) label h
 
-pub enter-length : (a : Asked) (label : List ℕ) → length label ≡ labelWidth → length (lineAs Shape.Entry a label) ≡ entryLength (filesIn a)
+pub enter-length : (a : Asked) (label : List ℕ) → length label ≡ labelWidth → length (lineAs Shape.Entry a label) ≡ entryLength (claimsCount (a .claims))
 enter-length a label h =
     let e = headOf a label in
-    let c = claimsIn a in
     ap length (entry-line a label)
-    ∙ omega (arith, length-append e c, head-of-length a label h, claims-length (a .writable) (a .readable) (a .inquirable))
+    ∙ omega (arith, length-append e (claimsColumns (a .claims)), head-of-length a label h, claims-length (a .claims))
 
 -- ---- the rows of a line, as the calls leave them
 
@@ -264,11 +258,14 @@ module _ (v : Verb) (p w r j : ℕ) (label L m₁ m₂ m₃ m₄ m₅ : List ℕ
       ∙ simp append-assoc
 
 -- the files of V, of Q and of J
-pub claims-put : (v q j : FileSet) (at a₁ a₂ : ℕ) (L m₁ m₂ m₃ : List ℕ) → at + fileWidth * claimsCount v q j ≤ length L
-    → a₁ ≡ at + fileWidth * length (filesOf v) → m₁ ≡ putAt at (filesColumns (filesOf v)) L
-    → a₂ ≡ a₁ + fileWidth * length (filesOf q) → m₂ ≡ putAt a₁ (filesColumns (filesOf q)) m₁
-    → m₃ ≡ putAt a₂ (filesColumns (filesOf j)) m₂ → m₃ ≡ putAt at (claimsColumns v q j) L
-claims-put v q j at a₁ a₂ L m₁ m₂ m₃ room e₁ p₁ e₂ p₂ p₃ =
+pub claims-put : (c : Claims) (at a₁ a₂ : ℕ) (L m₁ m₂ m₃ : List ℕ) → at + fileWidth * claimsCount c ≤ length L
+    → a₁ ≡ at + fileWidth * length (filesOf (c .writable)) → m₁ ≡ putAt at (filesColumns (filesOf (c .writable))) L
+    → a₂ ≡ a₁ + fileWidth * length (filesOf (c .readable)) → m₂ ≡ putAt a₁ (filesColumns (filesOf (c .readable))) m₁
+    → m₃ ≡ putAt a₂ (filesColumns (filesOf (c .inquirable))) m₂ → m₃ ≡ putAt at (claimsColumns c) L
+claims-put c at a₁ a₂ L m₁ m₂ m₃ room e₁ p₁ e₂ p₂ p₃ =
+    let v = c .writable in
+    let q = c .readable in
+    let j = c .inquirable in
     let x : List ℕ = filesColumns (filesOf v) in
     let y : List ℕ = filesColumns (filesOf q) in
     let z : List ℕ = filesColumns (filesOf j) in
@@ -279,16 +276,16 @@ claims-put v q j at a₁ a₂ L m₁ m₂ m₃ room e₁ p₁ e₂ p₂ p₃ =
     put-then at a₂ (x ++ y) z L m₂ m₃ (omega (arith, n₂, room)) q₂ (omega (arith, n₂, e₂, e₁)) p₃ ∙ rw (append-assoc x y z)
 
 -- the columns before the files, with the counts of the claims
-pub head-counts : (a : Asked) (w r j : ℕ) (label L m : List ℕ) → w ≡ length (filesOf (a .writable)) → r ≡ length (filesOf (a .readable))
-    → j ≡ length (filesOf (a .inquirable)) → m ≡ putAt 0 (entryColumns (a .verb) (a .program) label w r j) L → m ≡ putAt 0 (headOf a label) L
+pub head-counts : (a : Asked) (w r j : ℕ) (label L m : List ℕ) → w ≡ length (filesOf (a .claims .writable)) → r ≡ length (filesOf (a .claims .readable))
+    → j ≡ length (filesOf (a .claims .inquirable)) → m ≡ putAt 0 (entryColumns (a .verb) (a .program) label w r j) L → m ≡ putAt 0 (headOf a label) L
 head-counts a w r j label L m ew er ej e = e ∙ rw (ew, er, ej)
 
 -- an ENTER line: its columns and its files
-pub enter-put : (a : Asked) (at : ℕ) (label L m r : List ℕ) → length label ≡ labelWidth → entryLength (filesIn a) ≤ length L
-    → at ≡ filesAt → m ≡ putAt 0 (headOf a label) L → r ≡ putAt at (claimsIn a) m → r ≡ putAt 0 (lineAs Shape.Entry a label) L
+pub enter-put : (a : Asked) (at : ℕ) (label L m r : List ℕ) → length label ≡ labelWidth → entryLength (claimsCount (a .claims)) ≤ length L
+    → at ≡ filesAt → m ≡ putAt 0 (headOf a label) L → r ≡ putAt at (claimsColumns (a .claims)) m → r ≡ putAt 0 (lineAs Shape.Entry a label) L
 enter-put a at label L m r size room e em er =
     let n = head-of-length a label size in
-    put-then 0 at (headOf a label) (claimsIn a) L m r (omega (arith, n, room)) em (omega (arith, n, e)) er
+    put-then 0 at (headOf a label) (claimsColumns (a .claims)) L m r (omega (arith, n, room)) em (omega (arith, n, e)) er
     ∙ ap (λ (x : List ℕ). putAt 0 x L) (sym (entry-line a label))
 
 -- ---- a line in the buffer
@@ -353,13 +350,13 @@ module _ (a : Asked) (label buffer : List ℕ) where
 -- ---- what a line does not say is not looked at
 
 line-same : (s : Shape) (x y : Asked) (label : List ℕ) → SameAs s x y → lineAs s x label ≡ lineAs s y label
-line-same Shape.Entry x y label h = rw (h .0, h .1, h .2, h .3, h .4)
+line-same Shape.Entry x y label h = rw (h .0, h .1, h .2)
 line-same Shape.File x y label h = rw (h .0, h .1, h .2)
 line-same Shape.Record x y label h = rw (h .0, h .1, h .2, h .3)
 line-same Shape.Alone x y label h = rw (h .0, h .1)
 
 numbers-same : (s : Shape) (x y : Asked) → SameAs s x y → numbersGood s x ≡ numbersGood s y
-numbers-same Shape.Entry x y h = simp (h .1, h .2, h .3, h .4)
+numbers-same Shape.Entry x y h = simp (h .1, h .2)
 numbers-same Shape.File x y h = rw (h .1, h .2)
 numbers-same Shape.Record x y h = rw (h .1, h .2)
 numbers-same Shape.Alone x y h = rw (h .1)
@@ -386,8 +383,8 @@ module _ (a : Asked) (label buffer : List ℕ) where
   by-shape w after h =
       let g = verb-good (a .verb) in
       let b = askedBy (callOf a) in
-      let s : shapeOf (b .verb) ≡ shapeOf (a .verb) = ap shapeOf (g .verb (a .program) (a .file) (a .item) (a .writable) (a .readable) (a .inquirable)) in
-      let k : SameAs (shapeOf (a .verb)) b a = g .same (a .program) (a .file) (a .item) (a .writable) (a .readable) (a .inquirable) in
+      let s : shapeOf (b .verb) ≡ shapeOf (a .verb) = ap shapeOf (g .verb (a .program) (a .file) (a .item) (a .claims)) in
+      let k : SameAs (shapeOf (a .verb)) b a = g .same (a .program) (a .file) (a .item) (a .claims) in
       let l = line-same (shapeOf (a .verb)) b a label k in
       let n = numbers-same (shapeOf (a .verb)) b a k in
       let i = record-same (shapeOf (a .verb)) b a k in

@@ -3,44 +3,28 @@
 use Prim.Native.Nat.{ℕ, _≤_}
 use mathlib.Core.Path.{_≡_}
 use mathlib.Core.Logic.{_↔_, _≢_}
-use mathlib.Core.Bool.{true}
-use mathlib.Core.List.{List, [], _++_}
+use mathlib.Core.List.{List, _++_}
 use lib.ListN.{length, take, drop}
-use Rattle.files.specs.Sets.{OfFiles}
 use Rattle.rules.specs.declared.Asked.{Asked}
 use Rattle.rules.specs.Calls.{Call}
 use Rattle.request.specs.declared.Reading.{Reading}
 use Rattle.request.specs.declared.Shape.{Shape}
 use Rattle.request.specs.Verbs.{shapeOf, longestLine}
-use Rattle.request.specs.Requests.{requestCall, requestOf, hasLabel, labelOf, askedBy, lineOf}
-use Rattle.request.specs.Law.{IsLabel, InRange, saying}
+use Rattle.request.specs.Requests.{requestCall, requestOf, labelOf, askedBy, lineOf}
+use Rattle.request.specs.Law.{ClaimsInRange, InRange, saying, LabelFor, labelIn}
 use Rattle.writer.specs.declared.Unwritten.{Unwritten}
 use Rattle.writer.specs.declared.Writing.{Writing}
 use Rattle.writer.specs.Writer.{writingOf, bufferAfter}
 
 -- the claims that a line of this shape has are sets of the files 1 to 64, as every set of the code
 abbrev pub ClaimsAs : Shape → Asked → Type 0
-ClaimsAs Shape.Entry a = OfFiles (a .writable) × OfFiles (a .readable) × OfFiles (a .inquirable)
+ClaimsAs Shape.Entry a = ClaimsInRange (a .claims)
 ClaimsAs Shape.File a = Unit {0}
 ClaimsAs Shape.Record a = Unit {0}
 ClaimsAs Shape.Alone a = Unit {0}
 
 abbrev pub ClaimsOfFiles : Call → Type 0
 ClaimsOfFiles c = ClaimsAs (shapeOf (askedBy c .verb)) (askedBy c)
-
--- the label that stands in the line of a call: that of ENTER; no other line has one
-abbrev pub labelAs : Shape → List ℕ → List ℕ
-labelAs Shape.Entry label = label
-labelAs Shape.File label = []
-labelAs Shape.Record label = []
-labelAs Shape.Alone label = []
-
-abbrev pub labelIn : Call → List ℕ → List ℕ
-labelIn c label = labelAs (shapeOf (askedBy c .verb)) label
-
--- where the call's line has a label, this is one
-abbrev pub LabelFor : Call → List ℕ → Type 0
-LabelFor c label = hasLabel (shapeOf (askedBy c .verb)) ≡ true → IsLabel label
 
 -- the line l is written for the call with the label: into this buffer, from its start, and the bytes after it keep their contents
 abbrev pub WritesInto : Call → List ℕ → List ℕ → List ℕ → Type 0

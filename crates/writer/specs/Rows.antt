@@ -5,9 +5,9 @@ use mathlib.Core.Bool.{Bool, cond}
 use mathlib.Core.List.{List, [], _++_}
 use lib.ListN.{length}
 use Rattle.columns.specs.Columns.{programWidth, fileWidth, columnsOf}
-use Rattle.files.specs.declared.FileSet.{FileSet}
 use Rattle.files.specs.Sets.{isFile}
 use Rattle.rules.specs.declared.Verb.{Verb}
+use Rattle.rules.specs.declared.Claims.{Claims}
 use Rattle.rules.specs.declared.Asked.{Asked}
 use Rattle.rules.specs.Checks.{isRecord}
 use Rattle.request.specs.declared.Shape.{Shape}
@@ -36,11 +36,11 @@ entryColumns v p label w r j =
     ++ (columnsOf programWidth p ++ (label ++ (columnsOf fileWidth w ++ (columnsOf fileWidth r ++ columnsOf fileWidth j))))
 
 -- how many files stand in the line, and their columns: "then w files of V and r of Q", "and the J files last"
-abbrev pub claimsCount : FileSet → FileSet → FileSet → ℕ
-claimsCount v q j = length (filesOf v) + length (filesOf q) + length (filesOf j)
+abbrev pub claimsCount : Claims → ℕ
+claimsCount c = length (filesOf (c .writable)) + length (filesOf (c .readable)) + length (filesOf (c .inquirable))
 
-abbrev pub claimsColumns : FileSet → FileSet → FileSet → List ℕ
-claimsColumns v q j = filesColumns (filesOf v) ++ (filesColumns (filesOf q) ++ filesColumns (filesOf j))
+abbrev pub claimsColumns : Claims → List ℕ
+claimsColumns c = filesColumns (filesOf (c .writable)) ++ (filesColumns (filesOf (c .readable)) ++ filesColumns (filesOf (c .inquirable)))
 
 -- of a program in range: 6, then 17
 abbrev pub entryWriting : Asked → List ℕ → List ℕ → Writing

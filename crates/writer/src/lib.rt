@@ -2,6 +2,7 @@
 use files::FileSet;
 use request::Shape;
 use rules::Asked;
+use rules::Claims;
 use rules::Verb;
 ghost use mathlib.Core.Path.{_≡_};
 ghost use mathlib.Core.List.{[], _++_};
@@ -98,11 +99,14 @@ fn put_files(line: &mut [u8], start: usize, s: FileSet) -> usize
 }
 
 // Writes the columns of the files of V, of Q and of J.
-fn put_claims(line: &mut [u8], start: usize, v: FileSet, q: FileSet, j: FileSet) -> usize
-    requires { ⌜ start + fileWidth * claimsCount v q j ≤ length (now line) ⌝ }
-    ensures { λ r. ⌜ r ≡ start + fileWidth * claimsCount v q j ⌝ }
-    ensures { λ r. ⌜ now (line .exit) ≡ putAt start (claimsColumns v q j) (now (line .entry)) ⌝ }
+fn put_claims(line: &mut [u8], start: usize, c: Claims) -> usize
+    requires { ⌜ start + fileWidth * claimsCount c ≤ length (now line) ⌝ }
+    ensures { λ r. ⌜ r ≡ start + fileWidth * claimsCount c ⌝ }
+    ensures { λ r. ⌜ now (line .exit) ≡ putAt start (claimsColumns c) (now (line .entry)) ⌝ }
 {
+    let v = c.writable;
+    let q = c.readable;
+    let j = c.inquirable;
     let after_v = put_files(line, start, v);
     let after_q = put_files(line, after_v, q);
     put_files(line, after_q, j)
@@ -172,19 +176,17 @@ fn write_entry(a: Asked, label: &[u8], line: &mut [u8]) -> Writing
     ensures { λ r. ⌜ r ≡ placing (lineAs Shape.Entry a (now (label .entry))) (now (line .entry)) ⌝ }
     ensures { λ r. ⌜ now (line .exit) ≡ placedIn (lineAs Shape.Entry a (now (label .entry))) (now (line .entry)) ⌝ }
 {
-    let writable = a.writable;
-    let readable = a.readable;
-    let inquirable = a.inquirable;
+    let claims = a.claims;
     let verb = a.verb;
-    let w = count(writable);
-    let r = count(readable);
-    let j = count(inquirable);
+    let w = count(claims.writable);
+    let r = count(claims.readable);
+    let j = count(claims.inquirable);
     let len = request::FILES_AT + columns::FILE_WIDTH * ((w + r + j) as usize);
     if line.len() < len {
         return Writing::Refused(Unwritten::BufferShort);
     }
     let after_counts = put_entry(line, verb, a.program, label, w, r, j);
-    let end = put_claims(line, after_counts, writable, readable, inquirable);
+    let end = put_claims(line, after_counts, claims);
     Writing::Wrote(end)
 }
 

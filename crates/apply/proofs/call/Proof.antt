@@ -9,9 +9,9 @@ use Rattle.apply.proofs.call.Tie as tie
 
 returns : tie.Need-returns
 returns c = let i = c .before .before .before in let k = i .before in let s = k .before in let a = s .args in (
-  c .refused .ensures ∙ apply-far (boardOf (a .sets .now) (a .rest)) (a .a)
+  c .refused .ensures .0 ∙ apply-far (boardOf (a .sets .now) (a .rest)) (a .a)
       (program-none (a .a .program) (k .program-of .result) (k .program-of .ensures .0) (i .if1 .taken)),
-  (s .pre .1, none-entries (a .lines .now) (s .pre .2)),
+  (s .pre .1, none-entries (a .lines .now) (s .pre .2), c .refused .ensures .1),
 )
 
 call-by-requires : tie.Need-call-by-requires

@@ -65,9 +65,9 @@ returns c = let t = c .before .before .before in let k = t .before .before in le
 
 returns-2 : tie.Need-returns-2
 returns-2 c = let t = c .before .before .before .before in let d = t .check .given in let k = t .before .before in let s = start k in let a = s .args in (
-  c .refused .ensures ∙ apply-failed (board s) (wanted s) (d .0 .0) (sym (told k) ∙ d .1)
+  c .refused .ensures .0 ∙ apply-failed (board s) (wanted s) (d .0 .0) (sym (told k) ∙ d .1)
       ∙ by-program (board s) (a .a) (a .p) (s .pre .1),
-  (s .pre .3, none-entries (a .lines .now) (s .pre .4)),
+  (s .pre .3, none-entries (a .lines .now) (s .pre .4), c .refused .ensures .1),
 )
 
 pub call-by-spec : {M : Type 1} → statement M

@@ -32,7 +32,7 @@ returns c = let h = c .before .before .before in let i = h .before .before in le
   c .answered .ensures .0 ∙ ap (λ (x : Board). reply x Answer.Held (line Word.Held (a .p) 0 ∷ [])) (h .put-held .ensures .0)
       ∙ enter-held (board s) (a .p) (a .writable) (a .readable) (a .inquirable)
       (subst (λ (n : ℕ). n ≢ 0) (sym (favoured-is (a .sets .now) (a .rest))) (i .if1 .taken)),
-  (h .put-held .ensures .1, c .answered .ensures .1),
+  (h .put-held .ensures .1, c .answered .ensures .1 .0, c .answered .ensures .1 .1),
 )
 
 oldest-overdue-requires : tie.Need-oldest-overdue-requires
@@ -63,7 +63,7 @@ returns-3 c = let r = c .before .before .before in let i = r .before .before in 
       c .answered2 .ensures .0 ∙ ap (λ (x : Board). reply x Answer.Admit (line Word.Admit (a .p) 0 ∷ [])) (r .put-running .ensures .0)
           ∙ enter-runs (board s) (a .p) (a .writable) (a .readable) (a .inquirable) (nobody e)
           (overdue-none (board s) (o .oldest-overdue .result) (s .pre .1 .loose) (o .oldest-overdue .ensures) (i .if2 .left)),
-      (r .put-running .ensures .1, c .answered2 .ensures .1),
+      (r .put-running .ensures .1, c .answered2 .ensures .1 .0, c .answered2 .ensures .1 .1),
     )
 
 pub do-enter-spec : {M : Type 1} → statement M

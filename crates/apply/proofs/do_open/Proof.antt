@@ -20,7 +20,7 @@ use Rattle.tables.proofs.Given.{seats-admitted}
 use Rattle.search.specs.Gives.{usesIn}
 use Rattle.search.specs.Rows.{asOrder}
 use Rattle.search.proofs.Used.{used-by}
-use Rattle.apply.proofs.Laws.{waiting-free, open-wait, open-waits, open-unsafe, open-given, not-safe, is-safe}
+use Rattle.apply.proofs.Laws.{waiting-free, open-wait, open-waits, open-unsafe, open-given, not-safe, is-safe, found-carries}
 use borrow.Author.Needs.{needs}
 use Rattle.apply.proofs.do_open.Statement.{statement}
 use Rattle.apply.proofs.do_open.Tie as tie
@@ -62,7 +62,7 @@ returns : tie.Need-returns
 returns c = let w = c .before .before .before in let i = w .before .before in let u = i .before in let s = start u in let a = s .args in (
   c .answered .ensures .0 ∙ ap (λ (x : Board). reply x Answer.Wait (line Word.Wait (a .p) (a .f) ∷ [])) (w .put-waiting .ensures ∙ open-wait (board s) (a .p) (a .f) (s .pre .1) (s .pre .2))
       ∙ open-waits (board s) (a .p) (a .f) (sym (used u) ∙ i .if1 .taken),
-  (s .pre .3, c .answered .ensures .1),
+  (s .pre .3, c .answered .ensures .1 .0, c .answered .ensures .1 .1),
 )
 
 still-store : (o : tie.After-order-given) → IsStore (o .order-given .last .0)
@@ -79,26 +79,39 @@ returns-2 c = let w = c .before .before .before in let t = w .before .before in 
           (w .put-waiting2 .ensures ∙ ap (λ (x : Sets). waitingFor (boardOf x (a .rest)) (a .p) (a .f) 0 0) (same-sets o)
           ∙ open-wait (board s) (a .p) (a .f) (s .pre .1) (s .pre .2))
           ∙ open-unsafe (board s) (a .p) (a .f) (sym (used u) ∙ i .if1 .left)
-          (not-safe (board s) (a .p) (a .f) (o .order-given .result) (sought o) (t .enum-told2 .given .1)),
-      (still-store o, c .answered2 .ensures .1),
+          (not-safe (board s) (a .p) (a .f) (o .order-given .result) (sought o) (t .enum-told .given .1)),
+      (still-store o, c .answered2 .ensures .1 .0, c .answered2 .ensures .1 .1),
     )
 
 give-requires : tie.Need-give-requires
-give-requires c κs = let o = c .before .before .before in (start (tested o) .pre .0, still-store o)
+give-requires c κs = let o = c .before .before .before .before in (start (tested o) .pre .0, still-store o)
+
+-- the order that was found is that of the board with the file given
+given-requires : tie.Need-given-requires
+unfolding withGiven
+given-requires c κs = let g = c .before .before .before in let t = g .before .before .before in let o = t .before .before in
+    let s = start (tested o) in let a = s .args in
+    let e = g .give .ensures ∙ ap (λ (x : Sets). givenAt x (a .p) (a .f)) (same-sets o) in (
+      s .pre .4,
+      found-carries (withGiven (board s) (a .p) (a .f)) _ (o .order-given .result) (t .kind .given .0 .0) (sought o) (t .kind .given .1)
+          (ap (λ (x : Sets). boardOf x (a .rest)) e
+          ∙ given-board (a .sets .now) (a .rest) (a .p) (a .f) (s .pre .0 .0) (s .pre .0 .1) (s .pre .3)),
+    )
 
 returns-3 : tie.Need-returns-3
 unfolding withGiven
-returns-3 c = let g = c .before .before .before in let t = g .before .before in let o = t .before .before in let i = o .before .before in
+returns-3 c = let g = c .before .before .before .before in let t = g .before .before .before in let o = t .before .before in let i = o .before .before in
     let u = i .before in let s = start u in let a = s .args in
     let e = g .give .ensures ∙ ap (λ (x : Sets). givenAt x (a .p) (a .f)) (same-sets o) in (
-      c .answered3 .ensures .0 ∙ ap (λ (x : Board). reply x Answer.Given (line Word.Given (a .p) (a .f) ∷ []))
+      c .given .ensures .0 ∙ ap (λ (x : Board). reply x Answer.Given (line Word.Given (a .p) (a .f) ∷ []))
           (ap (λ (x : Sets). boardOf x (a .rest)) e
           ∙ given-board (a .sets .now) (a .rest) (a .p) (a .f) (s .pre .0 .0) (s .pre .0 .1) (s .pre .3))
           ∙ open-given (board s) (a .p) (a .f) (sym (used u) ∙ i .if1 .left)
-          (is-safe (board s) (a .p) (a .f) (o .order-given .result) (t .enum-told .given .0 .0) (sought o) (t .enum-told .given .1)),
+          (is-safe (board s) (a .p) (a .f) (o .order-given .result) (t .kind .given .0 .0) (sought o) (t .kind .given .1)),
       (
         subst IsStore (sym e) (given-store (a .sets .now) (a .p) (a .f) (s .pre .0 .0) (s .pre .0 .1) (s .pre .3)),
-        c .answered3 .ensures .1,
+        c .given .ensures .1 .0,
+        c .given .ensures .1 .1,
       ),
     )
 
@@ -119,5 +132,5 @@ do-open-spec =
     (λ c κs. search needs)
     returns-2
     give-requires
-    (λ c κs. search needs)
+    given-requires
     returns-3)

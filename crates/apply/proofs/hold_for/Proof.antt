@@ -3,7 +3,7 @@ use mathlib.Core.Path.{ap}
 use native.Mathlib.Omega.{arith}
 use Rattle.store.specs.Store.{boardOf}
 use Rattle.settling.specs.Writing.{Written}
-use Rattle.apply.proofs.Laws.{entry-free, held-for-is}
+use Rattle.apply.proofs.Laws.{none-carries, entry-free, held-for-is}
 use borrow.Author.Needs.{needs}
 use Rattle.apply.proofs.hold_for.Statement.{statement}
 use Rattle.apply.proofs.hold_for.Tie as tie
@@ -20,7 +20,7 @@ returns : tie.Need-returns
 returns c = let o = c .before .before .before in let h = o .before .before .before in let a = h .before .before .args in (
   held-for-is _ _ (boardOf (a .sets .now) (a .rest)) _ (a .p) (a .writable) (a .readable) (a .inquirable) (a .w)
       (h .put-held .ensures .0) (o .one-line .ensures .0) (c .favour-waiter .ensures .0),
-  (h .put-held .ensures .1, c .favour-waiter .ensures .1),
+  (h .put-held .ensures .1, c .favour-waiter .ensures .1, none-carries _),
 )
 
 pub hold-for-spec : {M : Type 1} → statement M

@@ -51,6 +51,7 @@ complete-requires c κs = let k = c .before .before .before in let j = tested k 
       ∙ apply-same (board j) (callOf (start j .args .a)) n)),
   e .1 .0,
   e .1 .1,
+  e .1 .2,
 )
 
 returns-2 : tie.Need-returns-2

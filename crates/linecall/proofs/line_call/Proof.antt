@@ -67,6 +67,7 @@ complete-requires c κs = let l = c .before .before .before .before .before in l
       ∙ refused-same (board j) (a .line .now) (a .journal .now) (a .place) n)),
   k .1 .1 .1 .0,
   k .1 .1 .1 .1,
+  k .1 .1 .1 .2,
 )
 
 returns-2 : tie.Need-returns-2

@@ -30,11 +30,18 @@ returns : tie.Need-returns
 returns c = c .with-order .ensures ∙ whole (c .before .before .before)
 
 with-order-requires-2 : tie.Need-with-order-requires-2
-with-order-requires-2 c κs = let l = c .before .before .before in
-    c .carried-in .ensures ∙ ap (λ (x : Board). asOrder (carried x)) (sym (l .before .board .ensures))
+with-order-requires-2 c κs = let f = c .before in let l = f .before .before .before .before in let s = begin l in
+    s .pre .3 (sym (f .is-found .ensures) ∙ c .if2 .taken) ∙ ap (λ (x : Board). asOrder (carried x)) (sym (l .before .board .ensures))
 
 returns-2 : tie.Need-returns-2
-returns-2 c = c .with-order2 .ensures ∙ whole (c .before .before .before .before)
+returns-2 c = c .with-order2 .ensures ∙ whole (c .before .before .before .before .before .before)
+
+with-order-requires-3 : tie.Need-with-order-requires-3
+with-order-requires-3 c κs = let l = c .before .before .before .before .before .before in
+    c .carried-in .ensures ∙ ap (λ (x : Board). asOrder (carried x)) (sym (l .before .board .ensures))
+
+returns-3 : tie.Need-returns-3
+returns-3 c = c .with-order3 .ensures ∙ whole (c .before .before .before .before .before .before .before)
 
 pub complete-spec : {M : Type 1} → statement M
 complete-spec =
@@ -47,4 +54,7 @@ complete-spec =
     returns
     (λ c κs. search needs)
     with-order-requires-2
-    returns-2)
+    returns-2
+    (λ c κs. search needs)
+    with-order-requires-3
+    returns-3)

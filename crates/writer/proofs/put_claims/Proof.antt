@@ -13,7 +13,7 @@ abbrev with-v : tie.After-put-files2 → tie.After-put-files
 with-v y = y .before .before .before .before
 
 abbrev start : tie.After-put-files → tie.Start
-start x = x .before .before .before
+start x = x .before .before .before .before .before .before
 
 returns : tie.Need-returns
 returns c =
@@ -24,7 +24,7 @@ returns c =
     let s = start (with-v (with-q k)) in
     let a = s .args in (
       omega (arith, z .ensures .0, y .ensures .0, x .ensures .0),
-      claims-put (a .v) (a .q) (a .j) (a .start) (x .result) (y .result) (a .line .now) (x .last .0) (y .last .0) (z .last .0) (s .pre)
+      claims-put (a .c) (a .start) (x .result) (y .result) (a .line .now) (x .last .0) (y .last .0) (z .last .0) (s .pre)
           (x .ensures .0) (x .ensures .1) (y .ensures .0) (y .ensures .1) (z .ensures .1),
     )
 

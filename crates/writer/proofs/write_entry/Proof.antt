@@ -6,7 +6,8 @@ use Rattle.request.specs.Verbs.{entryLength}
 use Rattle.request.specs.Requests.{lineAs}
 use native.Mathlib.Omega.{arith}
 use Rattle.request.proofs.Groups.{files-length}
-use Rattle.writer.proofs.Laws.{filesIn, enter-length, head-counts, enter-put, placed-short, placed-all}
+use Rattle.writer.specs.Rows.{claimsCount}
+use Rattle.writer.proofs.Laws.{enter-length, head-counts, enter-put, placed-short, placed-all}
 use borrow.Author.Needs.{needs}
 use Rattle.writer.proofs.write_entry.Statement.{statement}
 use Rattle.writer.proofs.write_entry.Tie as tie
@@ -19,12 +20,12 @@ abbrev with-w : tie.After-count3 → tie.After-count
 with-w k = k .before .before
 
 abbrev start : tie.After-count3 → tie.Start
-start k = with-w k .before .before .before .before .before .before
+start k = with-w k .before .before .before .before
 
 -- a set has at most 64 files
 few : (k : tie.After-count3) → (with-w k .count .result ≤ 64) × (with-r k .count2 .result ≤ 64) × (k .count3 .result ≤ 64)
 few k = let a = start k .args in
-    let v = files-length (a .a .writable) in let q = files-length (a .a .readable) in let j = files-length (a .a .inquirable) in
+    let v = files-length (a .a .claims .writable) in let q = files-length (a .a .claims .readable) in let j = files-length (a .a .claims .inquirable) in
     (omega (arith, v, with-w k .count .ensures), omega (arith, q, with-r k .count2 .ensures), omega (arith, j, k .count3 .ensures))
 
 add-len : tie.Need-add-len
@@ -44,7 +45,7 @@ returns c =
     let k = c .before in
     let s = start k in
     let a = s .args in
-    placed-short (lineAs Shape.Entry (a .a) (a .label .now)) (a .line .now) (entryLength (filesIn (a .a)))
+    placed-short (lineAs Shape.Entry (a .a) (a .label .now)) (a .line .now) (entryLength (claimsCount (a .a .claims)))
     (enter-length (a .a) (a .label .now) (s .pre))
     (omega (arith, c .if1 .taken, with-w k .count .ensures, with-r k .count2 .ensures, k .count3 .ensures))
 
@@ -63,11 +64,11 @@ returns-2 c =
     let k = fits p .before in
     let s = start k in
     let a = s .args in
-    let room : entryLength (filesIn (a .a)) ≤ length (a .line .now) =
+    let room : entryLength (claimsCount (a .a .claims)) ≤ length (a .line .now) =
     omega (arith, fits p .if1 .left, with-w k .count .ensures, with-r k .count2 .ensures, k .count3 .ensures) in
     let e = head-counts (a .a) (with-w k .count .result) (with-r k .count2 .result) (k .count3 .result) (a .label .now) (a .line .now) (h .last .0)
     (with-w k .count .ensures) (with-r k .count2 .ensures) (k .count3 .ensures) (h .ensures .1) in
-    placed-all (lineAs Shape.Entry (a .a) (a .label .now)) (a .line .now) (x .last .0) (entryLength (filesIn (a .a))) (x .result)
+    placed-all (lineAs Shape.Entry (a .a) (a .label .now)) (a .line .now) (x .last .0) (entryLength (claimsCount (a .a .claims))) (x .result)
     (enter-length (a .a) (a .label .now) (s .pre)) room (omega (arith, x .ensures .0, h .ensures .0))
     (enter-put (a .a) (h .result) (a .label .now) (a .line .now) (h .last .0) (x .last .0) (s .pre) room (h .ensures .0) e (x .ensures .1))
 

@@ -3,6 +3,7 @@ use Rattle.rules.specs.declared.Word.{Word}
 use Rattle.rules.specs.Settling.{line}
 use Rattle.store.specs.Store.{boardOf}
 use Rattle.apply.proofs.Laws.{done-ready, done-is}
+use Rattle.apply.proofs.Laws.{none-carries}
 use borrow.Author.Needs.{needs}
 use Rattle.apply.proofs.replies.done.Statement.{statement}
 use Rattle.apply.proofs.replies.done.Tie as tie
@@ -15,7 +16,7 @@ settled-requires c κs = let o = c .before .before in let s = o .before .before 
 returns : tie.Need-returns
 returns c = let o = c .before .before .before in let s = o .before .before .before in let a = s .args in (
   done-is _ _ (boardOf (a .sets .now) (a .rest)) (a .p) (a .f) (o .one-line .ensures .0) (c .settled .ensures .0) (s .pre .0),
-  c .settled .ensures .1,
+  (c .settled .ensures .1 .0, c .settled .ensures .1 .1, none-carries _),
 )
 
 pub done-spec : {M : Type 1} → statement M

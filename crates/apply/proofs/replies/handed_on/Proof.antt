@@ -3,6 +3,7 @@ use mathlib.Core.Path.{_≡_}
 use Rattle.rules.specs.declared.Board.{Board}
 use Rattle.store.specs.Store.{boardOf}
 use Rattle.apply.proofs.Handing.{handing, handed-settles, finish-is}
+use Rattle.apply.proofs.Laws.{none-carries}
 use borrow.Author.Needs.{needs}
 use Rattle.apply.proofs.replies.handed_on.Statement.{statement}
 use Rattle.apply.proofs.replies.handed_on.Tie as tie
@@ -23,7 +24,7 @@ settled-requires c κs = let h = c .before .before in let o = h .before .before 
 returns : tie.Need-returns
 returns c = let h = c .before .before .before in let o = h .before .before .before in let s = o .before .before .before in let a = s .args in (
   finish-is _ _ (board s) (a .p) (a .f) (a .n) (o .one-line .ensures .0) (h .hand-on .ensures .0) (s .pre .0) _ (c .settled .ensures .0),
-  c .settled .ensures .1,
+  (c .settled .ensures .1 .0, c .settled .ensures .1 .1, none-carries _),
 )
 
 pub handed-on-spec : {M : Type 1} → statement M

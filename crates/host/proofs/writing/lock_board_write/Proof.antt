@@ -43,28 +43,25 @@ returns-3 c =
     (c .refusal-answer3 .ensures ∙ e .0, e .1)
 
 -- where the claims are read, too
-abbrev read : tie.After-write → tie.After-claim-at3
+abbrev read : tie.After-write → tie.After-claims-in
 read w = w .before .before
 
-abbrev known : tie.After-claim-at3 → tie.After-verb-at
-known j = j .before .before .before
+abbrev known : tie.After-claims-in → tie.After-verb-at
+known j = j .before
 
 returns-4 : tie.Need-returns-4
 returns-4 c =
     let w = c .before .before .before .write in
     let j = read (c .before .before .before) in
-    let q = j .before in
-    let v = q .before in
     let k = known j .verb-at in
     let l = known j .before in
     let g = l .before in
     let i = g .before in
     let a = start (i .before) .args in
     write-done (a .verb) (a .program) (a .file) (a .item) (a .claims .now) (a .label .now) (a .line .now)
-    (k .result) (v .claim-at .result) (q .claim-at2 .result) (j .claim-at3 .result) (w .result) (c .answer-of .result) (w .last .1 .1 .0)
+    (k .result) (j .claims-in .result) (w .result) (c .answer-of .result) (w .last .1 .1 .0)
     (is-verb i) (sym (g .claims-good .ensures) ∙ not-false (g .claims-good .result) (l .if3 .left))
-    (k .ensures) (v .claim-at .ensures) (q .claim-at2 .ensures) (j .claim-at3 .ensures)
-    (w .ensures .0) (c .answer-of .ensures) (w .ensures .1)
+    (k .ensures) (j .claims-in .ensures) (w .ensures .0) (c .answer-of .ensures) (w .ensures .1)
 
 pub lock-board-write-spec : {M : Type 1} → statement M
 lock-board-write-spec =
@@ -78,8 +75,6 @@ lock-board-write-spec =
     (λ c κs. search needs)
     returns-3
     (λ c. search needs)
-    (λ c κs. search needs)
-    (λ c κs. search needs)
     (λ c κs. search needs)
     (λ c κs. search needs)
     (λ c κs. search needs)

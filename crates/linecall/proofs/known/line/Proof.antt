@@ -32,7 +32,7 @@ has-room i = sym (i .before .is-full .ensures) ∙ i .if1 .left
 returns : tie.Need-returns
 returns c = let i = c .before .before .before in let f = i .before in let s = start f in let a = s .args in
     let e = Laws.call-full (board s) (a .line .now) (a .journal .now) (a .place) (s .pre .0) (sym (f .is-full .ensures) ∙ i .if1 .taken) in
-    (rw e (c .refused .ensures), (rw e, (rw e, (s .pre .1, subst IsEntries (sym (s .pre .2)) fresh-entries))))
+    (rw e (c .refused .ensures .0), (rw e, (rw e, (s .pre .1, subst IsEntries (sym (s .pre .2)) fresh-entries, c .refused .ensures .1))))
 
 write-lines-requires : tie.Need-write-lines-requires
 write-lines-requires c κs = let p = c .before .before .before in let r = p .before .before .before in let i = roomy r in let s = start (i .before) in

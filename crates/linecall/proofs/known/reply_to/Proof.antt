@@ -15,7 +15,7 @@ returns c =
 returns-2 : tie.Need-returns-2
 unfolding replyTo
 returns-2 c = let k = c .before .before .before .before in let s = k .before .before in
-    (rw (k .reading .given .1) (c .refused .ensures), (s .pre .1, subst IsEntries (sym (s .pre .2)) fresh-entries))
+    (rw (k .reading .given .1) (c .refused .ensures .0), (s .pre .1, subst IsEntries (sym (s .pre .2)) fresh-entries, c .refused .ensures .1))
 
 pub reply-to-spec : {M : Type 1} → statement M
 reply-to-spec =
