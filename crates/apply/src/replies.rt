@@ -65,7 +65,7 @@ pub fn answered(
 }
 
 // GIVEN, with the order that was found for it.
-pub fn given(sets: &Sets, rest: Rest, lines: &mut Entries, p: u8, f: u8, order: Order) -> Changed
+pub fn given(sets: &Sets, rest: Rest, lines: &mut Entries, p: u8, f: u16, order: Order) -> Changed
     requires { ⌜ (now lines ≡ noEntries) × Carries (boardOf (now sets) rest) order ⌝ }
     ensures { λ r. ⌜ ComesTo (now (sets .entry)) (now (lines .exit)) r
         (reply (boardOf (now (sets .entry)) rest) Answer.Given (lineOf Word.Given p f 0 ∷ [])) ⌝ }

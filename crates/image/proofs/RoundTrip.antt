@@ -1,30 +1,33 @@
 -- Reading what was written gives the board back, and an accepted image is the one that writing gives. Assumes nothing.
-use Prim.Native.Nat.{ℕ, zero, suc, _-_, _*_}
+use Prim.Native.Nat.{ℕ, zero, suc, _-_, _*_, _<_}
 use mathlib.Core.Path.{_≡_, refl, ap, sym, _∙_}
 use mathlib.Core.Logic.{_≢_, ⊎-elim}
-use mathlib.Core.List.{List, _++_, map}
+use mathlib.Core.List.{List, [], _∷_, _++_, map}
 use mathlib.Core.Bool.{true, false, cond, _&&_}
-use lib.Dec.{eqb}
+use lib.Dec.{eqb, leb}
 use lib.ListN.{length, getD, drop, length-map}
 use native.Mathlib.Omega.{arith}
-use borrow.Author.Tests.{lt-leb, eqb-true, eqb-false, eq-eqb, ne-eqb}
+use borrow.Author.Tests.{lt-leb, leb-true, eqb-true, eqb-false, eq-eqb, ne-eqb}
 use Rattle.laws.specs.Tests.{by-test, never, and-left, and-right}
 use Rattle.files.specs.declared.FileSet.{FileSet}
 use Rattle.files.specs.Sets.{isFile, member}
 use Rattle.files.proofs.Laws.{member-file}
-use Rattle.rules.specs.Boards.{noProgram}
+use Rattle.rules.specs.Boards.{noProgram, isWaiting, awaitedOf, claims}
 use Rattle.rules.specs.Soundness.{sound}
 use Rattle.rules.specs.declared.Standing.{Standing}
 use Rattle.rules.specs.declared.Program.{Program}
 use Rattle.rules.specs.declared.Board.{Board}
+use Rattle.theory.specs.Programs.{Is}
 use Rattle.theory.specs.Records.{ItemOwn}
+use Rattle.theory.specs.Loose.{Awaits}
+use Rattle.theory.specs.Calls.{claims-file}
 use Rattle.theory.specs.Sound.{sound-iff}
 use Rattle.columns.proofs.Rows.{flat-length}
-use Rattle.image.specs.Sections.{Section, many, bytesN}
+use Rattle.image.specs.Sections.{Section, Each, many, number, bytesN}
 use Rattle.image.specs.Image.{toSet, fromSet, setWith, setSection, kindOf, fileByte, usedBy, wantedBy, standingOf, fileOf, itemOf}
 use Rattle.image.specs.Image.{bothOrNone, seatFits, seatGood, GoodProgram, Row, InquiryRow, joined, rowOf, inquiryOf, rowsAgree}
 use Rattle.image.specs.Image.{BoardParts, rowWith, inquiryWith, partsWith, imageWith, toBoard, fromBoard, partsAgree, GoodSeats}
-use Rattle.image.specs.Image.{rowSection, rowsSection, inquirySection, imageSection, imageLength, imageOf, boardOf, loadedOf}
+use Rattle.image.specs.Image.{rowSection, rowsSection, inquirySection, partsSection, imageSection, imageLength, imageOf, boardOf, loadedOf}
 use Rattle.image.specs.Law.{Bytes, Lawful, BoardOfCode}
 use Rattle.image.proofs.Sections.{byte-lawful, run-lawful, number-length, number-lawful, _▸ₗ_, seen-lawful, refined-lawful, many-lawful}
 use Rattle.image.proofs.Sections.{zipped-back, zipped-fit, zipped-again, each-at, flat-map, whole-fits, whole-back, whole-again, Put}
@@ -168,7 +171,7 @@ module _ {set : Section FileSet} {file : Section ℕ} (p : Lawful set) (q : Lawf
   with-lawful = refined-lawful toBoard fromBoard partsAgree GoodSeats board-back board-fit board-again parts-lawful
 
 image-lawful : Lawful imageSection
-image-lawful = with-lawful (set-lawful 8) byte-lawful
+image-lawful = with-lawful (set-lawful 8) (number-lawful 1)
 
 -- ---- the seats of a sound board are good
 
@@ -204,13 +207,60 @@ sound-good b h s =
     (λ i m. let z : suc i - 1 ≡ i = omega arith in
     own-good (getD (b .programs) i noProgram) (rw z at (sound-iff b .0 s .item-own (suc i) (record { least = omega arith; most = omega (arith, n) }))))
 
+-- ---- the awaited files of a sound board fit into their byte
+
+abbrev SmallFile : Program → Type 0
+SmallFile q = fileByte (q .standing) (q .file) < 256
+
+is-small : (f : ℕ) → isFile f ≡ true → f < 256
+is-small f e = let n = leb-true f 64 (and-right (leb 1 f) (leb f 64) e) in omega arith
+
+file-small : (s : FileSet) (f : ℕ) → member s f ≡ true → f < 256
+file-small s f e = is-small f (member-file s f e)
+
+-- of a program whose awaited file is a file
+own-small : (q : Program) → ItemOwn q → ((f : ℕ) → Awaits q f → f < 256) → (s : Standing) → q .standing ≡ s → fileByte s (q .file) < 256
+own-small q o w Standing.Absent e = omega arith
+own-small q o w Standing.Running e = by-test (eqb (q .item) 0)
+    (λ t. let z = o .no-item (eqb-true (q .item) 0 t) in omega arith)
+    (λ t. file-small (q .inquiring) (q .file) (o .in-i (eqb-false (q .item) 0 t)))
+own-small q o w (Standing.Waiting f) e = by-test (eqb (q .item) 0)
+    (λ t. w f (e, eqb-true (q .item) 0 t))
+    (λ t. let n = eqb-false (q .item) 0 t in
+    let i = file-small (q .inquiring) (q .file) (o .in-i n) in
+    ⊎-elim (λ r. never {t = false} (sym (ap isWaiting r) ∙ ap isWaiting e) refl)
+    (λ r. let d = ap awaitedOf (sym e ∙ r) in omega (arith, d, i)) (o .stands-so n))
+own-small q o w Standing.Held e = omega arith
+
+sound-small : (b : Board) → BoardOfCode b → sound b ≡ true → Each SmallFile (b .programs)
+sound-small b h s =
+    let n : length (b .programs) ≡ 32 = sym (length-map (b .programs) rowOf) ∙ h .0 .0 .0 .0 .0 .0 in
+    let k = sound-iff b .0 s in
+    each-at SmallFile (b .programs) noProgram
+    (λ i m. let z : suc i - 1 ≡ i = omega arith in
+    let p : Is (suc i) = record { least = omega arith; most = omega (arith, n) } in
+    let q = getD (b .programs) i noProgram in
+    own-small q (rw z at (k .item-own (suc i) p)) (λ f a. is-small f (claims-file q f (rw z at (k .waiter-asked (suc i) p) f a .claimed))) (q .standing) refl)
+
+-- the rows of a board whose awaited files fit into a byte
+rows-small : (ps : List Program) → Each (rowWith setSection (number 2) .holds) (map rowOf ps) → Each SmallFile ps
+    → Each (rowSection .holds) (map rowOf ps)
+unfolding Each
+rows-small [] h k = h
+rows-small (q ∷ ps) h k = ((h .0 .0, (h .0 .1 .0, k .0)), rows-small ps (h .1) (k .1))
+
+sound-holds : (b : Board) → BoardOfCode b → sound b ≡ true → partsSection .holds (fromBoard b)
+sound-holds b (((((r, w), e), ns), c), is) s =
+    let k = sound-small b (((((r, w), e), ns), c), is) s in
+    ((((((r .0, rows-small (b .programs) (r .1) k), w), e), ns), c), is)
+
 -- ---- by what reading finds
 
 -- reading what was written gives a sound board back
 pub loaded-back : (b : Board) → BoardOfCode b → sound b ≡ true → loadedOf (imageOf b) ≡ record { ok = true; board = b }
 unfolding imageOf boardOf
 loaded-back b c s =
-    let h : imageSection .holds b = (c, sound-good b c s) in
+    let h : imageSection .holds b = (sound-holds b c s, sound-good b c s) in
     sym (load-good (imageOf b) b (image-lawful .long b h) (whole-fits image-lawful b h) (sym (whole-back image-lawful b h)))
 
 -- an accepted image has its length, is of the layout, and gives its board

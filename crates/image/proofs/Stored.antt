@@ -27,7 +27,7 @@ use Rattle.image.specs.Image.{setSection, joined, rowOf, rowSection, inq
 use Rattle.image.specs.Image.{standingOf, fileOf, itemOf, seatFits, rowsAgree, refusedImage}
 use Rattle.image.specs.Stored.{loadedIn}
 use Rattle.image.proofs.Sections.{rowAt, read-length, read-at, fit-any, zipped-at, zipped-length, agreeMany}
-use Rattle.image.proofs.Laws.{item-at, load-good}
+use Rattle.image.proofs.Laws.{one-at, item-at, load-good}
 
 -- ---- a set written
 
@@ -88,7 +88,7 @@ module _ (s x : List ℕ) (u a : ℕ) (n : length x ≡ inquirySection .size) (e
   kind-read = getD-drop kindAt s 0 0
 
   file-read : rowSection .read s .1 .1 ≡ f
-  file-read = getD-drop 1 (drop kindAt s) 0 0 ∙ getD-drop kindAt s 1 0
+  file-read = one-at (drop 1 (drop kindAt s)) ∙ getD-drop 1 (drop kindAt s) 0 0 ∙ getD-drop kindAt s 1 0
 
   -- the test of the two rows
   pub seat-tested : seatFits k f u a ≡ rowsAgree (rowSection .read s) (inquirySection .read x)

@@ -39,7 +39,7 @@ kindOf Standing.Running = 1
 kindOf (Standing.Waiting f) = 2
 kindOf Standing.Held = 3
 
--- the awaited-file byte, where file is the file of the program's record
+-- the number in the awaited-file byte, where file is the file of the program's record
 abbrev pub fileByte : Standing → ℕ → ℕ
 fileByte Standing.Absent file = 0
 fileByte Standing.Running file = file
@@ -185,9 +185,13 @@ GoodSeats b = Each GoodProgram (b .programs)
 abbrev pub imageWith : Section FileSet → Section ℕ → Section Board
 imageWith set file = refined toBoard fromBoard partsAgree GoodSeats (partsWith set file)
 
+-- "awaited file", a number in one byte
+abbrev pub awaitedSection : Section ℕ
+awaitedSection = number 1
+
 -- sets of 8 bytes, and a byte for the awaited file
 abbrev pub rowSection : Section Row
-rowSection = rowWith setSection byte
+rowSection = rowWith setSection awaitedSection
 
 abbrev pub inquirySection : Section InquiryRow
 inquirySection = inquiryWith setSection
@@ -199,13 +203,13 @@ abbrev pub inquiriesSection : Section (List InquiryRow)
 inquiriesSection = many 32 inquirySection
 
 abbrev pub frontSection : Section Front
-frontSection = frontWith setSection byte
+frontSection = frontWith setSection awaitedSection
 
 abbrev pub partsSection : Section BoardParts
-partsSection = partsWith setSection byte
+partsSection = partsWith setSection awaitedSection
 
 abbrev pub imageSection : Section Board
-imageSection = imageWith setSection byte
+imageSection = imageWith setSection awaitedSection
 
 abbrev pub imageLength : ℕ
 imageLength = imageSection .size

@@ -111,8 +111,8 @@ fn kind(s: Standing) -> u8
     }
 }
 
-// The awaited-file byte, by the file of the program's record.
-fn file_byte(s: Standing, file: u8) -> u8
+// The number in the awaited-file byte, by the file of the program's record.
+fn file_byte(s: Standing, file: u16) -> u16
     ensures { λ r. ⌜ r ≡ fileByte s file ⌝ }
 {
     match s {
@@ -175,7 +175,9 @@ fn put_row(out: &mut [u8], sets: &Sets, p: u8, seat: Seat)
 {
     let s = seat.standing;
     let f = seat.file;
-    let standing = [kind(s), file_byte(s, f)];
+    let k = kind(s);
+    let b = file_byte(s, f);
+    let standing = [k, (b % 256) as u8];
     let v = sets::writable_at(p);
     put_set(out, 0, sets, v);
     let q = sets::readable_at(p);
@@ -332,23 +334,23 @@ fn standing_of(k: u8, f: u8) -> Standing
         return Standing::Running;
     }
     if k == 2 {
-        return Standing::Waiting(f);
+        return Standing::Waiting(f as u16);
     }
     Standing::Held
 }
 
 // The file of the record; a is the awaited record.
-fn file_of(k: u8, f: u8, a: u16) -> u8
+fn file_of(k: u8, f: u8, a: u16) -> u16
     ensures { λ r. ⌜ r ≡ fileOf k f a ⌝ }
 {
     if k == 1 {
-        return f;
+        return f as u16;
     }
     if k == 2 {
         if a == 0 {
             return 0;
         }
-        return f;
+        return f as u16;
     }
     0
 }
