@@ -23,6 +23,7 @@ use Rattle.rules.specs.declared.Word.{Word}
 use Rattle.rules.specs.declared.Line.{Line}
 use Rattle.rules.specs.declared.Reply.{Reply}
 use Rattle.rules.specs.declared.Verb.{Verb}
+use Rattle.rules.specs.declared.Claims.{Claims}
 use Rattle.rules.specs.declared.Asked.{Asked}
 use Rattle.laws.specs.Lists.{found, padded, names, any, rising}
 use Rattle.rules.specs.Modes.{Write, Inquiry}
@@ -56,7 +57,7 @@ use Rattle.search.specs.Rows.{asOrder}
 use Rattle.search.proofs.Laws.{drop-replicate}
 use Rattle.search.proofs.Ordered.{order-none, order-found}
 use Rattle.settling.specs.Writing.{Written, after, Fits}
-use Rattle.apply.specs.Replies.{wrote, replied, numberIf, fileFirst, recordFirst, entryCheck, claimCheckAt, useCheckAt, inquiryCheckAt, returnedCheck, unlessBusy, nearCheck, waitingFor, Carries}
+use Rattle.apply.specs.Replies.{wrote, replied, numberIf, fileFirst, recordFirst, entering, entryCheck, claimCheckAt, useCheckAt, inquiryCheckAt, returnedCheck, unlessBusy, nearCheck, waitingFor, Carries}
 
 -- ---- a call on a good board
 
@@ -82,8 +83,8 @@ apply-same b c n = unless-same b (checked b c) (accepted b c) (accepted-answer b
 
 -- the call of the program that is asked for
 pub by-program : (b : Board) (a : Asked) (p : ℕ) → p ≡ a .program
-    → apply b (callWith (a .verb) p (a .file) (a .item) (a .writable) (a .readable) (a .inquirable)) ≡ apply b (callOf a)
-by-program b a p e = ap (λ x. apply b (callWith (a .verb) x (a .file) (a .item) (a .writable) (a .readable) (a .inquirable))) e
+    → apply b (callWith (a .verb) p (a .file) (a .item) (a .claims)) ≡ apply b (callOf a)
+by-program b a p e = ap (λ x. apply b (callWith (a .verb) x (a .file) (a .item) (a .claims))) e
 
 -- ---- numbers in range
 
@@ -112,17 +113,17 @@ no-file true f e = e
 no-file false f e = refl
 
 -- check 8 of any call: its program
-checked-far : (b : Board) (v : Verb) (p f n : ℕ) (w r j : FileSet) → isProgram p ≡ false
-    → checked b (callWith v p f n w r j) ≡ Check.Failed Refusal.OutOfRange
+checked-far : (b : Board) (v : Verb) (p f n : ℕ) (c : Claims) → isProgram p ≡ false
+    → checked b (callWith v p f n c) ≡ Check.Failed Refusal.OutOfRange
 unfolding enterCheck openCheck closeCheck leaveCheck cancelCheck fetchCheck returnCheck
-checked-far b Verb.Enter p f n w r j e = rw e
-checked-far b Verb.Open p f n w r j e = rw (no-program p f e)
-checked-far b Verb.Close p f n w r j e = rw (no-program p f e)
-checked-far b Verb.Drop p f n w r j e = rw (no-program p f e)
-checked-far b Verb.Leave p f n w r j e = rw e
-checked-far b Verb.Cancel p f n w r j e = rw e
-checked-far b Verb.Fetch p f n w r j e = rw (no-program p f e)
-checked-far b Verb.Return p f n w r j e = rw e
+checked-far b Verb.Enter p f n c e = rw e
+checked-far b Verb.Open p f n c e = rw (no-program p f e)
+checked-far b Verb.Close p f n c e = rw (no-program p f e)
+checked-far b Verb.Drop p f n c e = rw (no-program p f e)
+checked-far b Verb.Leave p f n c e = rw e
+checked-far b Verb.Cancel p f n c e = rw e
+checked-far b Verb.Fetch p f n c e = rw (no-program p f e)
+checked-far b Verb.Return p f n c e = rw e
 
 -- check 8 of the file m, of which the number is f
 file-first : (m f : ℕ) (t : Bool) (next : ℕ → Check) → t ≡ true → f ≡ numberIf (isFile m) m
@@ -182,7 +183,7 @@ module _ (sets : Sets) (q : Rest) (p : ℕ) (h : 1 ≤ p) (k : p ≤ 32) (st : I
       ∙ ap (λ (o : Bool). busy (refuseIf (not o) Refusal.NoRecord Check.Passed)) (inquires f)
 
   -- in range: the seat, then the other checks
-  module _ (f m n i : ℕ) (w r j : FileSet) (number : f ≡ numberIf (isFile m) m) (numbered : n ≡ numberIf (isRecord i) i) where
+  module _ (f m n i : ℕ) (c : Claims) (number : f ≡ numberIf (isFile m) m) (numbered : n ≡ numberIf (isRecord i) i) where
     abbrev ranged : isProgram p ≡ true
     ranged = is-number 32 p h k
 
@@ -199,7 +200,7 @@ module _ (sets : Sets) (q : Rest) (p : ℕ) (h : 1 ≤ p) (k : p ≤ 32) (st : I
     near-fetch = ap (λ (c : Check). fileFirst f (recordFirst n c)) (near-inquiry f) ∙ ap (fileFirst f) (record-first i n (inquiryCheck f) numbered)
         ∙ file-first m f (isProgram p) (λ (g : ℕ). refuseIf (not (isRecord i)) Refusal.BadRecord (inquiryCheck g)) ranged number
 
-    near-enter : entryCheck (at b p .standing) w r j ≡ enterCheck b p w r j
+    near-enter : entryCheck (at b p .standing) c ≡ checked b (entering p c)
     unfolding enterCheck
     near-enter = rw ranged
 
@@ -215,8 +216,8 @@ module _ (sets : Sets) (q : Rest) (p : ℕ) (h : 1 ≤ p) (k : p ≤ 32) (st : I
     unfolding returnCheck
     near-return = rw ranged
 
-    pub checked-near : (v : Verb) → nearCheck sets p (seatAt q p) f n v w r j ≡ checked b (callWith v p m i w r j)
-    checked-near Verb.Enter = ap (λ (s : Seat). entryCheck (s .standing) w r j) seated ∙ near-enter
+    pub checked-near : (v : Verb) → nearCheck sets p (seatAt q p) f n v c ≡ checked b (callWith v p m i c)
+    checked-near Verb.Enter = ap (λ (s : Seat). entryCheck (s .standing) c) seated ∙ near-enter
     checked-near Verb.Open = near-open
     checked-near Verb.Close = near-close
     checked-near Verb.Drop = near-open
@@ -230,7 +231,7 @@ refuse-next : (t : Bool) (r : Refusal) (next : Check) → refuseIf t r next ≡ 
 refuse-next true r next k = failed-passed r k
 refuse-next false r next k = k
 
-module _ (b : Board) (p f m n i : ℕ) (w r j : FileSet) (number : f ≡ numberIf (isFile m) m) (numbered : n ≡ numberIf (isRecord i) i) where
+module _ (b : Board) (p f m n i : ℕ) (c : Claims) (number : f ≡ numberIf (isFile m) m) (numbered : n ≡ numberIf (isRecord i) i) where
   -- a file that a check has let pass is in range, and a record
   passed-file : (next : Check) → refuseIf (not (isProgram p && isFile m)) Refusal.OutOfRange next ≡ Check.Passed → f ≡ m
   passed-file next k =
@@ -241,7 +242,7 @@ module _ (b : Board) (p f m n i : ℕ) (w r j : FileSet) (number : f ≡ numberI
   passed-record next k = by-test (isRecord i) (λ e. rw e at numbered) (λ e. failed-passed Refusal.BadRecord (rw e at k))
 
   -- so the call is that with their numbers
-  pub call-same : (v : Verb) → checked b (callWith v p m i w r j) ≡ Check.Passed → callWith v p f n w r j ≡ callWith v p m i w r j
+  pub call-same : (v : Verb) → checked b (callWith v p m i c) ≡ Check.Passed → callWith v p f n c ≡ callWith v p m i c
   unfolding openCheck closeCheck fetchCheck
   call-same Verb.Enter k = refl
   call-same Verb.Open k = ap (Open p) (passed-file _ k)
@@ -255,7 +256,7 @@ module _ (b : Board) (p f m n i : ℕ) (w r j : FileSet) (number : f ≡ numberI
 
 pub apply-far : (b : Board) (a : Asked) → isProgram (a .program) ≡ false → refuse b Refusal.OutOfRange ≡ apply b (callOf a)
 apply-far b a e =
-    apply-failed b (callOf a) Refusal.OutOfRange (checked-far b (a .verb) (a .program) (a .file) (a .item) (a .writable) (a .readable) (a .inquirable) e)
+    apply-failed b (callOf a) Refusal.OutOfRange (checked-far b (a .verb) (a .program) (a .file) (a .item) (a .claims) e)
 
 -- ---- replies
 
@@ -340,10 +341,13 @@ pub sound-of : (b : Board) → Good b → sound b ≡ true
 sound-of b g = sound-iff b .1 (good-sound b g)
 
 module _ (sets : Sets) (r : Rest) where
-  pub entry-free : (p : ℕ) (v q j : FileSet) → Good (boardOf sets r) → enterCheck (boardOf sets r) p v q j ≡ Check.Passed
+  pub entry-free : (p : ℕ) (c : Claims) → Good (boardOf sets r) → checked (boardOf sets r) (entering p c) ≡ Check.Passed
       → (r .entry ≡ padded 0 (names (r .entry))) × (length (names (r .entry)) < 32)
   unfolding boardOf
-  entry-free p v q j g e = (g .loose .helds .form, entry-room (boardOf sets r) (board-size sets r) (sound-of (boardOf sets r) g) p v q j e)
+  entry-free p c g e = (
+    g .loose .helds .form,
+    entry-room (boardOf sets r) (board-size sets r) (sound-of (boardOf sets r) g) p (c .writable) (c .readable) (c .inquirable) e,
+  )
 
   pub waiting-free : (p f : ℕ) → Good (boardOf sets r) → openCheck (boardOf sets r) p f ≡ Check.Passed
       → (r .waiting ≡ padded 0 (names (r .waiting))) × (length (names (r .waiting)) < 32)

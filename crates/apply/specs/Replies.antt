@@ -7,12 +7,12 @@ use mathlib.Core.List.{List, [], _++_}
 use mathlib.Core.Option.{Option·getD}
 use lib.Dec.{eqb}
 use lib.ListN.{length}
-use Rattle.files.specs.declared.FileSet.{FileSet}
 use Rattle.files.specs.Sets.{member}
 use Rattle.rules.specs.declared.Standing.{Standing}
 use Rattle.rules.specs.declared.Board.{Board}
 use Rattle.rules.specs.declared.Refusal.{Refusal}
 use Rattle.rules.specs.declared.Verb.{Verb}
+use Rattle.rules.specs.declared.Claims.{Claims}
 use Rattle.rules.specs.declared.Check.{Check}
 use Rattle.rules.specs.declared.Answer.{Answer}
 use Rattle.rules.specs.declared.Line.{Line}
@@ -22,7 +22,7 @@ use Rattle.rules.specs.Modes.{Write, Inquiry, claimsMeet}
 use Rattle.rules.specs.Boards.{isAbsent, isRunning, at, setStanding, setItem}
 use Rattle.rules.specs.Checks.{refuseIf, unlessRunning, unlessUsing, unlessStopped}
 use Rattle.rules.specs.Orders.{carried}
-use Rattle.rules.specs.Calls.{waitAs}
+use Rattle.rules.specs.Calls.{Call, Enter, waitAs}
 use Rattle.rules.specs.Settling.{handOn, settle}
 use Rattle.rules.specs.Replies.{blank}
 use Rattle.theory.specs.Loose.{Loose, Counted}
@@ -76,9 +76,15 @@ fileFirst f next = refuseIf (eqb f 0) Refusal.OutOfRange next
 abbrev pub recordFirst : ℕ → Check → Check
 recordFirst n next = refuseIf (eqb n 0) Refusal.BadRecord next
 
+-- a program enters with its claims
+abbrev pub entering : ℕ → Claims → Call
+entering p c = Enter p (c .writable) (c .readable) (c .inquirable)
+
 -- checks 9 and 10, of enter
-abbrev pub entryCheck : Standing → FileSet → FileSet → FileSet → Check
-entryCheck s v q j = refuseIf (not (isAbsent s)) Refusal.NotAbsent (refuseIf (claimsMeet v q j) Refusal.ClaimsMeet Check.Passed)
+abbrev pub entryCheck : Standing → Claims → Check
+entryCheck s c =
+    refuseIf (not (isAbsent s)) Refusal.NotAbsent
+    (refuseIf (claimsMeet (c .writable) (c .readable) (c .inquirable)) Refusal.ClaimsMeet Check.Passed)
 
 -- checks 14 and 15, of open and drop, by the sets
 abbrev pub claimCheckAt : Sets → ℕ → ℕ → Check
@@ -103,15 +109,15 @@ unlessBusy s next = unlessRunning (s .standing) (unlessUsing (s .item) next)
 
 -- the checks of the call with a verb, of a program in range, by its sets and its seat; the file's number is 0 if out of range, and the
 -- record's
-abbrev pub nearCheck : Sets → ℕ → Seat → ℕ → ℕ → Verb → FileSet → FileSet → FileSet → Check
-nearCheck sets p s f n Verb.Enter v q j = entryCheck (s .standing) v q j
-nearCheck sets p s f n Verb.Open v q j = fileFirst f (unlessBusy s (claimCheckAt sets p f))
-nearCheck sets p s f n Verb.Close v q j = fileFirst f (unlessBusy s (useCheckAt sets p f))
-nearCheck sets p s f n Verb.Drop v q j = fileFirst f (unlessBusy s (claimCheckAt sets p f))
-nearCheck sets p s f n Verb.Leave v q j = unlessRunning (s .standing) Check.Passed
-nearCheck sets p s f n Verb.Cancel v q j = unlessStopped (s .standing) Check.Passed
-nearCheck sets p s f n Verb.Fetch v q j = fileFirst f (recordFirst n (unlessBusy s (inquiryCheckAt sets p f)))
-nearCheck sets p s f n Verb.Return v q j = unlessRunning (s .standing) (returnedCheck (s .item))
+abbrev pub nearCheck : Sets → ℕ → Seat → ℕ → ℕ → Verb → Claims → Check
+nearCheck sets p s f n Verb.Enter c = entryCheck (s .standing) c
+nearCheck sets p s f n Verb.Open c = fileFirst f (unlessBusy s (claimCheckAt sets p f))
+nearCheck sets p s f n Verb.Close c = fileFirst f (unlessBusy s (useCheckAt sets p f))
+nearCheck sets p s f n Verb.Drop c = fileFirst f (unlessBusy s (claimCheckAt sets p f))
+nearCheck sets p s f n Verb.Leave c = unlessRunning (s .standing) Check.Passed
+nearCheck sets p s f n Verb.Cancel c = unlessStopped (s .standing) Check.Passed
+nearCheck sets p s f n Verb.Fetch c = fileFirst f (recordFirst n (unlessBusy s (inquiryCheckAt sets p f)))
+nearCheck sets p s f n Verb.Return c = unlessRunning (s .standing) (returnedCheck (s .item))
 
 -- ---- a record handed on
 

@@ -1,7 +1,7 @@
 // Checks 8 to 16 and 18 to 21 of a direct call.
-use files::FileSet;
 use files::words;
 use rules::Check;
+use rules::Claims;
 use rules::Refusal;
 use rules::Standing;
 use rules::Verb;
@@ -147,9 +147,12 @@ fn return_check(item: u16) -> Check
 }
 
 // "Refusal 10 covers any two claims that meet."
-fn claims_meet(writable: FileSet, readable: FileSet, inquirable: FileSet) -> bool
-    ensures { λ r. ⌜ r ≡ claimsMeet writable readable inquirable ⌝ }
+fn claims_meet(c: Claims) -> bool
+    ensures { λ r. ⌜ r ≡ claimsMeet (c .writable) (c .readable) (c .inquirable) ⌝ }
 {
+    let writable = c.writable;
+    let readable = c.readable;
+    let inquirable = c.inquirable;
     if writable.meets(readable) {
         return true;
     }
@@ -160,13 +163,13 @@ fn claims_meet(writable: FileSet, readable: FileSet, inquirable: FileSet) -> boo
 }
 
 // 9, 10, of a program in range.
-fn check_enter(s: Standing, writable: FileSet, readable: FileSet, inquirable: FileSet) -> Check
-    ensures { λ r. ⌜ r ≡ entryCheck s writable readable inquirable ⌝ }
+fn check_enter(s: Standing, claims: Claims) -> Check
+    ensures { λ r. ⌜ r ≡ entryCheck s claims ⌝ }
 {
     if !parts::standings::is_absent(s) {
         return Check::Failed(Refusal::NotAbsent);
     }
-    if claims_meet(writable, readable, inquirable) {
+    if claims_meet(claims) {
         return Check::Failed(Refusal::ClaimsMeet);
     }
     Check::Passed
@@ -226,17 +229,15 @@ pub fn check_call(
     f: u16,
     n: u16,
     verb: Verb,
-    writable: FileSet,
-    readable: FileSet,
-    inquirable: FileSet,
+    claims: Claims,
 ) -> Check
     requires { ⌜ ((1 ≤ p) × (p ≤ 32)) × IsStore (now sets) ⌝ }
-    ensures { λ r. ⌜ r ≡ nearCheck (now (sets .entry)) p seat f n verb writable readable inquirable ⌝ }
+    ensures { λ r. ⌜ r ≡ nearCheck (now (sets .entry)) p seat f n verb claims ⌝ }
 {
     let s = seat.standing;
     let item = seat.item;
     match verb {
-        Verb::Enter => check_enter(s, writable, readable, inquirable),
+        Verb::Enter => check_enter(s, claims),
         Verb::Open => check_open(sets, p, s, item, f),
         Verb::Close => check_close(sets, p, s, item, f),
         Verb::Drop => check_open(sets, p, s, item, f),

@@ -4,6 +4,7 @@ use parts::entries::Entries;
 use rules::Answer;
 use rules::Asked;
 use rules::Check;
+use rules::Claims;
 use rules::Program;
 use rules::Refusal;
 use rules::Standing;
@@ -25,14 +26,14 @@ ghost use Rattle.laws.specs.Lists.{names, padded};
 ghost use Rattle.rules.specs.Boards.{isRunning, at, setProgram, setItem};
 ghost use Rattle.rules.specs.Orders.{taken};
 ghost use Rattle.rules.specs.Soundness.{sound};
-ghost use Rattle.rules.specs.Checks.{enterCheck, openCheck, closeCheck, leaveCheck, cancelCheck, fetchCheck, returnCheck};
-ghost use Rattle.rules.specs.Calls.{newcomer, admit, hold, holdFor, enter, openFile, fetch, returnItem, closeFile, dropFile, countLeave, leave};
+ghost use Rattle.rules.specs.Checks.{openCheck, closeCheck, leaveCheck, cancelCheck, fetchCheck, returnCheck};
+ghost use Rattle.rules.specs.Calls.{newcomer, admit, hold, holdFor, openFile, fetch, returnItem, closeFile, dropFile, countLeave, leave};
 ghost use Rattle.rules.specs.Calls.{countCancel, withdrawn, cancel, callWith, callOf, checked, accepted, apply};
 ghost use Rattle.theory.specs.Loose.{Good};
 ghost use Rattle.parts.specs.Entries.{IsEntries, noEntries};
 ghost use Rattle.store.specs.Sets.{IsStore};
 ghost use Rattle.store.specs.Store.{standingAt, boardOf};
-ghost use Rattle.apply.specs.Replies.{ComesTo, Carries, InForm, seatUses, waitingFor};
+ghost use Rattle.apply.specs.Replies.{ComesTo, Carries, InForm, entering, seatUses, waitingFor};
 
 mod checks;
 pub mod replies;
@@ -48,9 +49,12 @@ pub struct Changed {
 // ---- enter
 
 // A program that enters, with nothing open.
-fn new_program(writable: FileSet, readable: FileSet, inquirable: FileSet, s: Standing) -> Program
-    ensures { λ r. ⌜ r ≡ newcomer writable readable inquirable s ⌝ }
+fn new_program(claims: Claims, s: Standing) -> Program
+    ensures { λ r. ⌜ r ≡ newcomer (claims .writable) (claims .readable) (claims .inquirable) s ⌝ }
 {
+    let writable = claims.writable;
+    let readable = claims.readable;
+    let inquirable = claims.inquirable;
     Program {
         writable,
         readable,
@@ -65,20 +69,14 @@ fn new_program(writable: FileSet, readable: FileSet, inquirable: FileSet, s: Sta
 }
 
 // p runs, and the count of each waiting program goes up.
-fn put_running(
-    sets: &mut Sets,
-    rest: Rest,
-    p: u8,
-    writable: FileSet,
-    readable: FileSet,
-    inquirable: FileSet,
-) -> Rest
+fn put_running(sets: &mut Sets, rest: Rest, p: u8, claims: Claims) -> Rest
     requires { ⌜ ((1 ≤ p) × (p ≤ 32)) × Good (boardOf (now sets) rest)
-        × (enterCheck (boardOf (now sets) rest) p writable readable inquirable ≡ Check.Passed) × IsStore (now sets) ⌝ }
-    ensures { λ r. ⌜ boardOf (now (sets .exit)) r ≡ admit (boardOf (now (sets .entry)) rest) p writable readable inquirable ⌝ }
+        × (checked (boardOf (now sets) rest) (entering p claims) ≡ Check.Passed) × IsStore (now sets) ⌝ }
+    ensures { λ r. ⌜ boardOf (now (sets .exit)) r
+        ≡ admit (boardOf (now (sets .entry)) rest) p (claims .writable) (claims .readable) (claims .inquirable) ⌝ }
     ensures { λ _. ⌜ IsStore (now (sets .exit)) ⌝ }
 {
-    let runs = new_program(writable, readable, inquirable, Standing::Running);
+    let runs = new_program(claims, Standing::Running);
     let mut c = store::sets::put(sets, rest, p, runs);
     let passed = settling::counts::tally(sets, c);
     c.passed = passed;
@@ -86,20 +84,14 @@ fn put_running(
 }
 
 // p is held, at the end of the entry line.
-fn put_held(
-    sets: &mut Sets,
-    rest: Rest,
-    p: u8,
-    writable: FileSet,
-    readable: FileSet,
-    inquirable: FileSet,
-) -> Rest
+fn put_held(sets: &mut Sets, rest: Rest, p: u8, claims: Claims) -> Rest
     requires { ⌜ ((1 ≤ p) × (p ≤ 32)) × ((rest .entry ≡ padded 0 (names (rest .entry))) × (length (names (rest .entry)) < 32))
         × IsStore (now sets) ⌝ }
-    ensures { λ r. ⌜ boardOf (now (sets .exit)) r ≡ hold (boardOf (now (sets .entry)) rest) p writable readable inquirable ⌝ }
+    ensures { λ r. ⌜ boardOf (now (sets .exit)) r
+        ≡ hold (boardOf (now (sets .entry)) rest) p (claims .writable) (claims .readable) (claims .inquirable) ⌝ }
     ensures { λ _. ⌜ IsStore (now (sets .exit)) ⌝ }
 {
-    let held = new_program(writable, readable, inquirable, Standing::Held);
+    let held = new_program(claims, Standing::Held);
     let line = rest.entry;
     let longer = lines::append(line, p);
     let mut c = store::sets::put(sets, rest, p, held);
@@ -113,18 +105,17 @@ fn hold_for(
     rest: Rest,
     lines: &mut Entries,
     p: u8,
-    writable: FileSet,
-    readable: FileSet,
-    inquirable: FileSet,
+    claims: Claims,
     w: u8,
 ) -> Changed
     requires { ⌜ ((1 ≤ p) × (p ≤ 32)) × Good (boardOf (now sets) rest)
-        × (enterCheck (boardOf (now sets) rest) p writable readable inquirable ≡ Check.Passed) × ((1 ≤ w) × (w ≤ 32)) × IsStore (now sets)
+        × (checked (boardOf (now sets) rest) (entering p claims) ≡ Check.Passed) × ((1 ≤ w) × (w ≤ 32)) × IsStore (now sets)
         × (now lines ≡ noEntries) ⌝ }
-    ensures { λ r. ⌜ ComesTo (now (sets .exit)) (now (lines .exit)) r (holdFor (boardOf (now (sets .entry)) rest) p writable readable inquirable w) ⌝ }
+    ensures { λ r. ⌜ ComesTo (now (sets .exit)) (now (lines .exit)) r
+        (holdFor (boardOf (now (sets .entry)) rest) p (claims .writable) (claims .readable) (claims .inquirable) w) ⌝ }
     ensures { λ r. ⌜ InForm (now (sets .exit)) (now (lines .exit)) r ⌝ }
 {
-    let c = put_held(sets, rest, p, writable, readable, inquirable);
+    let c = put_held(sets, rest, p, claims);
     let held = replies::one_line(sets, c, lines, Word::Held, p, 0, 0);
     let progress = settling::favour_waiter(sets, lines, held, w);
     let order = Order::NONE;
@@ -137,39 +128,22 @@ fn hold_for(
 
 // Enter: with somebody favoured, p is held; with nobody favoured and a waiter whose count is 8, p is held and that waiter favoured;
 // otherwise p runs.
-fn do_enter(
-    sets: &mut Sets,
-    rest: Rest,
-    lines: &mut Entries,
-    p: u8,
-    writable: FileSet,
-    readable: FileSet,
-    inquirable: FileSet,
-) -> Changed
+fn do_enter(sets: &mut Sets, rest: Rest, lines: &mut Entries, p: u8, claims: Claims) -> Changed
     requires { ⌜ ((1 ≤ p) × (p ≤ 32)) × Good (boardOf (now sets) rest)
-        × (enterCheck (boardOf (now sets) rest) p writable readable inquirable ≡ Check.Passed) × IsStore (now sets) × (now lines ≡ noEntries) ⌝ }
-    ensures { λ r. ⌜ ComesTo (now (sets .exit)) (now (lines .exit)) r (enter (boardOf (now (sets .entry)) rest) p writable readable inquirable) ⌝ }
+        × (checked (boardOf (now sets) rest) (entering p claims) ≡ Check.Passed) × IsStore (now sets) × (now lines ≡ noEntries) ⌝ }
+    ensures { λ r. ⌜ ComesTo (now (sets .exit)) (now (lines .exit)) r (accepted (boardOf (now (sets .entry)) rest) (entering p claims)) ⌝ }
     ensures { λ r. ⌜ InForm (now (sets .exit)) (now (lines .exit)) r ⌝ }
 {
     let favoured = rest.favoured;
     if favoured != 0 {
-        let c = put_held(sets, rest, p, writable, readable, inquirable);
+        let c = put_held(sets, rest, p, claims);
         return replies::answered(sets, c, lines, Word::Held, p, 0, 0, Answer::Held);
     }
     let overdue = settling::counts::oldest_overdue(sets, rest);
     if overdue != 0 {
-        return hold_for(
-            sets,
-            rest,
-            lines,
-            p,
-            writable,
-            readable,
-            inquirable,
-            overdue,
-        );
+        return hold_for(sets, rest, lines, p, claims, overdue);
     }
-    let c = put_running(sets, rest, p, writable, readable, inquirable);
+    let c = put_running(sets, rest, p, claims);
     replies::answered(sets, c, lines, Word::Admit, p, 0, 0, Answer::Admit)
 }
 
@@ -442,19 +416,17 @@ fn accept(
     f: u16,
     n: u16,
     verb: Verb,
-    writable: FileSet,
-    readable: FileSet,
-    inquirable: FileSet,
+    claims: Claims,
 ) -> Changed
     requires { ⌜ ((1 ≤ p) × (p ≤ 32)) × Good (boardOf (now sets) rest)
-        × (checked (boardOf (now sets) rest) (callWith verb p f n writable readable inquirable) ≡ Check.Passed) × (s ≡ standingAt rest p)
+        × (checked (boardOf (now sets) rest) (callWith verb p f n claims) ≡ Check.Passed) × (s ≡ standingAt rest p)
         × IsStore (now sets) × (now lines ≡ noEntries) ⌝ }
     ensures { λ r. ⌜ ComesTo (now (sets .exit)) (now (lines .exit)) r
-        (accepted (boardOf (now (sets .entry)) rest) (callWith verb p f n writable readable inquirable)) ⌝ }
+        (accepted (boardOf (now (sets .entry)) rest) (callWith verb p f n claims)) ⌝ }
     ensures { λ r. ⌜ InForm (now (sets .exit)) (now (lines .exit)) r ⌝ }
 {
     match verb {
-        Verb::Enter => do_enter(sets, rest, lines, p, writable, readable, inquirable),
+        Verb::Enter => do_enter(sets, rest, lines, p, claims),
         Verb::Open => do_open(sets, rest, lines, p, f),
         Verb::Close => do_close(sets, rest, lines, p, f),
         Verb::Drop => do_drop(sets, rest, lines, p, f),
@@ -473,27 +445,13 @@ fn call_by(sets: &mut Sets, rest: Rest, lines: &mut Entries, p: u8, a: Asked) ->
 {
     let f = checks::file_of(a.file);
     let n = checks::record_of(a.item);
-    let writable = a.writable;
-    let readable = a.readable;
-    let inquirable = a.inquirable;
+    let claims = a.claims;
     let verb = a.verb;
     let seat = store::seat_at(rest, p);
     let s = seat.standing;
-    let check = checks::check_call(sets, p, seat, f, n, verb, writable, readable, inquirable);
+    let check = checks::check_call(sets, p, seat, f, n, verb, claims);
     match check {
-        Check::Passed => accept(
-            sets,
-            rest,
-            lines,
-            p,
-            s,
-            f,
-            n,
-            verb,
-            writable,
-            readable,
-            inquirable,
-        ),
+        Check::Passed => accept(sets, rest, lines, p, s, f, n, verb, claims),
         Check::Failed(refusal) => replies::refused(sets, rest, lines, refusal),
     }
 }

@@ -1,21 +1,20 @@
 // The eight direct calls, each with the board by value: check 1, then the rules; an UNSAFE answer carries a loop.
 use digraph::Loop;
-use files::FileSet;
 use files::WORDS;
 use parts::entries::LINES;
 use parts::entries::NUMBERS;
 use rules::Asked;
 use rules::Board;
+use rules::Claims;
 use rules::Reply;
 use rules::Verb;
 use store::sets::PLACES;
 use store::sets::Sets;
 ghost use mathlib.Core.Path.{_≡_};
 ghost use mathlib.Core.Bool.{true};
-ghost use Rattle.files.specs.Sets.{noFiles};
 ghost use Rattle.rules.specs.Digraph.{mayCarry};
 ghost use Rattle.digraph.specs.Loops.{named};
-ghost use Rattle.rules.specs.Calls.{direct, callOf, callWith, Enter, Open, Close, Drop, Leave, Cancel, Fetch, Return};
+ghost use Rattle.rules.specs.Calls.{direct, callOf, callWith, noClaims, Enter, Open, Close, Drop, Leave, Cancel, Fetch, Return};
 
 // What a direct call gives back: the reply, and the loop that its answer carries, none unless UNSAFE.
 pub struct Answered {
@@ -50,15 +49,9 @@ pub fn call(b: Board, a: Asked) -> Answered
 }
 
 // A program enters with its claims.
-pub fn enter(
-    b: Board,
-    program: u64,
-    writable: FileSet,
-    readable: FileSet,
-    inquirable: FileSet,
-) -> Answered
-    ensures { λ r. ⌜ r .reply ≡ direct b (Enter program writable readable inquirable) ⌝ }
-    ensures { λ r. ⌜ mayCarry b (Enter program writable readable inquirable) (r .reply .answer) (named (r .carries)) ≡ true ⌝ }
+pub fn enter(b: Board, program: u64, claims: Claims) -> Answered
+    ensures { λ r. ⌜ r .reply ≡ direct b (Enter program (claims .writable) (claims .readable) (claims .inquirable)) ⌝ }
+    ensures { λ r. ⌜ mayCarry b (Enter program (claims .writable) (claims .readable) (claims .inquirable)) (r .reply .answer) (named (r .carries)) ≡ true ⌝ }
 {
     call(
         b,
@@ -67,19 +60,16 @@ pub fn enter(
             program: program,
             file: 0,
             item: 0,
-            writable: writable,
-            readable: readable,
-            inquirable: inquirable,
+            claims: claims,
         },
     )
 }
 
 // A call of a program, a file and a record.
 fn call_file(b: Board, verb: Verb, program: u64, file: u64, item: u64) -> Answered
-    ensures { λ r. ⌜ r .reply ≡ direct b (callWith verb program file item noFiles noFiles noFiles) ⌝ }
-    ensures { λ r. ⌜ mayCarry b (callWith verb program file item noFiles noFiles noFiles) (r .reply .answer) (named (r .carries)) ≡ true ⌝ }
+    ensures { λ r. ⌜ r .reply ≡ direct b (callWith verb program file item noClaims) ⌝ }
+    ensures { λ r. ⌜ mayCarry b (callWith verb program file item noClaims) (r .reply .answer) (named (r .carries)) ≡ true ⌝ }
 {
-    let none = FileSet::EMPTY;
     call(
         b,
         Asked {
@@ -87,9 +77,7 @@ fn call_file(b: Board, verb: Verb, program: u64, file: u64, item: u64) -> Answer
             program: program,
             file: file,
             item: item,
-            writable: none,
-            readable: none,
-            inquirable: none,
+            claims: Claims::NONE,
         },
     )
 }

@@ -9,8 +9,12 @@ ghost use Rattle.host.specs.Writing.{claimsGood, claimsIn, writingAnswer
 
 // ---- claims
 
-// How many bytes the claims have: V, Q and J, each as an image has a set.
-pub const CLAIMS_LEN: usize = 3 * SET_LEN;
+// Where Q and J begin in the claims, and how many bytes these have: V, Q and J, each as an image has a set.
+const Q_AT: usize = SET_LEN;
+
+const J_AT: usize = Q_AT + SET_LEN;
+
+pub const CLAIMS_LEN: usize = J_AT + SET_LEN;
 
 // The claims of their bytes; none where these haven't their length.
 fn claims_in(claims: &[u8]) -> Claims
@@ -19,9 +23,9 @@ fn claims_in(claims: &[u8]) -> Claims
     if claims.len() != CLAIMS_LEN {
         return Claims::NONE;
     }
-    let writable = image::read_set(&claims[0..SET_LEN]);
-    let readable = image::read_set(&claims[SET_LEN..2 * SET_LEN]);
-    let inquirable = image::read_set(&claims[2 * SET_LEN..CLAIMS_LEN]);
+    let writable = image::read_set(&claims[0..Q_AT]);
+    let readable = image::read_set(&claims[Q_AT..J_AT]);
+    let inquirable = image::read_set(&claims[J_AT..CLAIMS_LEN]);
     Claims {
         writable,
         readable,

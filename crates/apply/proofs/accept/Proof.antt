@@ -14,7 +14,7 @@ board s = boardOf (s .args .sets .now) (s .args .rest)
 
 -- the call, if this is its verb
 abbrev asked : tie.Start → Verb → Call
-asked s v = let a = s .args in callWith v (a .p) (a .f) (a .n) (a .writable) (a .readable) (a .inquirable)
+asked s v = let a = s .args in callWith v (a .p) (a .f) (a .n) (a .claims)
 
 -- its checks have passed
 passed : (s : tie.Start) {v : Verb} → s .args .verb ≡ v → checked (board s) (asked s v) ≡ Check.Passed

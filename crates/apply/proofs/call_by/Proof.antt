@@ -14,7 +14,7 @@ use Rattle.apply.proofs.call_by.Tie as tie
 
 -- the record's number is known, and the file's before it
 abbrev numbered : tie.After-check-call → tie.After-record-of
-numbered k = k .before .before .before .before .before .before
+numbered k = k .before .before .before .before
 
 abbrev start : tie.After-check-call → tie.Start
 start k = numbered k .before .before
@@ -24,7 +24,7 @@ board s = boardOf (s .args .sets .now) (s .args .rest)
 
 -- the call, with this file and record
 abbrev asked : tie.Start → ℕ → ℕ → Call
-asked s f n = let a = s .args in callWith (a .a .verb) (a .p) f n (a .a .writable) (a .a .readable) (a .a .inquirable)
+asked s f n = let a = s .args in callWith (a .a .verb) (a .p) f n (a .a .claims)
 
 -- the call as it is asked for
 abbrev wanted : tie.Start → Call
@@ -34,16 +34,14 @@ wanted s = asked s (s .args .a .file) (s .args .a .item)
 told : (k : tie.After-check-call) → k .check-call .result ≡ checked (board (start k)) (wanted (start k))
 told k = let n = numbered k in let f = n .before in let s = start k in let a = s .args in
     k .check-call .ensures
-    ∙ ap (λ (x : Seat). nearCheck (a .sets .now) (a .p) x (f .file-of .result) (n .record-of .result) (a .a .verb) (a .a .writable) (a .a .readable)
-    (a .a .inquirable)) (k .before .before .seat-at .ensures)
-    ∙ checked-near (a .sets .now) (a .rest) (a .p) (s .pre .0 .0) (s .pre .0 .1) (s .pre .3) _ (a .a .file) _ (a .a .item) (a .a .writable)
-    (a .a .readable) (a .a .inquirable) (f .file-of .ensures .0) (n .record-of .ensures) (a .a .verb)
+    ∙ ap (λ (x : Seat). nearCheck (a .sets .now) (a .p) x (f .file-of .result) (n .record-of .result) (a .a .verb) (a .a .claims)) (k .before .before .seat-at .ensures)
+    ∙ checked-near (a .sets .now) (a .rest) (a .p) (s .pre .0 .0) (s .pre .0 .1) (s .pre .3) _ (a .a .file) _ (a .a .item) (a .a .claims) (f .file-of .ensures .0) (n .record-of .ensures) (a .a .verb)
 
 -- once they have passed, the call is that with their numbers
 same : (k : tie.After-check-call) → let s = start k in k .check-call .result ≡ Check.Passed
     → asked s (numbered k .before .file-of .result) (numbered k .record-of .result) ≡ wanted s
 same k e = let n = numbered k in let s = start k in let a = s .args in
-    call-same (board s) (a .p) _ (a .a .file) _ (a .a .item) (a .a .writable) (a .a .readable) (a .a .inquirable)
+    call-same (board s) (a .p) _ (a .a .file) _ (a .a .item) (a .a .claims)
     (n .before .file-of .ensures .0) (n .record-of .ensures) (a .a .verb) (sym (told k) ∙ e)
 
 accept-requires : tie.Need-accept-requires

@@ -25,12 +25,12 @@ nobody i = let a = i .before .args in favoured-is (a .sets .now) (a .rest) ∙ i
 
 put-held-requires : tie.Need-put-held-requires
 put-held-requires c κs = let s = c .before .before in let a = s .args in
-    (s .pre .0, entry-free (a .sets .now) (a .rest) (a .p) (a .writable) (a .readable) (a .inquirable) (s .pre .1) (s .pre .2), s .pre .3)
+    (s .pre .0, entry-free (a .sets .now) (a .rest) (a .p) (a .claims) (s .pre .1) (s .pre .2), s .pre .3)
 
 returns : tie.Need-returns
 returns c = let h = c .before .before .before in let i = h .before .before in let s = i .before in let a = s .args in (
   c .answered .ensures .0 ∙ ap (λ (x : Board). reply x Answer.Held (line Word.Held (a .p) 0 ∷ [])) (h .put-held .ensures .0)
-      ∙ enter-held (board s) (a .p) (a .writable) (a .readable) (a .inquirable)
+      ∙ enter-held (board s) (a .p) (a .claims .writable) (a .claims .readable) (a .claims .inquirable)
       (subst (λ (n : ℕ). n ≢ 0) (sym (favoured-is (a .sets .now) (a .rest))) (i .if1 .taken)),
   (h .put-held .ensures .1, c .answered .ensures .1 .0, c .answered .ensures .1 .1),
 )
@@ -52,7 +52,7 @@ hold-for-requires c κs = let i = c .before .before in let o = i .before in let 
 returns-2 : tie.Need-returns-2
 returns-2 c = let i = c .before .before .before in let o = i .before in let e = o .before .before in let s = e .before in let a = s .args in (
   c .hold-for .ensures .0
-      ∙ enter-for (board s) (a .p) (a .writable) (a .readable) (a .inquirable) (o .oldest-overdue .result) (nobody e)
+      ∙ enter-for (board s) (a .p) (a .claims .writable) (a .claims .readable) (a .claims .inquirable) (o .oldest-overdue .result) (nobody e)
       (overdue-some (board s) (o .oldest-overdue .result) (s .pre .1 .loose) (o .oldest-overdue .ensures) (i .if2 .taken) .0),
   c .hold-for .ensures .1,
 )
@@ -61,7 +61,7 @@ returns-3 : tie.Need-returns-3
 returns-3 c = let r = c .before .before .before in let i = r .before .before in let o = i .before in let e = o .before .before in
     let s = e .before in let a = s .args in (
       c .answered2 .ensures .0 ∙ ap (λ (x : Board). reply x Answer.Admit (line Word.Admit (a .p) 0 ∷ [])) (r .put-running .ensures .0)
-          ∙ enter-runs (board s) (a .p) (a .writable) (a .readable) (a .inquirable) (nobody e)
+          ∙ enter-runs (board s) (a .p) (a .claims .writable) (a .claims .readable) (a .claims .inquirable) (nobody e)
           (overdue-none (board s) (o .oldest-overdue .result) (s .pre .1 .loose) (o .oldest-overdue .ensures) (i .if2 .left)),
       (r .put-running .ensures .1, c .answered2 .ensures .1 .0, c .answered2 .ensures .1 .1),
     )

@@ -10,7 +10,7 @@ use Rattle.apply.proofs.hold_for.Tie as tie
 
 put-held-requires : tie.Need-put-held-requires
 put-held-requires c κs = let s = c .before in let a = s .args in
-    (s .pre .0, entry-free (a .sets .now) (a .rest) (a .p) (a .writable) (a .readable) (a .inquirable) (s .pre .1) (s .pre .2), s .pre .4)
+    (s .pre .0, entry-free (a .sets .now) (a .rest) (a .p) (a .claims) (s .pre .1) (s .pre .2), s .pre .4)
 
 favour-waiter-requires : tie.Need-favour-waiter-requires
 favour-waiter-requires c κs = let o = c .before .before in
@@ -18,7 +18,7 @@ favour-waiter-requires c κs = let o = c .before .before in
 
 returns : tie.Need-returns
 returns c = let o = c .before .before .before in let h = o .before .before .before in let a = h .before .before .args in (
-  held-for-is _ _ (boardOf (a .sets .now) (a .rest)) _ (a .p) (a .writable) (a .readable) (a .inquirable) (a .w)
+  held-for-is _ _ (boardOf (a .sets .now) (a .rest)) _ (a .p) (a .claims .writable) (a .claims .readable) (a .claims .inquirable) (a .w)
       (h .put-held .ensures .0) (o .one-line .ensures .0) (c .favour-waiter .ensures .0),
   (h .put-held .ensures .1, c .favour-waiter .ensures .1, none-carries _),
 )

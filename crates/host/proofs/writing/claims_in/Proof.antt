@@ -9,9 +9,9 @@ returns c = claims-none (c .before .before .args .claims .now) (c .if1 .taken)
 
 returns-2 : tie.Need-returns-2
 returns-2 c =
-    let q = c .before .before .before in
-    let v = q .before .before .before in
-    let i = v .before .before .before in
+    let q = c .before .before in
+    let v = q .before .before in
+    let i = v .before .before in
     claims-read (i .before .before .args .claims .now) (v .read-set .result) (q .read-set2 .result) (c .read-set3 .result) (i .if1 .left)
     (v .read-set .ensures) (q .read-set2 .ensures) (c .read-set3 .ensures)
 
@@ -22,10 +22,13 @@ claims-in-spec =
     returns
     (λ c. search needs)
     (λ c. search needs)
+    (λ c. search needs)
     (λ c κs. search needs)
     (λ c. search needs)
     (λ c. search needs)
+    (λ c. search needs)
     (λ c κs. search needs)
+    (λ c. search needs)
     (λ c. search needs)
     (λ c. search needs)
     (λ c κs. search needs)
