@@ -6,7 +6,7 @@ use mathlib.Core.List.{List, [], _∷_}
 use mathlib.Core.Option.{none, some}
 use Prim.Native.Nat.{ℕ, suc, _+_, _-_, _≤_, _<_}
 use native.Mathlib.Omega.{arith}
-use lib.Dec.{eqb, leb}
+use lib.Dec.{leb}
 use lib.ListN.{length, set, replicate, length-replicate}
 use lib.Seq.{sets, sets-eq}
 use borrow.Author.Tests.{le-leb, lt-leb, eq-eqb, ne-eqb}
@@ -14,7 +14,6 @@ use Rattle.laws.specs.Tests.{by-test, never}
 use Rattle.files.specs.declared.FileSet.{FileSet}
 use Rattle.files.specs.Sets.{isFile, member}
 use Rattle.files.proofs.Bits.{least, is-number}
-use Rattle.rules.specs.declared.Standing.{Standing}
 use Rattle.rules.specs.declared.Board.{Board}
 use Rattle.rules.specs.declared.Refusal.{Refusal}
 use Rattle.rules.specs.declared.Check.{Check}
@@ -25,9 +24,9 @@ use Rattle.rules.specs.declared.Reply.{Reply}
 use Rattle.rules.specs.declared.Verb.{Verb}
 use Rattle.rules.specs.declared.Claims.{Claims}
 use Rattle.rules.specs.declared.Asked.{Asked}
-use Rattle.laws.specs.Lists.{found, padded, names, any, rising}
+use Rattle.laws.specs.Lists.{found, padded, names}
 use Rattle.rules.specs.Modes.{Write, Inquiry}
-use Rattle.rules.specs.Boards.{everyone, isProgram, isWaiting, isHeld, isAdmitted, at, claims, hasOpen, uses, setProgram, setItem, setWaiting, setEntry, setPassed, uncount, closing, dropping}
+use Rattle.rules.specs.Boards.{isProgram, isWaiting, isHeld, at, claims, hasOpen, setProgram, setItem, setWaiting, uncount, closing, dropping}
 use Rattle.rules.specs.Orders.{carried, withGiven, inUse, safe, taken}
 use Rattle.rules.specs.Soundness.{sound}
 use Rattle.rules.specs.Settling.{Step, line, lineOf, overdue, favour, settle}
@@ -50,7 +49,6 @@ use Rattle.store.specs.Store.{seatAt, seatOf, withWaiting, withFavour, withPass
 use Rattle.store.proofs.Laws.{open-is, claims-is}
 use Rattle.store.proofs.Boards.{board-size, board-sets}
 use Rattle.store.proofs.Changing.{seat-is}
-use Rattle.tables.proofs.Laws.{rising-step, rising-end}
 use Rattle.search.specs.declared.Search.{Search}
 use Rattle.search.specs.declared.Order.{Order}
 use Rattle.search.specs.Rows.{asOrder}
@@ -430,26 +428,6 @@ module _ (b : Board) (p f r : ℕ) where
       → reply (setProgram b p (setItem (at b p) f r)) Answer.Given (lineOf Word.Given p f r ∷ []) ≡ fetch b p f r
   unfolding fetch
   fetch-gets t = rw t
-
-  -- the test of the program q
-  abbrev pub takes : ℕ → Bool
-  takes q = not (eqb q p) && uses (at b q) f r
-
-  pub taken-all : taken b p f r ≡ any takes (rising (33 - 1) 1)
-  unfolding taken everyone
-  taken-all = refl
-
-  pub taken-here : (q : ℕ) → q ≤ 32 → takes q ≡ true → any takes (rising (33 - q) q) ≡ true
-  unfolding any
-  taken-here q h e = ap (any takes) (rising-step q h) ∙ rw e
-
-  pub taken-on : (q : ℕ) → q ≤ 32 → takes q ≡ false → any takes (rising (33 - q) q) ≡ any takes (rising (33 - suc q) (suc q))
-  unfolding any
-  taken-on q h e = ap (any takes) (rising-step q h) ∙ rw e
-
-  pub taken-end : (q : ℕ) → 32 < q → any takes (rising (33 - q) q) ≡ false
-  unfolding any
-  taken-end q h = ap (any takes) (rising-end q h)
 
 -- ---- open
 

@@ -2,7 +2,7 @@
 -- Assumes nothing.
 use Prim.Native.Nat.{ℕ, suc, _≤_}
 use mathlib.Core.Path.{_≡_}
-use mathlib.Core.Bool.{Bool, true, not, cond, _&&_}
+use mathlib.Core.Bool.{Bool, true, not, cond}
 use mathlib.Core.List.{List, [], _++_}
 use mathlib.Core.Option.{Option·getD}
 use lib.Dec.{eqb}
@@ -19,7 +19,7 @@ use Rattle.rules.specs.declared.Line.{Line}
 use Rattle.rules.specs.declared.Reply.{Reply}
 use Rattle.laws.specs.Lists.{padded}
 use Rattle.rules.specs.Modes.{Write, Inquiry, claimsMeet}
-use Rattle.rules.specs.Boards.{isAbsent, isRunning, at, setStanding, setItem}
+use Rattle.rules.specs.Boards.{isAbsent, at, setStanding, setItem}
 use Rattle.rules.specs.Checks.{refuseIf, unlessRunning, unlessUsing, unlessStopped}
 use Rattle.rules.specs.Orders.{carried}
 use Rattle.rules.specs.Calls.{Call, Enter, waitAs}
@@ -128,10 +128,6 @@ pub record Handing (b : Board) (f r : ℕ) : Type 0 where
   pub counted : Counted (b .passed) (b .programs)
   pub records : Records (b .programs) f r
   pub room : suc (length (handOn b f r .lines ++ settle (handOn b f r .board) .lines)) ≤ 32
-
--- the program in a seat has the record r of f in use
-abbrev pub seatUses : Seat → ℕ → ℕ → Bool
-seatUses s f r = isRunning (s .standing) && not (eqb (s .item) 0) && eqb (s .file) f && eqb (s .item) r
 
 -- p waits for f: for the record r of the file g, or, if both are 0, for f itself
 abbrev pub waitingFor : Board → ℕ → ℕ → ℕ → ℕ → Board

@@ -17,14 +17,12 @@ use store::Rest;
 use store::Seat;
 use store::sets::Sets;
 ghost use mathlib.Core.Path.{_≡_};
-ghost use mathlib.Core.Bool.{true, not, _&&_};
-ghost use lib.Dec.{eqb};
+ghost use mathlib.Core.Bool.{true};
 ghost use Prim.Native.Nat.{_≤_, _<_};
 ghost use lib.ListN.{length};
 ghost use Rattle.rules.specs.declared.Check.{Check};
 ghost use Rattle.laws.specs.Lists.{names, padded};
-ghost use Rattle.rules.specs.Boards.{isRunning, at, setProgram, setItem};
-ghost use Rattle.rules.specs.Orders.{taken};
+ghost use Rattle.rules.specs.Boards.{at, setProgram, setItem};
 ghost use Rattle.rules.specs.Soundness.{sound};
 ghost use Rattle.rules.specs.Checks.{openCheck, closeCheck, leaveCheck, cancelCheck, fetchCheck, returnCheck};
 ghost use Rattle.rules.specs.Calls.{newcomer, admit, hold, holdFor, openFile, fetch, returnItem, closeFile, dropFile, countLeave, leave};
@@ -33,7 +31,7 @@ ghost use Rattle.theory.specs.Loose.{Good};
 ghost use Rattle.parts.specs.Entries.{IsEntries, noEntries};
 ghost use Rattle.store.specs.Sets.{IsStore};
 ghost use Rattle.store.specs.Store.{standingAt, boardOf};
-ghost use Rattle.apply.specs.Replies.{ComesTo, Carries, InForm, entering, seatUses, waitingFor};
+ghost use Rattle.apply.specs.Replies.{ComesTo, Carries, InForm, entering, waitingFor};
 
 mod checks;
 pub mod replies;
@@ -197,54 +195,6 @@ fn do_open(sets: &mut Sets, rest: Rest, lines: &mut Entries, p: u8, f: u16) -> C
 
 // ---- fetch
 
-// Whether a program runs.
-fn is_running(s: Standing) -> bool
-    ensures { λ r. ⌜ r ≡ isRunning s ⌝ }
-{
-    match s {
-        Standing::Absent => false,
-        Standing::Running => true,
-        Standing::Waiting(_) => false,
-        Standing::Held => false,
-    }
-}
-
-// Whether the program q in a seat, another than p, has the record n of f in use.
-fn another_has(seat: Seat, q: u8, p: u8, f: u16, n: u16) -> bool
-    ensures { λ r. ⌜ r ≡ not (eqb q p) && seatUses seat f n ⌝ }
-{
-    if q == p {
-        return false;
-    }
-    let s = seat.standing;
-    if !is_running(s) {
-        return false;
-    }
-    if seat.item == 0 {
-        return false;
-    }
-    if seat.file != f {
-        return false;
-    }
-    seat.item == n
-}
-
-// Whether another program than p has the record n of f in use.
-fn is_taken(sets: &Sets, rest: Rest, p: u8, f: u16, n: u16) -> bool
-    ensures { λ r. ⌜ r ≡ taken (boardOf (now (sets .entry)) rest) p f n ⌝ }
-{
-    let mut q: u8 = 1;
-    while q <= 32 {
-        let i = (q - 1) as usize;
-        let seat = rest.seats[i];
-        if another_has(seat, q, p, f, n) {
-            return true;
-        }
-        q += 1;
-    }
-    false
-}
-
 // The running program p with the record n of f in use, or with none if both are 0.
 fn put_record(sets: &Sets, rest: Rest, p: u8, f: u16, n: u16) -> Rest
     requires { ⌜ ((1 ≤ p) × (p ≤ 32)) × IsStore (now sets) ⌝ }
@@ -267,7 +217,7 @@ fn do_fetch(sets: &Sets, rest: Rest, lines: &mut Entries, p: u8, f: u16, n: u16)
     ensures { λ r. ⌜ ComesTo (now (sets .entry)) (now (lines .exit)) r (fetch (boardOf (now (sets .entry)) rest) p f n) ⌝ }
     ensures { λ r. ⌜ IsEntries (now (lines .exit)) × Carries (boardOf (now (sets .entry)) (r .progress .rest)) (r .order) ⌝ }
 {
-    if is_taken(sets, rest, p, f, n) {
+    if tables::boards::is_taken(rest, p, f, n) {
         let c = put_waiting(sets, rest, p, f, f, n);
         return replies::answered(sets, c, lines, Word::Wait, p, f, n, Answer::Wait);
     }
@@ -285,8 +235,8 @@ fn do_return(sets: &mut Sets, rest: Rest, lines: &mut Entries, p: u8) -> Changed
     ensures { λ r. ⌜ InForm (now (sets .exit)) (now (lines .exit)) r ⌝ }
 {
     let seat = store::seat_at(rest, p);
-    let c = put_record(sets, rest, p, 0, 0);
-    replies::handed_on(sets, c, lines, p, seat.file, seat.item)
+    let free = put_record(sets, rest, p, 0, 0);
+    replies::handed_on(sets, free, lines, p, seat.file, seat.item)
 }
 
 // ---- close

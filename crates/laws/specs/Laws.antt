@@ -12,7 +12,7 @@ use mathlib.Core.List.{List·Memᴰ·eq-of-singleton, Memᴰ·cast}
 use lib.Dec.{eqb}
 use lib.ListN.{length, replicate}
 use borrow.Author.Tests.{eqb-true, eqb-false, eq-eqb, ne-eqb}
-use Rattle.laws.specs.Tests.{by-test, never, or-cases, or-left, or-right, and-left, and-right, and-both, no-true, not-true, true-not}
+use Rattle.laws.specs.Tests.{by-test, never, or-cases, or-left, or-right, and-left, and-right, and-both, no-true, not-true, true-not, same-test}
 use Rattle.laws.specs.Lists.{any, all, keep, first, found, rising, listed, distinct, without, same, names, padded}
 
 infix 4 _∈_
@@ -65,6 +65,14 @@ module _ {A : Type 0} where
   unfolding all
   each-all t [] f = refl
   each-all t (x ∷ l) f = and-both (t x) (all t l) (f x here) (each-all t l (λ a m. f a (List·Memᴰ·tail m)))
+
+  -- Both tests of each.
+  pub all-and : (t u : A → Bool) (l : List A) → all (λ a. t a && u a) l ≡ (all t l && all u l)
+  all-and t u l = same-test _ _
+      (λ e. let f = all-each (λ a. t a && u a) l e in and-both (all t l) (all u l)
+      (each-all t l (λ a m. and-left (t a) (u a) (f a m))) (each-all u l (λ a m. and-right (t a) (u a) (f a m))))
+      (λ e. each-all (λ a. t a && u a) l (λ a m. and-both (t a) (u a) (all-each t l (and-left (all t l) (all u l) e) a m)
+      (all-each u l (and-right (all t l) (all u l) e) a m)))
 
   -- Tests that agree on the members.
   pub any-same : (t u : A → Bool) (l : List A) → ((a : A) → a ∈ l → t a ≡ u a) → any t l ≡ any u l

@@ -1,7 +1,7 @@
 // What a standing is.
 use rules::Standing;
 ghost use mathlib.Core.Path.{_≡_};
-ghost use Rattle.rules.specs.Boards.{isAbsent, isHeld, isWaiting, isAdmitted, awaitedOf};
+ghost use Rattle.rules.specs.Boards.{isAbsent, isRunning, isHeld, isWaiting, isAdmitted, awaitedOf};
 
 pub fn is_absent(s: Standing) -> bool
     ensures { λ r. ⌜ r ≡ isAbsent s ⌝ }
@@ -9,6 +9,17 @@ pub fn is_absent(s: Standing) -> bool
     match s {
         Standing::Absent => true,
         Standing::Running => false,
+        Standing::Waiting(_) => false,
+        Standing::Held => false,
+    }
+}
+
+pub fn is_running(s: Standing) -> bool
+    ensures { λ r. ⌜ r ≡ isRunning s ⌝ }
+{
+    match s {
+        Standing::Absent => false,
+        Standing::Running => true,
         Standing::Waiting(_) => false,
         Standing::Held => false,
     }

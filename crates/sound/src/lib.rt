@@ -29,7 +29,7 @@ ghost use Rattle.tables.specs.Tables.{rowsOf};
 ghost use Rattle.search.specs.Rows.{asOrder};
 ghost use Rattle.search.specs.Gives.{usesIn};
 ghost use Rattle.sound.specs.Parts.{isName, stands, takes, bareAt, emptyIn, claimsMeetIn, isSoundWith, standsFor, isSoundAt, noConflictIn};
-ghost use Rattle.sound.specs.Parts.{seatSet, usesSeat, otherUses, anotherUses, recordFits, recordAt, waiterAt, KnownLine, WaiterFor, NoneFavoured, SomeFavoured, FavourSound, countFits, countAt, Packed};
+ghost use Rattle.sound.specs.Parts.{seatSet, recordFits, recordAt, waiterAt, KnownLine, WaiterFor, NoneFavoured, SomeFavoured, FavourSound, countFits, countAt, Packed};
 
 // Whether a board is sound, and its carried order.
 pub struct Judged {
@@ -467,53 +467,6 @@ fn counts_sound(rest: Rest) -> bool
     true
 }
 
-// Whether a program with this seat has the record n of f in use.
-fn has_record(seat: Seat, f: u16, n: u16) -> bool
-    ensures { λ r. ⌜ r ≡ usesSeat seat f n ⌝ }
-{
-    if seat.item == 0 {
-        return false;
-    }
-    if seat.file != f {
-        return false;
-    }
-    if seat.item != n {
-        return false;
-    }
-    let s = seat.standing;
-    match s {
-        Standing::Absent => false,
-        Standing::Running => true,
-        Standing::Waiting(_) => false,
-        Standing::Held => false,
-    }
-}
-
-// Whether j, with this seat, is another than p and has the record n of f in use.
-fn other_has(p: u8, j: u8, seat: Seat, f: u16, n: u16) -> bool
-    ensures { λ r. ⌜ r ≡ otherUses p j seat f n ⌝ }
-{
-    if p == j {
-        return false;
-    }
-    has_record(seat, f, n)
-}
-
-// Whether another than p has the record n of f in use.
-fn another_has(rest: Rest, p: u8, f: u16, n: u16) -> bool
-    ensures { λ r. ⌜ r ≡ anotherUses rest p f n ⌝ }
-{
-    let mut j: u8 = 1;
-    while j <= 32 {
-        let i = (j - 1) as usize;
-        if other_has(p, j, rest.seats[i], f, n) {
-            return true;
-        }
-        j += 1;
-    }
-    false
-}
-
 // What a standing says of whether another has the program's record in use: none if it runs, "an awaited record is in use".
 fn record_fits(s: Standing, taken: bool) -> bool
     ensures { λ r. ⌜ r ≡ recordFits s taken ⌝ }
@@ -540,7 +493,7 @@ fn records_sound(rest: Rest) -> bool
             continue;
         }
         let f = seat.file;
-        let taken = another_has(rest, p, f, n);
+        let taken = tables::boards::is_taken(rest, p, f, n);
         let s = seat.standing;
         if !record_fits(s, taken) {
             return false;

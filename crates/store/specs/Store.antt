@@ -2,13 +2,16 @@
 -- Assumes nothing.
 use Prim.Native.Nat.{ℕ, zero, suc, _-_, _<_}
 use mathlib.Core.Path.{_≡_}
+use mathlib.Core.Bool.{Bool, not, _&&_}
 use mathlib.Core.List.{List, [], _∷_}
+use lib.Dec.{eqb}
 use lib.ListN.{getD, set, replicate}
 use Rattle.files.specs.Words.{wordCount}
 use Rattle.rules.specs.declared.Standing.{Standing}
 use Rattle.rules.specs.declared.Program.{Program}
 use Rattle.rules.specs.declared.Board.{Board}
 use Rattle.rules.specs.Modes.{Write, Read, Inquiry}
+use Rattle.rules.specs.Boards.{isRunning}
 use Rattle.store.specs.declared.Seat.{Seat}
 use Rattle.store.specs.declared.Rest.{Rest}
 use Rattle.store.specs.Sets.{placeCount, Sets, setIn, claimPlace, openPlace, inPlace}
@@ -28,6 +31,10 @@ seatOf q = record { standing = q .standing; file = q .file; item = q .item }
 -- the standing of program p
 abbrev pub standingAt : Rest → ℕ → Standing
 standingAt r p = seatAt r p .standing
+
+-- the program in a seat has the record r of f in use
+abbrev pub seatUses : Seat → ℕ → ℕ → Bool
+seatUses s f r = isRunning (s .standing) && not (eqb (s .item) 0) && eqb (s .file) f && eqb (s .item) r
 
 -- the program at index i, by its sets, with a seat
 abbrev pub programWith : Sets → ℕ → Seat → Program

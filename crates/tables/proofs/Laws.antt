@@ -18,7 +18,7 @@ use Rattle.files.proofs.Bits.{less-has as bit-less}
 use Rattle.files.proofs.Bits.{or-has, and-has, zero-has, with-only, is-number, has-bit, has-number, least, most}
 use Rattle.files.proofs.Bits.{with-number-same, with-number-other, numbers-same}
 use Rattle.rules.specs.declared.Board.{Board}
-use Rattle.laws.specs.Lists.{rising, all, keep, first}
+use Rattle.laws.specs.Lists.{rising, any, all, keep, first}
 use Rattle.rules.specs.Boards.{noProgram, at, everyone, admitted}
 use Rattle.laws.specs.Laws.{keep-same, rising-mem}
 use Rattle.theory.specs.Programs.{Is}
@@ -179,6 +179,14 @@ module _ (t : ℕ → Bool) (p : ℕ) where
   pub all-end : 32 < p → all t (rising (33 - p) p) ≡ true
   unfolding all
   all-end h = ap (all t) (rising-end p h)
+
+  pub any-step : p ≤ 32 → any t (rising (33 - p) p) ≡ (t p || any t (rising (33 - suc p) (suc p)))
+  unfolding any
+  any-step h = ap (any t) (rising-step p h)
+
+  pub any-end : 32 < p → any t (rising (33 - p) p) ≡ false
+  unfolding any
+  any-end h = ap (any t) (rising-end p h)
 
   pub keep-more : p ≤ 32 → t p ≡ true → length (keep t (rising (33 - p) p)) ≡ suc (length (keep t (rising (33 - suc p) (suc p))))
   unfolding keep

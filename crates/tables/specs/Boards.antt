@@ -1,11 +1,14 @@
--- Who is admitted, as a set.
+-- Who is admitted, as a set, and whether a record is in use.
 -- Assumes nothing.
 use Prim.Native.Nat.{ℕ}
-use mathlib.Core.Bool.{Bool}
+use mathlib.Core.Bool.{Bool, not, _&&_}
+use lib.Dec.{eqb}
 use Rattle.rules.specs.declared.Board.{Board}
-use Rattle.rules.specs.Boards.{at, isAdmitted}
+use Rattle.laws.specs.Lists.{any}
+use Rattle.rules.specs.Boards.{everyone, at, isAdmitted}
+use Rattle.store.specs.declared.Seat.{Seat}
 use Rattle.store.specs.declared.Rest.{Rest}
-use Rattle.store.specs.Store.{standingAt}
+use Rattle.store.specs.Store.{seatAt, standingAt, seatUses}
 use Rattle.tables.specs.declared.ProgramSet.{ProgramSet}
 use Rattle.tables.specs.Tables.{packed}
 
@@ -24,3 +27,11 @@ seatAdmits r p = isAdmitted (standingAt r p)
 -- the admitted programs, by their seats
 unfoldable pub admittedSeats : Rest → ProgramSet
 admittedSeats r = packed (seatAdmits r) 32
+
+-- program i, in this seat, is another than p and has the record r of f in use
+abbrev pub otherUses : Seat → ℕ → ℕ → ℕ → ℕ → Bool
+otherUses s i p f r = not (eqb i p) && seatUses s f r
+
+-- another program than p has the record r of f in use
+abbrev pub takenIn : Rest → ℕ → ℕ → ℕ → Bool
+takenIn rest p f r = any (λ i. otherUses (seatAt rest i) i p f r) everyone

@@ -819,6 +819,24 @@ hand-some : (b : Board) (f r w : ℕ) → first (λ w. wants (at b w) f r) (name
 unfolding handOn handTo
 hand-some b f r w e = rw e
 
+-- Nobody waits for the record r of f.
+unwanted : (b : Board) (f r : ℕ) → first (λ w. wants (at b w) f r) (names (b .waiting)) ≡ none → Loose b → Counted (b .passed) (b .programs)
+    → Records (b .programs) f r → Counts b
+unwanted b f r e k n rec = record {
+  counted = n;
+  records = records-nobody (b .programs) f r (λ i j w. never (of-wants (at b i) f r w) (first-none (λ w. wants (at b w) f r)
+      (names (b .waiting)) e i (k .waits .on i j (w .0)))) rec;
+}
+
+-- The board with the record handed on may settle.
+pub hand-ready : (b : Board) (f r : ℕ) → Loose b → Counted (b .passed) (b .programs) → Records (b .programs) f r
+    → Loose (handOn b f r .board) × Counts (handOn b f r .board)
+hand-ready b f r k n rec = by-option (first (λ w. wants (at b w) f r) (names (b .waiting)))
+    (λ e. subst (λ h. Loose (h .board) × Counts (h .board)) (sym (hand-none b f r e)) (k, unwanted b f r e k n rec))
+    (λ w e. let (m, u) = first-some (λ w. wants (at b w) f r) (names (b .waiting)) w e in
+    let g = gave-record b w f r k n rec (k .waits .of w m .0) (wants-of (at b w) f r u) in
+    subst (λ h. Loose (h .board) × Counts (h .board)) (sym (hand-some b f r w e)) (g .g-loose, g .g-counts))
+
 -- A waiter for a record waits for its file.
 item-awaits : (q : Program) (f r : ℕ) → ItemOwn q → Wants q f r → awaitedOf (q .standing) ≡ f
 item-awaits q f r o w = ⊎-elim (λ e. never {t = false} (sym (ap isWaiting e) ∙ w .0) refl) (λ e. ap awaitedOf e ∙ w .2) (o .stands-so (w .1))
@@ -827,11 +845,8 @@ item-awaits q f r o w = ⊎-elim (λ e. never {t = false} (sym (ap isWaiting e) 
 pub hand-settled : (b : Board) (f r : ℕ) → Loose b → Counted (b .passed) (b .programs) → Records (b .programs) f r
     → Settled b (andThen (handOn b f r .lines) (settle (handOn b f r .board)))
 hand-settled b f r k n rec = by-option (first (λ w. wants (at b w) f r) (names (b .waiting)))
-    (λ e. subst (λ h. Settled b (andThen (h .lines) (settle (h .board)))) (sym (hand-none b f r e)) (settle-settled b k (record {
-      counted = n;
-      records = records-nobody (b .programs) f r (λ i j w. never (of-wants (at b i) f r w) (first-none (λ w. wants (at b w) f r)
-          (names (b .waiting)) e i (k .waits .on i j (w .0)))) rec;
-    })))
+    (λ e. subst (λ h. Settled b (andThen (h .lines) (settle (h .board)))) (sym (hand-none b f r e))
+    (settle-settled b k (unwanted b f r e k n rec)))
     (λ w e. let (m, u) = first-some (λ w. wants (at b w) f r) (names (b .waiting)) w e in
     let (i, _) = k .waits .of w m in let x = wants-of (at b w) f r u in let g = gave-record b w f r k n rec i x in
     subst (λ h. Settled b (andThen (h .lines) (settle (h .board)))) (sym (hand-some b f r w e))

@@ -13,7 +13,8 @@ use Rattle.store.specs.declared.Seat.{Seat}
 use Rattle.store.specs.declared.Rest.{Rest}
 use Rattle.store.specs.Store.{seatAt}
 use Rattle.tables.proofs.Laws.{all-step, all-end}
-use Rattle.sound.specs.Parts.{anotherUses, recordFits, recordAt}
+use Rattle.tables.specs.Boards.{takenIn}
+use Rattle.sound.specs.Parts.{recordFits, recordAt}
 use borrow.Author.Needs.{needs}
 use Rattle.sound.proofs.records_sound.Statement.{statement}
 use Rattle.sound.proofs.records_sound.Tie as tie
@@ -37,7 +38,7 @@ seat l = seatAt (rest l) (l .loop .p)
 
 -- whether another has p's record in use fits p's standing
 abbrev fits : tie.At-loop Inv-loop μ-loop → Bool
-fits l = recordFits (seat l .standing) (anotherUses (rest l) (l .loop .p) (seat l .file) (seat l .item))
+fits l = recordFits (seat l .standing) (takenIn (rest l) (l .loop .p) (seat l .file) (seat l .item))
 
 -- p has no record
 free : (c : tie.Then1 Inv-loop μ-loop) → let l = c .before .before .before in recordAt (rest l) (l .loop .p) ≡ true
@@ -54,7 +55,7 @@ loop-again c = let l = c .before .before .before in (
 judged : (c : tie.After-record-fits Inv-loop μ-loop) → let l = c .before .before .before .before .before in
     c .record-fits .result ≡ recordAt (rest l) (l .loop .p)
 judged c = let h = c .before in let e = h .before in let l = e .before .before .before in
-    c .record-fits .ensures ∙ ap (recordFits (seat l .standing)) (h .another-has .ensures)
+    c .record-fits .ensures ∙ ap (recordFits (seat l .standing)) (h .is-taken .ensures)
     ∙ sym (ap (λ (x : Bool). x || fits l) (ne-eqb (seat l .item) 0 (e .if1 .left)))
 
 returns : tie.Need-returns Inv-loop μ-loop
