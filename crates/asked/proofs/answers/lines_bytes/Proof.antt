@@ -7,7 +7,7 @@ use Rattle.asked.proofs.answers.lines_bytes.Statement.{statement}
 use Rattle.asked.proofs.answers.lines_bytes.Tie as tie
 
 abbrev Inv-loop : tie.InvT-loop
-Inv-loop lines bytes₀ i₀ bytes i = (i ≤ 32) × (length bytes ≡ 128)
+Inv-loop lines bytes₀ i₀ bytes i = (i ≤ 32) × (length bytes ≡ 224)
 
 abbrev μ-loop : tie.MeasureT-loop
 μ-loop lines bytes₀ i₀ bytes i = 32 - i
