@@ -55,9 +55,11 @@ pub fn program(v: u64, q: u64, w: u64, r: u64, standing: Standing) -> Program {
 
 // `p` with inquiry claim j and i open for inquiry.
 pub fn inquirer(p: Program, j: u64, i: u64) -> Program {
+    let inquirable = FileSet { bits: j };
+    let inquiring = FileSet { bits: i };
     let mut next = p;
-    next.inquirable = FileSet { bits: j };
-    next.inquiring = FileSet { bits: i };
+    next.inquirable = inquirable;
+    next.inquiring = inquiring;
     next
 }
 
