@@ -97,13 +97,19 @@ pub fn out_of_range(request: &Request) -> Option<usize> {
 }
 
 /// The board of an image of the layout, sound or not; else the empty board.
-/// The layout is in the length and the standings: a byte that should name a
-/// program or a file stands in a board whatever it is, and makes it unsound.
+/// The layout is in the length, the standings and who has which record: a byte that
+/// should name a program or a file stands in a board whatever it is, and makes it
+/// unsound.
 pub fn load(image: &[u8]) -> Result<Vec<u8>, Vec<u8>> {
     let of_layout = |fault: &Fault| {
         matches!(
             fault,
-            Fault::Length | Fault::StandingByte | Fault::AwaitedNotZero
+            Fault::Length
+                | Fault::StandingByte
+                | Fault::AwaitedNotZero
+                | Fault::UserWithoutFile
+                | Fault::UserNotRunning
+                | Fault::AwaitedRecordOfNoWaiter
         )
     };
     match layout(image) {

@@ -105,7 +105,8 @@ pub fn parts(image: &[u8]) -> (Board, Vec<Fault>, Vec<Fault>) {
     (board, broken, gaps)
 }
 
-/// A program by its two rows.
+/// A program by its two rows. "The awaited-file byte of a record's user holds its
+/// file", and the users run.
 fn program(first: &[u8], second: &[u8], broken: &mut Vec<Fault>) -> Program {
     let set = |row: &[u8], at| Files::from_le_bytes(row[at..at + SET].try_into().unwrap());
     let number = |at: usize| usize::from(u16::from_le_bytes([second[at], second[at + 1]]));
@@ -120,12 +121,22 @@ fn program(first: &[u8], second: &[u8], broken: &mut Vec<Fault>) -> Program {
             Standing::Absent
         }
     };
-    let named = first[STANDING] == 2 || in_use != 0;
-    if !named && awaited != 0 {
-        broken.push(Fault::AwaitedNotZero);
-    }
-    if named && !(1..=FILES).contains(&awaited) {
-        broken.push(Fault::AwaitedRange);
+    let [runs, waits] = [1, 2].map(|number| first[STANDING] == number);
+    let named = waits || in_use != 0;
+    for (fault, is) in [
+        (Fault::AwaitedNotZero, !named && awaited != 0),
+        (Fault::AwaitedRange, waits && awaited == 0),
+        (Fault::AwaitedRange, named && awaited > FILES),
+        (Fault::UserWithoutFile, runs && in_use != 0 && awaited == 0),
+        (Fault::UserNotRunning, !runs && in_use != 0),
+        (
+            Fault::AwaitedRecordOfNoWaiter,
+            !waits && number(AWAITED_RECORD) != 0,
+        ),
+    ] {
+        if is {
+            broken.push(fault);
+        }
     }
     Program {
         standing,

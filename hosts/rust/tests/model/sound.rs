@@ -14,6 +14,9 @@ pub enum Fault {
     StandingByte,
     AwaitedNotZero,
     AwaitedRange,
+    UserWithoutFile,
+    UserNotRunning,
+    AwaitedRecordOfNoWaiter,
     WaitingLineRange,
     EntryLineRange,
     FavouredRange,
@@ -41,10 +44,8 @@ pub enum Fault {
     AwaitedOpen,
     AwaitedCanBeGiven,
     // Records.
-    UserNotRunning,
     UserNotInquiring,
     RecordInUseTwice,
-    AwaitedRecordOfNoWaiter,
     AwaitedRecordNotInquired,
     AwaitedRecordFree,
     // Favouring.
@@ -156,8 +157,8 @@ fn waiter(board: &Board, p: usize, found: &mut Vec<Fault>) {
     }
 }
 
-/// "Records in use differ, their users run, and an awaited record is in use; both
-/// have their file in I".
+/// "Records in use differ, .. and an awaited record is in use; both have their file
+/// in I".
 fn records(board: &Board, found: &mut Vec<Fault>) {
     let all = board.which(|_| true);
     let mut check = |holds: bool, fault: Fault| {
@@ -169,18 +170,13 @@ fn records(board: &Board, found: &mut Vec<Fault>) {
         let inquires = |record: Record| program.i & only(record.file) != 0;
         if let Some(record) = program.in_use {
             let users = board.which(|other| other.in_use == Some(record));
-            let runs = program.standing == Standing::Running;
-            check(runs, Fault::UserNotRunning);
             check(inquires(record), Fault::UserNotInquiring);
             check(users.len() == 1, Fault::RecordInUseTwice);
         }
-        match program.awaits() {
-            Some(record) => {
-                let used = board.user(record).is_some();
-                check(inquires(record), Fault::AwaitedRecordNotInquired);
-                check(used, Fault::AwaitedRecordFree);
-            }
-            None => check(program.awaited_record == 0, Fault::AwaitedRecordOfNoWaiter),
+        if let Some(record) = program.awaits() {
+            let used = board.user(record).is_some();
+            check(inquires(record), Fault::AwaitedRecordNotInquired);
+            check(used, Fault::AwaitedRecordFree);
         }
     }
 }
