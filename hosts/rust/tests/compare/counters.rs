@@ -46,8 +46,8 @@ pub const RECORDS: [&str; 13] = [
     "record handed on beside another waiter",
     "cancel of a record waiter",
     "enter favours a record waiter",
-    "settling favours a record waiter",
     "favoured one gets its record",
+    "settling favours a record waiter",
 ];
 
 /// What `boards` counts besides, met only after boards that no calls lead to:
