@@ -194,14 +194,12 @@ fn answered(name: &str) -> BTreeMap<String, usize> {
 
 #[test]
 fn sound_boards_have_their_loops() {
-    let of_checks = answered("checker-base");
-    assert_eq!(of_checks.get("check"), Some(&532));
-    let answers: Vec<String> = cases("checker-base")
-        .into_iter()
-        .map(|c| c.answer)
-        .collect();
-    for answer in ["0", "1"] {
-        assert!(answers.iter().any(|a| a == answer), "no {answer}");
+    for (name, checks) in [("checker-base", 532), ("checker-inquiry", 44)] {
+        assert_eq!(answered(name).get("check"), Some(&checks), "{name}");
+        let answers: Vec<String> = cases(name).into_iter().map(|c| c.answer).collect();
+        for answer in ["0", "1"] {
+            assert!(answers.iter().any(|a| a == answer), "{name}: no {answer}");
+        }
     }
 }
 
@@ -210,6 +208,7 @@ fn arrangements_have_their_matrices() {
     let of_sound = answered("matrix-base");
     assert!(of_sound.get("matrix") > Some(&0));
     assert_eq!(of_sound.get("matrix"), of_sound.get("selves"));
+    answered("matrix-inquiry");
 }
 
 /// What the documents leave open, as it is read here.
@@ -225,7 +224,13 @@ fn any_board_has_its_matrix_and_its_loops() {
         return;
     };
     let mut asking = Asking::new();
-    for name in ["matrix-base", "checker-base", "edge-base"] {
+    for name in [
+        "matrix-base",
+        "matrix-inquiry",
+        "checker-base",
+        "checker-inquiry",
+        "edge-base",
+    ] {
         for case in cases(name) {
             let question = match case.question[0].as_str() {
                 "matrix" | "selves" => {
