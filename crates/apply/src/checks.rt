@@ -1,6 +1,5 @@
 // Checks 8 to 16 and 18 to 21 of a direct call.
 use files::FileSet;
-use files::WORDS;
 use files::words;
 use rules::Check;
 use rules::Refusal;
@@ -8,6 +7,7 @@ use rules::Standing;
 use rules::Verb;
 use store::Seat;
 use store::sets;
+use store::sets::Sets;
 ghost use mathlib.Core.Path.{_≡_};
 ghost use Prim.Native.Nat.{_≤_};
 ghost use Rattle.files.specs.Sets.{isFile};
@@ -100,7 +100,7 @@ fn using_check(item: u16, next: Check) -> Check
 }
 
 // 14, 15.
-fn claim_check(sets: &[[u64; WORDS]; 192], p: u8, f: u8) -> Check
+fn claim_check(sets: &Sets, p: u8, f: u8) -> Check
     requires { ⌜ ((1 ≤ p) × (p ≤ 32)) × IsStore (now sets) ⌝ }
     ensures { λ r. ⌜ r ≡ claimCheckAt (now (sets .entry)) p f ⌝ }
 {
@@ -114,7 +114,7 @@ fn claim_check(sets: &[[u64; WORDS]; 192], p: u8, f: u8) -> Check
 }
 
 // 16.
-fn use_check(sets: &[[u64; WORDS]; 192], p: u8, f: u8) -> Check
+fn use_check(sets: &Sets, p: u8, f: u8) -> Check
     requires { ⌜ ((1 ≤ p) × (p ≤ 32)) × IsStore (now sets) ⌝ }
     ensures { λ r. ⌜ r ≡ useCheckAt (now (sets .entry)) p f ⌝ }
 {
@@ -125,7 +125,7 @@ fn use_check(sets: &[[u64; WORDS]; 192], p: u8, f: u8) -> Check
 }
 
 // 20, of a fetch: a file that is not open for inquiry.
-fn inquiry_check(sets: &[[u64; WORDS]; 192], p: u8, f: u8) -> Check
+fn inquiry_check(sets: &Sets, p: u8, f: u8) -> Check
     requires { ⌜ ((1 ≤ p) × (p ≤ 32)) × IsStore (now sets) ⌝ }
     ensures { λ r. ⌜ r ≡ inquiryCheckAt (now (sets .entry)) p f ⌝ }
 {
@@ -173,7 +173,7 @@ fn check_enter(s: Standing, writable: FileSet, readable: FileSet, inquirable: Fi
 }
 
 // 8, 11 to 13, 21, 14 and 15, of a program in range; for open and for drop.
-fn check_open(sets: &[[u64; WORDS]; 192], p: u8, s: Standing, item: u16, f: u8) -> Check
+fn check_open(sets: &Sets, p: u8, s: Standing, item: u16, f: u8) -> Check
     requires { ⌜ ((1 ≤ p) × (p ≤ 32)) × IsStore (now sets) ⌝ }
     ensures { λ r. ⌜ r ≡ fileFirst f (unlessRunning s (unlessUsing item (claimCheckAt (now (sets .entry)) p f))) ⌝ }
 {
@@ -184,7 +184,7 @@ fn check_open(sets: &[[u64; WORDS]; 192], p: u8, s: Standing, item: u16, f: u8) 
 }
 
 // 8, 11 to 13, 21 and 16, of a program in range.
-fn check_close(sets: &[[u64; WORDS]; 192], p: u8, s: Standing, item: u16, f: u8) -> Check
+fn check_close(sets: &Sets, p: u8, s: Standing, item: u16, f: u8) -> Check
     requires { ⌜ ((1 ≤ p) × (p ≤ 32)) × IsStore (now sets) ⌝ }
     ensures { λ r. ⌜ r ≡ fileFirst f (unlessRunning s (unlessUsing item (useCheckAt (now (sets .entry)) p f))) ⌝ }
 {
@@ -195,7 +195,7 @@ fn check_close(sets: &[[u64; WORDS]; 192], p: u8, s: Standing, item: u16, f: u8)
 }
 
 // 8, 19, 11 to 13, 21 and 20, of a program in range that fetches the record n.
-fn check_fetch(sets: &[[u64; WORDS]; 192], p: u8, s: Standing, item: u16, f: u8, n: u16) -> Check
+fn check_fetch(sets: &Sets, p: u8, s: Standing, item: u16, f: u8, n: u16) -> Check
     requires { ⌜ ((1 ≤ p) × (p ≤ 32)) × IsStore (now sets) ⌝ }
     ensures { λ r. ⌜ r ≡ fileFirst f (recordFirst n (unlessRunning s (unlessUsing item (inquiryCheckAt (now (sets .entry)) p f)))) ⌝ }
 {
@@ -220,7 +220,7 @@ fn check_cancel(s: Standing) -> Check
 
 // The checks of the call with this verb, of a program in range that has this seat.
 pub fn check_call(
-    sets: &[[u64; WORDS]; 192],
+    sets: &Sets,
     p: u8,
     seat: Seat,
     f: u8,

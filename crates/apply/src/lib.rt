@@ -1,6 +1,6 @@
 // The rules applied to a sound board, which is its sets, lent, and the rest: each of the eight calls, with checks 8 to 16 and 18 to 21.
 use files::FileSet;
-use files::WORDS;
+use parts::entries::Entries;
 use rules::Answer;
 use rules::Asked;
 use rules::Check;
@@ -13,6 +13,7 @@ use search::Search;
 use settling::Progress;
 use store::Rest;
 use store::Seat;
+use store::sets::Sets;
 ghost use mathlib.Core.Path.{_≡_};
 ghost use mathlib.Core.Bool.{true, not, _&&_};
 ghost use lib.Dec.{eqb};
@@ -62,7 +63,7 @@ fn new_program(writable: FileSet, readable: FileSet, inquirable: FileSet, s: Sta
 
 // p runs, and the count of each waiting program goes up.
 fn put_running(
-    sets: &mut [[u64; WORDS]; 192],
+    sets: &mut Sets,
     rest: Rest,
     p: u8,
     writable: FileSet,
@@ -83,7 +84,7 @@ fn put_running(
 
 // p is held, at the end of the entry line.
 fn put_held(
-    sets: &mut [[u64; WORDS]; 192],
+    sets: &mut Sets,
     rest: Rest,
     p: u8,
     writable: FileSet,
@@ -105,9 +106,9 @@ fn put_held(
 
 // p is held, and the waiter w, which eight have passed, is favoured: HELD, then FAVOUR.
 fn hold_for(
-    sets: &mut [[u64; WORDS]; 192],
+    sets: &mut Sets,
     rest: Rest,
-    lines: &mut [[u16; 5]; 32],
+    lines: &mut Entries,
     p: u8,
     writable: FileSet,
     readable: FileSet,
@@ -132,9 +133,9 @@ fn hold_for(
 // Enter: with somebody favoured, p is held; with nobody favoured and a waiter whose count is 8, p is held and that waiter favoured;
 // otherwise p runs.
 fn do_enter(
-    sets: &mut [[u64; WORDS]; 192],
+    sets: &mut Sets,
     rest: Rest,
-    lines: &mut [[u16; 5]; 32],
+    lines: &mut Entries,
     p: u8,
     writable: FileSet,
     readable: FileSet,
@@ -170,7 +171,7 @@ fn do_enter(
 // ---- open
 
 // p waits for f, at the end of the waiting line: for the record n of the file g, or, if both are 0, for f itself.
-fn put_waiting(sets: &[[u64; WORDS]; 192], rest: Rest, p: u8, f: u8, g: u8, n: u16) -> Rest
+fn put_waiting(sets: &Sets, rest: Rest, p: u8, f: u8, g: u8, n: u16) -> Rest
     requires { ⌜ ((1 ≤ p) × (p ≤ 32)) × ((rest .waiting ≡ padded 0 (names (rest .waiting))) × (length (names (rest .waiting)) < 32))
         × IsStore (now sets) ⌝ }
     ensures { λ r. ⌜ boardOf (now (sets .entry)) r ≡ waitingFor (boardOf (now (sets .entry)) rest) p f g n ⌝ }
@@ -188,13 +189,7 @@ fn put_waiting(sets: &[[u64; WORDS]; 192], rest: Rest, p: u8, f: u8, g: u8, n: u
 }
 
 // Open: WAIT if another program has f in conflicting use; UNSAFE if no order comes back with f given; otherwise GIVEN.
-fn do_open(
-    sets: &mut [[u64; WORDS]; 192],
-    rest: Rest,
-    lines: &mut [[u16; 5]; 32],
-    p: u8,
-    f: u8,
-) -> Changed
+fn do_open(sets: &mut Sets, rest: Rest, lines: &mut Entries, p: u8, f: u8) -> Changed
     requires { ⌜ ((1 ≤ p) × (p ≤ 32)) × Good (boardOf (now sets) rest) × (openCheck (boardOf (now sets) rest) p f ≡ Check.Passed)
         × IsStore (now sets) × (now lines ≡ noEntries) ⌝ }
     ensures { λ r. ⌜ ComesTo (now (sets .exit)) (now (lines .exit)) r (openFile (boardOf (now (sets .entry)) rest) p f) ⌝ }
@@ -251,7 +246,7 @@ fn another_has(seat: Seat, q: u8, p: u8, f: u8, n: u16) -> bool
 }
 
 // Whether another program than p has the record n of f in use.
-fn is_taken(sets: &[[u64; WORDS]; 192], rest: Rest, p: u8, f: u8, n: u16) -> bool
+fn is_taken(sets: &Sets, rest: Rest, p: u8, f: u8, n: u16) -> bool
     ensures { λ r. ⌜ r ≡ taken (boardOf (now (sets .entry)) rest) p f n ⌝ }
 {
     let mut q: u8 = 1;
@@ -267,7 +262,7 @@ fn is_taken(sets: &[[u64; WORDS]; 192], rest: Rest, p: u8, f: u8, n: u16) -> boo
 }
 
 // The running program p with the record n of f in use, or with none if both are 0.
-fn put_record(sets: &[[u64; WORDS]; 192], rest: Rest, p: u8, f: u8, n: u16) -> Rest
+fn put_record(sets: &Sets, rest: Rest, p: u8, f: u8, n: u16) -> Rest
     requires { ⌜ ((1 ≤ p) × (p ≤ 32)) × IsStore (now sets) ⌝ }
     ensures { λ r. ⌜ boardOf (now (sets .entry)) r
         ≡ setProgram (boardOf (now (sets .entry)) rest) p (setItem (at (boardOf (now (sets .entry)) rest) p) f n) ⌝ }
@@ -282,14 +277,7 @@ fn put_record(sets: &[[u64; WORDS]; 192], rest: Rest, p: u8, f: u8, n: u16) -> R
 }
 
 // Fetch: "It waits (WAIT) while another has that record, else gets it (GIVEN)."
-fn do_fetch(
-    sets: &[[u64; WORDS]; 192],
-    rest: Rest,
-    lines: &mut [[u16; 5]; 32],
-    p: u8,
-    f: u8,
-    n: u16,
-) -> Changed
+fn do_fetch(sets: &Sets, rest: Rest, lines: &mut Entries, p: u8, f: u8, n: u16) -> Changed
     requires { ⌜ ((1 ≤ p) × (p ≤ 32)) × Good (boardOf (now sets) rest) × (fetchCheck (boardOf (now sets) rest) p f n ≡ Check.Passed)
         × IsStore (now sets) × (now lines ≡ noEntries) ⌝ }
     ensures { λ r. ⌜ ComesTo (now (sets .entry)) (now (lines .exit)) r (fetch (boardOf (now (sets .entry)) rest) p f n) ⌝ }
@@ -306,12 +294,7 @@ fn do_fetch(
 // ---- return
 
 // Return: the record in use is in use no longer, and "the oldest waiter for the record gets it (GIVEN), then the board settles".
-fn do_return(
-    sets: &mut [[u64; WORDS]; 192],
-    rest: Rest,
-    lines: &mut [[u16; 5]; 32],
-    p: u8,
-) -> Changed
+fn do_return(sets: &mut Sets, rest: Rest, lines: &mut Entries, p: u8) -> Changed
     requires { ⌜ ((1 ≤ p) × (p ≤ 32)) × Good (boardOf (now sets) rest) × (returnCheck (boardOf (now sets) rest) p ≡ Check.Passed)
         × IsStore (now sets) × (now lines ≡ noEntries) ⌝ }
     ensures { λ r. ⌜ ComesTo (now (sets .exit)) (now (lines .exit)) r (returnItem (boardOf (now (sets .entry)) rest) p) ⌝ }
@@ -325,13 +308,7 @@ fn do_return(
 // ---- close
 
 // Close: f is open no longer.
-fn do_close(
-    sets: &mut [[u64; WORDS]; 192],
-    rest: Rest,
-    lines: &mut [[u16; 5]; 32],
-    p: u8,
-    f: u8,
-) -> Changed
+fn do_close(sets: &mut Sets, rest: Rest, lines: &mut Entries, p: u8, f: u8) -> Changed
     requires { ⌜ ((1 ≤ p) × (p ≤ 32)) × Good (boardOf (now sets) rest) × (closeCheck (boardOf (now sets) rest) p f ≡ Check.Passed)
         × IsStore (now sets) × (now lines ≡ noEntries) ⌝ }
     ensures { λ r. ⌜ ComesTo (now (sets .exit)) (now (lines .exit)) r (closeFile (boardOf (now (sets .entry)) rest) p f) ⌝ }
@@ -344,13 +321,7 @@ fn do_close(
 // ---- drop
 
 // Drop: f leaves p's claim.
-fn do_drop(
-    sets: &mut [[u64; WORDS]; 192],
-    rest: Rest,
-    lines: &mut [[u16; 5]; 32],
-    p: u8,
-    f: u8,
-) -> Changed
+fn do_drop(sets: &mut Sets, rest: Rest, lines: &mut Entries, p: u8, f: u8) -> Changed
     requires { ⌜ ((1 ≤ p) × (p ≤ 32)) × Good (boardOf (now sets) rest) × (openCheck (boardOf (now sets) rest) p f ≡ Check.Passed)
         × IsStore (now sets) × (now lines ≡ noEntries) ⌝ }
     ensures { λ r. ⌜ ComesTo (now (sets .exit)) (now (lines .exit)) r (dropFile (boardOf (now (sets .entry)) rest) p f) ⌝ }
@@ -363,7 +334,7 @@ fn do_drop(
 // ---- leave
 
 // The leave is counted if somebody was favoured before it.
-fn counted(sets: &[[u64; WORDS]; 192], rest: Rest) -> Rest
+fn counted(sets: &Sets, rest: Rest) -> Rest
     requires { ⌜ rest .leaves ≤ 32 ⌝ }
     ensures { λ r. ⌜ boardOf (now (sets .entry)) r ≡ countLeave (boardOf (now (sets .entry)) rest) ⌝ }
 {
@@ -378,12 +349,7 @@ fn counted(sets: &[[u64; WORDS]; 192], rest: Rest) -> Rest
 }
 
 // Leave: all its files and claims go; "a leave returns it too", the record in use.
-fn do_leave(
-    sets: &mut [[u64; WORDS]; 192],
-    rest: Rest,
-    lines: &mut [[u16; 5]; 32],
-    p: u8,
-) -> Changed
+fn do_leave(sets: &mut Sets, rest: Rest, lines: &mut Entries, p: u8) -> Changed
     requires { ⌜ ((1 ≤ p) × (p ≤ 32)) × Good (boardOf (now sets) rest) × (leaveCheck (boardOf (now sets) rest) p ≡ Check.Passed)
         × IsStore (now sets) × (now lines ≡ noEntries) ⌝ }
     ensures { λ r. ⌜ ComesTo (now (sets .exit)) (now (lines .exit)) r (leave (boardOf (now (sets .entry)) rest) p) ⌝ }
@@ -399,7 +365,7 @@ fn do_leave(
 // ---- cancel
 
 // A cancelled favoured program is favoured no longer; otherwise the cancel of a waiter counts as a leave.
-fn cancel_counted(sets: &[[u64; WORDS]; 192], rest: Rest, p: u8) -> Rest
+fn cancel_counted(sets: &Sets, rest: Rest, p: u8) -> Rest
     requires { ⌜ rest .leaves ≤ 32 ⌝ }
     ensures { λ r. ⌜ boardOf (now (sets .entry)) r ≡ countCancel (boardOf (now (sets .entry)) rest) p ⌝ }
 {
@@ -415,7 +381,7 @@ fn cancel_counted(sets: &[[u64; WORDS]; 192], rest: Rest, p: u8) -> Rest
 }
 
 // The program goes, out of its line, and its count is 0.
-fn withdraw(sets: &mut [[u64; WORDS]; 192], rest: Rest, p: u8, s: Standing) -> Rest
+fn withdraw(sets: &mut Sets, rest: Rest, p: u8, s: Standing) -> Rest
     requires { ⌜ ((1 ≤ p) × (p ≤ 32)) × (rest .leaves ≤ 32) × IsStore (now sets) ⌝ }
     ensures { λ r. ⌜ boardOf (now (sets .exit)) r ≡ withdrawn (boardOf (now (sets .entry)) rest) p s ⌝ }
     ensures { λ _. ⌜ IsStore (now (sets .exit)) ⌝ }
@@ -444,13 +410,7 @@ fn withdraw(sets: &mut [[u64; WORDS]; 192], rest: Rest, p: u8, s: Standing) -> R
 }
 
 // Cancel: the program, which has this standing, goes with its files and claims.
-fn do_cancel(
-    sets: &mut [[u64; WORDS]; 192],
-    rest: Rest,
-    lines: &mut [[u16; 5]; 32],
-    p: u8,
-    s: Standing,
-) -> Changed
+fn do_cancel(sets: &mut Sets, rest: Rest, lines: &mut Entries, p: u8, s: Standing) -> Changed
     requires { ⌜ ((1 ≤ p) × (p ≤ 32)) × Good (boardOf (now sets) rest) × (cancelCheck (boardOf (now sets) rest) p ≡ Check.Passed)
         × (s ≡ standingAt rest p) × IsStore (now sets) × (now lines ≡ noEntries) ⌝ }
     ensures { λ r. ⌜ ComesTo (now (sets .exit)) (now (lines .exit)) r (cancel (boardOf (now (sets .entry)) rest) p) ⌝ }
@@ -464,9 +424,9 @@ fn do_cancel(
 
 // The call with this verb, of a program with this standing, once its checks have passed.
 fn accept(
-    sets: &mut [[u64; WORDS]; 192],
+    sets: &mut Sets,
     rest: Rest,
-    lines: &mut [[u16; 5]; 32],
+    lines: &mut Entries,
     p: u8,
     s: Standing,
     f: u8,
@@ -496,13 +456,7 @@ fn accept(
 }
 
 // The call of a program in range: its checks, then the call.
-fn call_by(
-    sets: &mut [[u64; WORDS]; 192],
-    rest: Rest,
-    lines: &mut [[u16; 5]; 32],
-    p: u8,
-    a: Asked,
-) -> Changed
+fn call_by(sets: &mut Sets, rest: Rest, lines: &mut Entries, p: u8, a: Asked) -> Changed
     requires { ⌜ ((1 ≤ p) × (p ≤ 32)) × (p ≡ a .program) × Good (boardOf (now sets) rest) × IsStore (now sets) × (now lines ≡ noEntries) ⌝ }
     ensures { λ r. ⌜ ComesTo (now (sets .exit)) (now (lines .exit)) r (apply (boardOf (now (sets .entry)) rest) (callOf a)) ⌝ }
     ensures { λ _. ⌜ IsStore (now (sets .exit)) × IsEntries (now (lines .exit)) ⌝ }
@@ -535,12 +489,7 @@ fn call_by(
 }
 
 // The call that is asked for, on a sound board; no line is written yet.
-pub fn call(
-    sets: &mut [[u64; WORDS]; 192],
-    rest: Rest,
-    lines: &mut [[u16; 5]; 32],
-    a: Asked,
-) -> Changed
+pub fn call(sets: &mut Sets, rest: Rest, lines: &mut Entries, a: Asked) -> Changed
     requires { ⌜ (sound (boardOf (now sets) rest) ≡ true) × IsStore (now sets) × (now lines ≡ noEntries) ⌝ }
     ensures { λ r. ⌜ ComesTo (now (sets .exit)) (now (lines .exit)) r (apply (boardOf (now (sets .entry)) rest) (callOf a)) ⌝ }
     ensures { λ _. ⌜ IsStore (now (sets .exit)) × IsEntries (now (lines .exit)) ⌝ }

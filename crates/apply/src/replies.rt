@@ -1,11 +1,12 @@
 // What a call comes to: its lines, where they stand, and its answer.
 use crate::Changed;
-use files::WORDS;
+use parts::entries::Entries;
 use rules::Answer;
 use rules::Refusal;
 use rules::Word;
 use settling::Progress;
 use store::Rest;
+use store::sets::Sets;
 ghost use mathlib.Core.Path.{_≡_};
 ghost use mathlib.Core.List.{[], _∷_};
 ghost use Rattle.rules.specs.Settling.{lineOf, handOn};
@@ -20,9 +21,9 @@ ghost use Rattle.apply.specs.Replies.{wrote, ComesTo, Handing};
 
 // The rest, with one line written.
 pub fn one_line(
-    sets: &[[u64; WORDS]; 192],
+    sets: &Sets,
     rest: Rest,
-    lines: &mut [[u16; 5]; 32],
+    lines: &mut Entries,
     word: Word,
     p: u8,
     f: u8,
@@ -38,9 +39,9 @@ pub fn one_line(
 
 // One line is written, and the answer says the same.
 pub fn answered(
-    sets: &[[u64; WORDS]; 192],
+    sets: &Sets,
     rest: Rest,
-    lines: &mut [[u16; 5]; 32],
+    lines: &mut Entries,
     word: Word,
     p: u8,
     f: u8,
@@ -56,12 +57,7 @@ pub fn answered(
 }
 
 // A refusal: the board is as it was, and no line is written.
-pub fn refused(
-    sets: &[[u64; WORDS]; 192],
-    rest: Rest,
-    lines: &[[u16; 5]; 32],
-    refusal: Refusal,
-) -> Changed
+pub fn refused(sets: &Sets, rest: Rest, lines: &Entries, refusal: Refusal) -> Changed
     requires { ⌜ now lines ≡ noEntries ⌝ }
     ensures { λ r. ⌜ ComesTo (now (sets .entry)) (now (lines .entry)) r (refuse (boardOf (now (sets .entry)) rest) refusal) ⌝ }
 {
@@ -72,13 +68,7 @@ pub fn refused(
 }
 
 // DONE, then settle.
-pub fn done(
-    sets: &mut [[u64; WORDS]; 192],
-    rest: Rest,
-    lines: &mut [[u16; 5]; 32],
-    p: u8,
-    f: u8,
-) -> Changed
+pub fn done(sets: &mut Sets, rest: Rest, lines: &mut Entries, p: u8, f: u8) -> Changed
     requires { ⌜ Ready (boardOf (now sets) rest) × IsStore (now sets) × (now lines ≡ noEntries) ⌝ }
     ensures { λ r. ⌜ ComesTo (now (sets .exit)) (now (lines .exit)) r (done (boardOf (now (sets .entry)) rest) p f) ⌝ }
     ensures { λ _. ⌜ IsStore (now (sets .exit)) × IsEntries (now (lines .exit)) ⌝ }
@@ -92,14 +82,7 @@ pub fn done(
 }
 
 // DONE, then the record n of f is handed on, then settle.
-pub fn handed_on(
-    sets: &mut [[u64; WORDS]; 192],
-    rest: Rest,
-    lines: &mut [[u16; 5]; 32],
-    p: u8,
-    f: u8,
-    n: u16,
-) -> Changed
+pub fn handed_on(sets: &mut Sets, rest: Rest, lines: &mut Entries, p: u8, f: u8, n: u16) -> Changed
     requires { ⌜ Handing (boardOf (now sets) rest) f n × IsStore (now sets) × (now lines ≡ noEntries) ⌝ }
     ensures { λ r. ⌜ ComesTo (now (sets .exit)) (now (lines .exit)) r (finish (handOn (boardOf (now (sets .entry)) rest) f n) p 0) ⌝ }
     ensures { λ _. ⌜ IsStore (now (sets .exit)) × IsEntries (now (lines .exit)) ⌝ }

@@ -3,6 +3,8 @@
 use files::WORDS;
 use rules::Board;
 use store::Rest;
+use store::sets::PLACES;
+use store::sets::Sets;
 use tables::ProgramSet;
 ghost use mathlib.Core.Path.{_≡_};
 ghost use Prim.Native.Nat.{_≤_};
@@ -32,7 +34,7 @@ impl Loop {
 // ---- who holds back whom
 
 // For each program of the set the others of it that hold it back.
-fn fill_holders(sets: &[[u64; WORDS]; 192], admitted: ProgramSet, rows: &mut [u32; 32])
+fn fill_holders(sets: &Sets, admitted: ProgramSet, rows: &mut [u32; 32])
     requires { ⌜ (now rows ≡ replicate 32 0) × IsStore (now sets) ⌝ }
     ensures { λ _. ⌜ now (rows .exit) ≡ holderRows (now (sets .entry)) admitted ⌝ }
 {
@@ -47,7 +49,7 @@ fn fill_holders(sets: &[[u64; WORDS]; 192], admitted: ProgramSet, rows: &mut [u3
 }
 
 // For each admitted program the others of them that hold it back.
-fn fill_steps(sets: &[[u64; WORDS]; 192], rest: Rest, rows: &mut [u32; 32])
+fn fill_steps(sets: &Sets, rest: Rest, rows: &mut [u32; 32])
     requires { ⌜ (now rows ≡ replicate 32 0) × IsStore (now sets) ⌝ }
     ensures { λ _. ⌜ now (rows .exit) ≡ rowsSaying (step (boardOf (now (sets .entry)) rest)) ⌝ }
 {
@@ -104,7 +106,7 @@ pub fn fill_matrix(b: Board, rows: &mut [u32; 32])
     requires { ⌜ now rows ≡ replicate 32 0 ⌝ }
     ensures { λ _. ⌜ now (rows .exit) ≡ matrixOf b ⌝ }
 {
-    let mut sets = [[0u64; WORDS]; 192];
+    let mut sets = [[0u64; WORDS]; PLACES];
     let rest = store::sets::take(b, &mut sets);
     fill_steps(&sets, rest, rows);
     close_rows(rows);

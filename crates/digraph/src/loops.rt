@@ -5,6 +5,8 @@ use parts::standings;
 use rules::Board;
 use store::Rest;
 use store::sets;
+use store::sets::PLACES;
+use store::sets::Sets;
 use tables::ProgramSet;
 ghost use mathlib.Core.Path.{_≡_};
 ghost use mathlib.Core.Bool.{true, _&&_};
@@ -161,7 +163,7 @@ fn find_in(rows: &[u32; 32], matrix: &[u32; 32]) -> Loop
 // ---- of a board
 
 // A loop of the board by its sets and the rest, sound or not; none exactly where it has an order.
-fn find_by(sets: &[[u64; WORDS]; 192], rest: Rest) -> Loop
+fn find_by(sets: &Sets, rest: Rest) -> Loop
     requires { ⌜ IsStore (now sets) ⌝ }
     ensures { λ r. ⌜ LoopOf (boardOf (now (sets .entry)) rest) r ⌝ }
 {
@@ -176,13 +178,13 @@ fn find_by(sets: &[[u64; WORDS]; 192], rest: Rest) -> Loop
 pub fn find(b: Board) -> Loop
     ensures { λ r. ⌜ LoopOf b r ⌝ }
 {
-    let mut sets = [[0u64; WORDS]; 192];
+    let mut sets = [[0u64; WORDS]; PLACES];
     let rest = store::sets::take(b, &mut sets);
     find_by(&sets, rest)
 }
 
 // Whether the list is a loop of the board by its sets and the rest, sound or not.
-fn is_loop(sets: &[[u64; WORDS]; 192], rest: Rest, l: &[u8]) -> bool
+fn is_loop(sets: &Sets, rest: Rest, l: &[u8]) -> bool
     requires { ⌜ IsStore (now sets) ⌝ }
     ensures { λ r. ⌜ r ≡ isLoop (step (boardOf (now (sets .entry)) rest)) (now (l .entry)) ⌝ }
 {
@@ -198,7 +200,7 @@ pub fn find_given(b: Board, p: u8, f: u8) -> Loop
     requires { ⌜ (1 ≤ p) × (p ≤ 32) ⌝ }
     ensures { λ r. ⌜ LoopOf (withGiven b p f) r ⌝ }
 {
-    let mut sets = [[0u64; WORDS]; 192];
+    let mut sets = [[0u64; WORDS]; PLACES];
     let rest = store::sets::take(b, &mut sets);
     sets::give(&mut sets, p, f);
     find_by(&sets, rest)
@@ -209,7 +211,7 @@ fn is_loop_by(b: Board, p: u8, f: u8, l: &[u8]) -> bool
     requires { ⌜ (1 ≤ p) × (p ≤ 32) ⌝ }
     ensures { λ r. ⌜ r ≡ isLoopWith b p f (now (l .entry)) ⌝ }
 {
-    let mut sets = [[0u64; WORDS]; 192];
+    let mut sets = [[0u64; WORDS]; PLACES];
     let rest = store::sets::take(b, &mut sets);
     let s = store::standing_at(rest, p);
     if !standings::is_admitted(s) {

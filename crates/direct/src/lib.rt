@@ -2,10 +2,14 @@
 use digraph::Loop;
 use files::FileSet;
 use files::WORDS;
+use parts::entries::LINES;
+use parts::entries::NUMBERS;
 use rules::Asked;
 use rules::Board;
 use rules::Reply;
 use rules::Verb;
+use store::sets::PLACES;
+use store::sets::Sets;
 ghost use mathlib.Core.Path.{_≡_};
 ghost use mathlib.Core.Bool.{true};
 ghost use Rattle.files.specs.Sets.{noFiles};
@@ -23,13 +27,13 @@ pub struct Answered {
 fn reply_to(b: Board, a: Asked) -> Reply
     ensures { λ r. ⌜ r ≡ direct b (callOf a) ⌝ }
 {
-    let mut sets = [[0u64; WORDS]; 192];
+    let mut sets = [[0u64; WORDS]; PLACES];
     let rest = store::sets::take(b, &mut sets);
     let j = sound::judge(&sets, rest);
     if !j.sound {
         return reply::refused_unsound(b);
     }
-    let mut lines = [[0u16; 5]; 32];
+    let mut lines = [[0u16; NUMBERS]; LINES];
     let changed = apply::call(&mut sets, rest, &mut lines, a);
     let order = j.order;
     reply::complete(&sets, &lines, changed, order)

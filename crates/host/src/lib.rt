@@ -2,9 +2,13 @@
 use files::WORDS;
 use image::Loaded;
 use image::LoadedRest;
+use parts::entries::LINES;
+use parts::entries::NUMBERS;
 use rules::Board;
 use search::Search;
 use store::Rest;
+use store::sets::PLACES;
+use store::sets::Sets;
 ghost use mathlib.Core.Path.{_≡_};
 ghost use Prim.Native.Nat.{_≤_};
 ghost use lib.ListN.{take};
@@ -17,7 +21,7 @@ pub mod digraphs;
 mod writing;
 
 // The board of an image, into the sets and the rest; an image that is not of its layout, or whose board is not sound, is refused.
-fn take_image(image: &[u8], sets: &mut [[u64; WORDS]; 192]) -> LoadedRest
+fn take_image(image: &[u8], sets: &mut Sets) -> LoadedRest
     requires { ⌜ now sets ≡ emptySets ⌝ }
     ensures { λ r. ⌜ takenIn (now (sets .exit)) r ≡ readImage (now (image .entry)) ⌝ }
     ensures { λ _. ⌜ IsStore (now (sets .exit)) ⌝ }
@@ -36,7 +40,7 @@ fn take_image(image: &[u8], sets: &mut [[u64; WORDS]; 192]) -> LoadedRest
 pub fn read_image(image: &[u8]) -> Loaded
     ensures { λ r. ⌜ r ≡ readImage (now (image .entry)) ⌝ }
 {
-    let mut sets = [[0u64; WORDS]; 192];
+    let mut sets = [[0u64; WORDS]; PLACES];
     let taken = take_image(image, &mut sets);
     let ok = taken.ok;
     if !ok {
@@ -81,14 +85,14 @@ pub extern "C" fn lock_board_line(
     ensures { λ r. ⌜ now (image .exit) ≡ hostCall (now (image .entry)) (now (line .entry)) (now (journal .entry)) place .image ⌝ }
     ensures { λ r. ⌜ now (journal .exit) ≡ hostCall (now (image .entry)) (now (line .entry)) (now (journal .entry)) place .journal ⌝ }
 {
-    let mut sets = [[0u64; WORDS]; 192];
+    let mut sets = [[0u64; WORDS]; PLACES];
     let taken = take_image(image, &mut sets);
     let ok = taken.ok;
     if !ok {
         return answer_for(1, place);
     }
     let rest = taken.rest;
-    let mut lines = [[0u16; 5]; 32];
+    let mut lines = [[0u16; NUMBERS]; LINES];
     let served = linecall::known::line(&mut sets, rest, &mut lines, line, journal, place);
     let changed = served.changed;
     let answer = changed.answer;
@@ -109,7 +113,7 @@ pub extern "C" fn lock_board_empty(image: &mut [u8]) -> u64
     ensures { λ r. ⌜ r ≡ emptyAnswer (now (image .entry)) ⌝ }
     ensures { λ r. ⌜ now (image .exit) ≡ emptyImage (now (image .entry)) ⌝ }
 {
-    let sets = [[0u64; WORDS]; 192];
+    let sets = [[0u64; WORDS]; PLACES];
     let rest = Rest::EMPTY;
     if image::put_image_of(image, &sets, rest) {
         return 0;
@@ -137,7 +141,7 @@ pub extern "C" fn lock_board_order(image: &[u8], order: &mut [u8]) -> u64
     ensures { λ r. ⌜ r ≡ orderAnswer (now (image .entry)) (now (order .entry)) ⌝ }
     ensures { λ r. ⌜ now (order .exit) ≡ orderBuffer (now (image .entry)) (now (order .entry)) ⌝ }
 {
-    let mut sets = [[0u64; WORDS]; 192];
+    let mut sets = [[0u64; WORDS]; PLACES];
     let loaded = image::load_in(image, &mut sets);
     let ok = loaded.ok;
     if !ok {

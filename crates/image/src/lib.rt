@@ -8,6 +8,8 @@ use rules::Standing;
 use store::Rest;
 use store::Seat;
 use store::sets;
+use store::sets::PLACES;
+use store::sets::Sets;
 ghost use mathlib.Core.Path.{_≡_};
 ghost use mathlib.Core.List.{_++_, map};
 ghost use mathlib.Core.Bool.{true};
@@ -15,7 +17,7 @@ ghost use Prim.Native.Nat.{_+_, _-_, _*_, _≤_, _<_};
 ghost use lib.ListN.{length, getD, set, drop};
 ghost use Rattle.rules.specs.Modes.{byMode};
 ghost use Rattle.files.specs.Words.{wordCount, setOf, wordsFor};
-ghost use Rattle.store.specs.Sets.{IsStore, setIn, SetsOf, PutAt, PutsFrom};
+ghost use Rattle.store.specs.Sets.{placeCount, IsStore, setIn, SetsOf, PutAt, PutsFrom};
 ghost use Rattle.store.specs.Store.{noSeat, seatOf, programWith, programsFrom, boardOf, SeatsTo, emptySets};
 ghost use Rattle.image.specs.Image.{kindOf, fileByte, usedBy, wantedBy, standingOf, fileOf, itemOf, bothOrNone, seatFits};
 ghost use Rattle.image.specs.Image.{setSection, rowOf, rowSection, rowsSection, inquiryOf, inquirySection, inquiriesSection, joined, rowsAgree};
@@ -154,9 +156,9 @@ pub fn put_at(out: &mut [u8], at: usize, src: &[u8])
 }
 
 // Writes the set in place k from a byte on.
-fn put_set(out: &mut [u8], at: usize, sets: &[[u64; WORDS]; 192], k: usize)
+fn put_set(out: &mut [u8], at: usize, sets: &Sets, k: usize)
     requires { ⌜ at + setSection .size ≤ length (now out) ⌝ }
-    requires { ⌜ (k < 192) × IsStore (now sets) ⌝ }
+    requires { ⌜ (k < placeCount) × IsStore (now sets) ⌝ }
     ensures { λ r. ⌜ now (out .exit) ≡ putAt at (setSection .write (setIn (now (sets .entry)) k)) (now (out .entry)) ⌝ }
 {
     let s = whole::set_at(sets, k);
@@ -165,7 +167,7 @@ fn put_set(out: &mut [u8], at: usize, sets: &[[u64; WORDS]; 192], k: usize)
 }
 
 // Writes the row of program p, with a seat, at the front of a part; the rest keeps its contents.
-fn put_row(out: &mut [u8], sets: &[[u64; WORDS]; 192], p: u8, seat: Seat)
+fn put_row(out: &mut [u8], sets: &Sets, p: u8, seat: Seat)
     requires { ⌜ rowSection .size ≤ length (now out) ⌝ }
     requires { ⌜ ((1 ≤ p) × (p ≤ 32)) × IsStore (now sets) ⌝ }
     ensures { λ r. ⌜ now (out .exit)
@@ -186,7 +188,7 @@ fn put_row(out: &mut [u8], sets: &[[u64; WORDS]; 192], p: u8, seat: Seat)
 }
 
 // Writes the second row of program p, likewise: J, I, the record in use and the awaited one.
-fn put_inquiry(out: &mut [u8], sets: &[[u64; WORDS]; 192], p: u8, seat: Seat)
+fn put_inquiry(out: &mut [u8], sets: &Sets, p: u8, seat: Seat)
     requires { ⌜ inquirySection .size ≤ length (now out) ⌝ }
     requires { ⌜ ((1 ≤ p) × (p ≤ 32)) × IsStore (now sets) ⌝ }
     ensures { λ r. ⌜ now (out .exit)
@@ -210,7 +212,7 @@ fn put_inquiry(out: &mut [u8], sets: &[[u64; WORDS]; 192], p: u8, seat: Seat)
 }
 
 // Writes the programs' rows at the front of a part; the rest keeps its contents.
-fn put_rows(out: &mut [u8], sets: &[[u64; WORDS]; 192], seats: [Seat; 32])
+fn put_rows(out: &mut [u8], sets: &Sets, seats: [Seat; 32])
     requires { ⌜ rowsSection .size ≤ length (now out) ⌝ }
     requires { ⌜ IsStore (now sets) ⌝ }
     ensures { λ r. ⌜ now (out .exit)
@@ -226,7 +228,7 @@ fn put_rows(out: &mut [u8], sets: &[[u64; WORDS]; 192], seats: [Seat; 32])
 }
 
 // Writes the programs' second rows, likewise.
-fn put_inquiries(out: &mut [u8], sets: &[[u64; WORDS]; 192], seats: [Seat; 32])
+fn put_inquiries(out: &mut [u8], sets: &Sets, seats: [Seat; 32])
     requires { ⌜ inquiriesSection .size ≤ length (now out) ⌝ }
     requires { ⌜ IsStore (now sets) ⌝ }
     ensures { λ r. ⌜ now (out .exit)
@@ -250,7 +252,7 @@ fn put_places(out: &mut [u8], at: usize, places: [u8; 32])
 }
 
 // Writes the image of a board into a buffer of its length, section by section.
-fn fill_image(out: &mut [u8], sets: &[[u64; WORDS]; 192], rest: Rest)
+fn fill_image(out: &mut [u8], sets: &Sets, rest: Rest)
     requires { ⌜ length (now out) ≡ imageLength ⌝ }
     requires { ⌜ IsStore (now sets) ⌝ }
     ensures { λ r. ⌜ now (out .exit) ≡ imageOf (boardOf (now (sets .entry)) rest) ⌝ }
@@ -269,7 +271,7 @@ fn fill_image(out: &mut [u8], sets: &[[u64; WORDS]; 192], rest: Rest)
 }
 
 // Writes the image of a board, sound or not, by its sets and the rest, and says whether it could: a buffer of another length stays as it was.
-pub fn put_image_of(out: &mut [u8], sets: &[[u64; WORDS]; 192], rest: Rest) -> bool
+pub fn put_image_of(out: &mut [u8], sets: &Sets, rest: Rest) -> bool
     requires { ⌜ IsStore (now sets) ⌝ }
     ensures { λ r. ⌜ r ≡ imageFits (now (out .entry)) ⌝ }
     ensures { λ r. ⌜ now (out .exit) ≡ imageIn (now (out .entry)) (boardOf (now (sets .entry)) rest) ⌝ }
@@ -286,7 +288,7 @@ pub fn put_image(out: &mut [u8], b: Board) -> bool
     ensures { λ r. ⌜ r ≡ imageFits (now (out .entry)) ⌝ }
     ensures { λ r. ⌜ now (out .exit) ≡ imageIn (now (out .entry)) b ⌝ }
 {
-    let mut sets = [[0u64; WORDS]; 192];
+    let mut sets = [[0u64; WORDS]; PLACES];
     let rest = store::sets::take(b, &mut sets);
     put_image_of(out, &sets, rest)
 }
@@ -410,9 +412,9 @@ fn row_fits(s: &[u8], x: &[u8]) -> bool
 }
 
 // Reads a set into place k.
-fn take_set(s: &[u8], sets: &mut [[u64; WORDS]; 192], k: usize)
+fn take_set(s: &[u8], sets: &mut Sets, k: usize)
     requires { ⌜ length (now s) ≡ setSection .size ⌝ }
-    requires { ⌜ (k < 192) × IsStore (now sets) ⌝ }
+    requires { ⌜ (k < placeCount) × IsStore (now sets) ⌝ }
     ensures { λ _. ⌜ now (sets .exit) ≡ set (now (sets .entry)) k (wordsFor wordCount (setSection .read (now (s .entry)))) ⌝ }
     ensures { λ _. ⌜ setOf (wordsFor wordCount (setSection .read (now (s .entry)))) ≡ setSection .read (now (s .entry)) ⌝ }
     ensures { λ _. ⌜ IsStore (now (sets .exit)) ⌝ }
@@ -422,7 +424,7 @@ fn take_set(s: &[u8], sets: &mut [[u64; WORDS]; 192], k: usize)
 }
 
 // Reads three sets, by mode: the first into place k, the others 32 and 64 places further.
-fn take_three(a: &[u8], b: &[u8], c: &[u8], sets: &mut [[u64; WORDS]; 192], k: usize)
+fn take_three(a: &[u8], b: &[u8], c: &[u8], sets: &mut Sets, k: usize)
     requires { ⌜ (length (now a) ≡ setSection .size) × (length (now b) ≡ setSection .size) × (length (now c) ≡ setSection .size) ⌝ }
     requires { ⌜ (k < 128) × IsStore (now sets) ⌝ }
     ensures { λ _. ⌜ PutsFrom k (byMode (setSection .read (now (a .entry))) (setSection .read (now (b .entry))) (setSection .read (now (c .entry))))
@@ -434,7 +436,7 @@ fn take_three(a: &[u8], b: &[u8], c: &[u8], sets: &mut [[u64; WORDS]; 192], k: u
 }
 
 // Reads the two rows of program p: its sets go into their places.
-fn read_sets(s: &[u8], x: &[u8], sets: &mut [[u64; WORDS]; 192], p: u8)
+fn read_sets(s: &[u8], x: &[u8], sets: &mut Sets, p: u8)
     requires { ⌜ (length (now s) ≡ rowSection .size) × (length (now x) ≡ inquirySection .size) ⌝ }
     requires { ⌜ ((1 ≤ p) × (p ≤ 32)) × IsStore (now sets) ⌝ }
     ensures { λ _. ⌜ PutAt (joined (rowSection .read (now (s .entry))) (inquirySection .read (now (x .entry)))) (p - 1)
@@ -495,7 +497,7 @@ fn rows_fit(s: &[u8]) -> bool
 }
 
 // Reads the rows of an image: the sets go into their places, and the seats come back.
-fn read_rows(s: &[u8], sets: &mut [[u64; WORDS]; 192]) -> [Seat; 32]
+fn read_rows(s: &[u8], sets: &mut Sets) -> [Seat; 32]
     requires { ⌜ length (now s) ≡ imageLength ⌝ }
     requires { ⌜ IsStore (now sets) ⌝ }
     ensures { λ r. ⌜ SeatsTo (imageSection .read (now (s .entry))) 32 r ⌝ }
@@ -534,7 +536,7 @@ fn read_places(s: &[u8]) -> [u8; 32]
 }
 
 // The board of an image, by its sets and the rest, or a refusal with the empty board.
-pub fn load_in(image: &[u8], sets: &mut [[u64; WORDS]; 192]) -> LoadedRest
+pub fn load_in(image: &[u8], sets: &mut Sets) -> LoadedRest
     requires { ⌜ now sets ≡ emptySets ⌝ }
     ensures { λ r. ⌜ loadedIn (now (sets .exit)) r ≡ loadedOf (now (image .entry)) ⌝ }
     ensures { λ _. ⌜ IsStore (now (sets .exit)) ⌝ }
@@ -567,7 +569,7 @@ pub fn load_in(image: &[u8], sets: &mut [[u64; WORDS]; 192]) -> LoadedRest
 pub fn load(image: &[u8]) -> Loaded
     ensures { λ r. ⌜ r ≡ loadedOf (now (image .entry)) ⌝ }
 {
-    let mut sets = [[0u64; WORDS]; 192];
+    let mut sets = [[0u64; WORDS]; PLACES];
     let l = load_in(image, &mut sets);
     let ok = l.ok;
     let rest = l.rest;

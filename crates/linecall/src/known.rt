@@ -1,13 +1,14 @@
 // A request line on a board that is known to be sound: check 2, the line, the direct call that it asks for,
 // and its lines in the journal.
 use apply::Changed;
-use files::WORDS;
+use parts::entries::Entries;
 use request::Reading;
 use request::Request;
 use rules::Line;
 use rules::Refusal;
 use rules::Word;
 use store::Rest;
+use store::sets::Sets;
 ghost use mathlib.Core.Path.{_≡_};
 ghost use mathlib.Core.Bool.{true};
 ghost use Prim.Native.Nat.{_+_, _*_, _≤_};
@@ -58,8 +59,8 @@ fn refuse_line(q: Request, n: u8) -> Line
 
 // Writes a call's lines into the journal from the place on, and gives the new place.
 fn write_lines(
-    sets: &[[u64; WORDS]; 192],
-    lines: &[[u16; 5]; 32],
+    sets: &Sets,
+    lines: &Entries,
     journal: &mut [u8],
     place: usize,
     q: Request,
@@ -83,12 +84,7 @@ fn write_lines(
 }
 
 // The direct call that a taken line asks for.
-fn call(
-    sets: &mut [[u64; WORDS]; 192],
-    rest: Rest,
-    lines: &mut [[u16; 5]; 32],
-    q: Request,
-) -> Changed
+fn call(sets: &mut Sets, rest: Rest, lines: &mut Entries, q: Request) -> Changed
     requires { ⌜ (sound (boardOf (now sets) rest) ≡ true) × IsStore (now sets) × (now lines ≡ noEntries) ⌝ }
     ensures { λ r. ⌜ ComesTo (now (sets .exit)) (now (lines .exit)) r (direct (boardOf (now (sets .entry)) rest) (requestCall q)) ⌝ }
     ensures { λ _. ⌜ IsStore (now (sets .exit)) × IsEntries (now (lines .exit)) ⌝ }
@@ -98,12 +94,7 @@ fn call(
 }
 
 // What a line comes to: its direct call, or a refusal.
-fn reply_to(
-    sets: &mut [[u64; WORDS]; 192],
-    rest: Rest,
-    lines: &mut [[u16; 5]; 32],
-    q: Request,
-) -> Changed
+fn reply_to(sets: &mut Sets, rest: Rest, lines: &mut Entries, q: Request) -> Changed
     requires { ⌜ (sound (boardOf (now sets) rest) ≡ true) × IsStore (now sets) × (now lines ≡ noEntries) ⌝ }
     ensures { λ r. ⌜ ComesTo (now (sets .exit)) (now (lines .exit)) r (replyTo (boardOf (now (sets .entry)) rest) q) ⌝ }
     ensures { λ _. ⌜ IsStore (now (sets .exit)) × IsEntries (now (lines .exit)) ⌝ }
@@ -117,9 +108,9 @@ fn reply_to(
 
 // The line call on a sound board, but for the order of its reply.
 pub fn line(
-    sets: &mut [[u64; WORDS]; 192],
+    sets: &mut Sets,
     rest: Rest,
-    lines: &mut [[u16; 5]; 32],
+    lines: &mut Entries,
     line: &[u8],
     journal: &mut [u8],
     place: u64,

@@ -1,8 +1,11 @@
 // The line call, tested: check 1, then the line on the board, which is then known to be sound (`known`).
 use digraph::Loop;
 use files::WORDS;
+use parts::entries::LINES;
+use parts::entries::NUMBERS;
 use rules::Board;
 use rules::Reply;
+use store::sets::PLACES;
 ghost use mathlib.Core.Path.{_≡_};
 ghost use mathlib.Core.Bool.{true};
 ghost use Rattle.rules.specs.Digraph.{mayCarry};
@@ -27,7 +30,7 @@ pub fn line_call(b: Board, line: &[u8], journal: &mut [u8], place: u64) -> Poste
     ensures { λ r. ⌜ now (journal .exit) ≡ lineCall b (now (line .entry)) (now (journal .entry)) place .journal ⌝ }
     ensures { λ r. ⌜ mayCarry b (requestCall (requestOf (now (line .entry)))) (r .reply .answer) (named (r .carries)) ≡ true ⌝ }
 {
-    let mut sets = [[0u64; WORDS]; 192];
+    let mut sets = [[0u64; WORDS]; PLACES];
     let rest = store::sets::take(b, &mut sets);
     let j = sound::judge(&sets, rest);
     if !j.sound {
@@ -38,7 +41,7 @@ pub fn line_call(b: Board, line: &[u8], journal: &mut [u8], place: u64) -> Poste
             carries: Loop::NONE,
         };
     }
-    let mut lines = [[0u16; 5]; 32];
+    let mut lines = [[0u16; NUMBERS]; LINES];
     let s = known::line(&mut sets, rest, &mut lines, line, journal, place);
     let order = j.order;
     let reply = reply::complete(&sets, &lines, s.changed, order);

@@ -4,6 +4,16 @@ use rules::Word;
 ghost use mathlib.Core.Path.{_≡_};
 ghost use Rattle.parts.specs.Entries.{wordNumber, wordNumbered, entryOf, lineIn};
 
+// The numbers of a line: that of its word, program, file, refusal, record.
+pub const NUMBERS: usize = 5;
+
+// The lines of a call: at most 32.
+pub const LINES: usize = 32;
+
+pub type Entry = [u16; NUMBERS];
+
+pub type Entries = [Entry; LINES];
+
 // The number of a word.
 fn word_number(w: Word) -> u16
     ensures { λ r. ⌜ r ≡ wordNumber w ⌝ }
@@ -36,8 +46,8 @@ fn word_numbered(n: u16) -> Word
     }
 }
 
-// The numbers of a line: that of its word, program, file, refusal, record.
-pub fn entry_of(l: Line) -> [u16; 5]
+// The numbers of a line.
+pub fn entry_of(l: Line) -> Entry
     ensures { λ r. ⌜ r ≡ entryOf l ⌝ }
 {
     let word = l.word;
@@ -46,7 +56,7 @@ pub fn entry_of(l: Line) -> [u16; 5]
 }
 
 // The line in five numbers.
-pub fn line_in(e: [u16; 5]) -> Line
+pub fn line_in(e: Entry) -> Line
     ensures { λ r. ⌜ r ≡ lineIn e ⌝ }
 {
     let word = word_numbered(e[0]);

@@ -1,7 +1,7 @@
 // The reply with the board by value, made of what a call comes to; at the edges only.
 use apply::Changed;
-use files::WORDS;
 use parts::entries;
+use parts::entries::Entries;
 use rules::Answer;
 use rules::Board;
 use rules::Line;
@@ -10,6 +10,7 @@ use rules::Reply;
 use rules::Word;
 use search::Order;
 use search::Search;
+use store::sets::Sets;
 ghost use mathlib.Core.Path.{_≡_};
 ghost use mathlib.Core.Bool.{true};
 ghost use Rattle.rules.specs.Orders.{carried};
@@ -31,7 +32,7 @@ const BLANK: Line = Line {
 };
 
 // The lines in the array.
-fn lines_of(lines: &[[u16; 5]; 32]) -> [Line; 32]
+fn lines_of(lines: &Entries) -> [Line; 32]
     requires { ⌜ IsEntries (now lines) ⌝ }
     ensures { λ r. ⌜ r ≡ linesIn (now (lines .entry)) ⌝ }
 {
@@ -72,12 +73,7 @@ fn with_order(b: Board, lines: [Line; 32], count: u8, answer: Answer, order: Ord
 }
 
 // The reply to a call; `before` is the order of the board before the call, which a refusal leaves as it was.
-pub fn complete(
-    sets: &[[u64; WORDS]; 192],
-    lines: &[[u16; 5]; 32],
-    c: Changed,
-    before: Order,
-) -> Reply
+pub fn complete(sets: &Sets, lines: &Entries, c: Changed, before: Order) -> Reply
     requires { ⌜ (refused (c .answer) ≡ true → before ≡ asOrder (carried (boardOf (now sets) (c .progress .rest))))
         × IsStore (now sets) × IsEntries (now lines) ⌝ }
     ensures { λ r. ⌜ r ≡ replied (writtenIn (now (sets .entry)) (now (lines .entry)) (c .progress)) (c .answer) ⌝ }

@@ -1,10 +1,10 @@
 // Whether a file can be given, by the arrays of a board.
 use crate::Order;
 use crate::Uses;
-use files::WORDS;
 use files::words;
 use store::Rest;
 use store::sets;
+use store::sets::Sets;
 use tables::ProgramSet;
 use tables::shared::Shared;
 ghost use mathlib.Core.Path.{_≡_};
@@ -14,7 +14,7 @@ ghost use Rattle.search.specs.Gives.{usesIn, usedIn, holdersIn, safeIn, 
 ghost use Rattle.rules.specs.Orders.{carried, withGiven};
 ghost use Rattle.files.specs.Sets.{member};
 ghost use Rattle.files.specs.Words.{setOf};
-ghost use Rattle.store.specs.Sets.{IsStore, rowIn};
+ghost use Rattle.store.specs.Sets.{placeCount, IsStore, rowIn};
 ghost use Rattle.store.specs.Store.{boardOf};
 ghost use Rattle.search.specs.Rows.{asOrder};
 ghost use Rattle.tables.specs.ProgramSets.{hasProgram};
@@ -22,7 +22,7 @@ ghost use Rattle.tables.specs.Shared.{othersOf};
 ghost use Rattle.tables.specs.Tables.{packed, rowsOf};
 
 // What is open, by the sets, with these admitted.
-pub fn uses_in(admitted: ProgramSet, sets: &[[u64; WORDS]; 192]) -> Uses
+pub fn uses_in(admitted: ProgramSet, sets: &Sets) -> Uses
     ensures { λ r. ⌜ r ≡ usesIn admitted (now (sets .entry)) ⌝ }
 {
     let files = tables::shared::opened(sets);
@@ -30,8 +30,8 @@ pub fn uses_in(admitted: ProgramSet, sets: &[[u64; WORDS]; 192]) -> Uses
 }
 
 // Whether another has f than the one whose row of open files stands in this place, by what all have open in its mode.
-fn another_has(sets: &[[u64; WORDS]; 192], place: usize, all: Shared, f: u8) -> bool
-    requires { ⌜ (place < 192) × IsStore (now sets) ⌝ }
+fn another_has(sets: &Sets, place: usize, all: Shared, f: u8) -> bool
+    requires { ⌜ (place < placeCount) × IsStore (now sets) ⌝ }
     ensures { λ r. ⌜ r ≡ member (setOf (othersOf all (rowIn (now (sets .entry)) place))) f ⌝ }
 {
     let others = all.by_others(sets[place]);
@@ -40,7 +40,7 @@ fn another_has(sets: &[[u64; WORDS]; 192], place: usize, all: Shared, f: u8) -> 
 
 // Whether another than p has f open in a mode that clashes with the one in which p opens it: on a board without conflict that is
 // conflicting use.
-pub fn in_use(sets: &[[u64; WORDS]; 192], u: Uses, p: u8, f: u8) -> bool
+pub fn in_use(sets: &Sets, u: Uses, p: u8, f: u8) -> bool
     requires { ⌜ ((1 ≤ p) × (p ≤ 32)) × IsStore (now sets) ⌝ }
     ensures { λ r. ⌜ r ≡ usedIn (now (sets .entry)) u p f ⌝ }
 {
@@ -69,7 +69,7 @@ pub fn in_use(sets: &[[u64; WORDS]; 192], u: Uses, p: u8, f: u8) -> bool
 // Whether giving f to p is safe: on a board that has an order, whether one comes back. Those that hold p back, directly or through
 // others, are found one after another, until one claims f so that p would hold it back, or there are no more. Who is found is
 // tested no more: each ordered pair is tested at most once.
-pub fn is_safe(sets: &[[u64; WORDS]; 192], admitted: ProgramSet, p: u8, f: u8) -> bool
+pub fn is_safe(sets: &Sets, admitted: ProgramSet, p: u8, f: u8) -> bool
     requires { ⌜ ((1 ≤ p) × (p ≤ 32)) × IsStore (now sets) ⌝ }
     ensures { λ r. ⌜ r ≡ safeIn (now (sets .entry)) admitted p f ⌝ }
 {
@@ -91,7 +91,7 @@ pub fn is_safe(sets: &[[u64; WORDS]; 192], admitted: ProgramSet, p: u8, f: u8) -
 }
 
 // Whether f can be given to p: on a sound board, where p has not f open, whether an open would give it.
-pub fn can_give(sets: &[[u64; WORDS]; 192], u: Uses, p: u8, f: u8) -> bool
+pub fn can_give(sets: &Sets, u: Uses, p: u8, f: u8) -> bool
     requires { ⌜ ((1 ≤ p) × (p ≤ 32)) × IsStore (now sets) ⌝ }
     ensures { λ r. ⌜ r ≡ giveIn (now (sets .entry)) u p f ⌝ }
 {
@@ -122,13 +122,7 @@ fn holders_in(rows: &[u32; 32], p: u8, set: ProgramSet) -> ProgramSet
 }
 
 // The same as `is_safe`, of an admitted program, where the rows of the admitted are filled: who holds back whom is read from them.
-pub fn is_safe_by(
-    sets: &[[u64; WORDS]; 192],
-    rows: &[u32; 32],
-    admitted: ProgramSet,
-    p: u8,
-    f: u8,
-) -> bool
+pub fn is_safe_by(sets: &Sets, rows: &[u32; 32], admitted: ProgramSet, p: u8, f: u8) -> bool
     requires { ⌜ ((1 ≤ p) × (p ≤ 32)) × IsStore (now sets) × (hasProgram admitted p ≡ true) × (now rows ≡ rowsOf (now sets) admitted) ⌝ }
     ensures { λ r. ⌜ r ≡ safeIn (now (sets .entry)) admitted p f ⌝ }
 {
@@ -150,7 +144,7 @@ pub fn is_safe_by(
 }
 
 // The same as `can_give`, of an admitted program, by the rows.
-pub fn can_give_by(sets: &[[u64; WORDS]; 192], rows: &[u32; 32], u: Uses, p: u8, f: u8) -> bool
+pub fn can_give_by(sets: &Sets, rows: &[u32; 32], u: Uses, p: u8, f: u8) -> bool
     requires { ⌜ ((1 ≤ p) × (p ≤ 32)) × IsStore (now sets) × (hasProgram (u .admitted) p ≡ true) × (now rows ≡ rowsOf (now sets) (u .admitted)) ⌝ }
     ensures { λ r. ⌜ r ≡ giveIn (now (sets .entry)) u p f ⌝ }
 {
@@ -162,7 +156,7 @@ pub fn can_give_by(sets: &[[u64; WORDS]; 192], rows: &[u32; 32], u: Uses, p: u8,
 }
 
 // The order with f given to p; the sets are then as they were.
-pub fn order_given(sets: &mut [[u64; WORDS]; 192], rest: Rest, p: u8, f: u8) -> Order
+pub fn order_given(sets: &mut Sets, rest: Rest, p: u8, f: u8) -> Order
     requires { ⌜ ((1 ≤ p) × (p ≤ 32)) × IsStore (now sets) ⌝ }
     ensures { λ r. ⌜ r ≡ asOrder (carried (withGiven (boardOf (now (sets .entry)) rest) p f)) ⌝ }
     ensures { λ _. ⌜ now (sets .exit) ≡ now (sets .entry) ⌝ }

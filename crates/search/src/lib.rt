@@ -1,6 +1,6 @@
 // The carried order of a board, by its sets and the rest, and whether a file can be given (`gives`).
-use files::WORDS;
 use store::Rest;
+use store::sets::Sets;
 use tables::ProgramSet;
 use tables::shared::OpenFiles;
 ghost use mathlib.Core.Path.{_≡_};
@@ -147,7 +147,7 @@ pub fn order_in(rows: &[u32; 32], left: ProgramSet) -> Order
 }
 
 // The carried order of the board's admitted programs.
-pub fn carried_in(sets: &[[u64; WORDS]; 192], rest: Rest) -> Order
+pub fn carried_in(sets: &Sets, rest: Rest) -> Order
     requires { ⌜ IsStore (now sets) ⌝ }
     ensures { λ r. ⌜ r ≡ asOrder (carried (boardOf (now (sets .entry)) rest)) ⌝ }
 {

@@ -1,7 +1,7 @@
 // The counts: for each waiting program, how many were admitted since it began to wait.
-use files::WORDS;
 use rules::Standing;
 use store::Rest;
+use store::sets::Sets;
 ghost use mathlib.Core.Path.{_≡_};
 ghost use mathlib.Core.Bool.{true, cond};
 ghost use mathlib.Core.Option.{Option·getD};
@@ -24,7 +24,7 @@ fn one_more(s: Standing, n: u8) -> u8
 }
 
 // The counts when one more is admitted: that of each waiting program goes up by 1, and is 0 for all others.
-pub fn tally(sets: &[[u64; WORDS]; 192], rest: Rest) -> [u8; 32]
+pub fn tally(sets: &Sets, rest: Rest) -> [u8; 32]
     requires { ⌜ CountsFew (rest .passed) ⌝ }
     ensures { λ r. ⌜ r ≡ tallied (boardOf (now (sets .entry)) rest) ⌝ }
 {
@@ -40,7 +40,7 @@ pub fn tally(sets: &[[u64; WORDS]; 192], rest: Rest) -> [u8; 32]
 }
 
 // The oldest waiter whose count is 8, or 0.
-pub fn oldest_overdue(sets: &[[u64; WORDS]; 192], rest: Rest) -> u8
+pub fn oldest_overdue(sets: &Sets, rest: Rest) -> u8
     requires { ⌜ all isProgram (names (rest .waiting)) ≡ true ⌝ }
     ensures { λ r. ⌜ r ≡ Option·getD (overdue (boardOf (now (sets .entry)) rest)) 0 ⌝ }
 {

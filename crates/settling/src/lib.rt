@@ -1,12 +1,14 @@
 // Settling, on the sets of the programs, which are lent, and the rest of the board; each line is written where it stands.
-use files::WORDS;
 use parts::entries;
+use parts::entries::Entries;
+use parts::entries::Entry;
 use rules::Line;
 use rules::Standing;
 use rules::Word;
 use search::Uses;
 use store::Rest;
 use store::Seat;
+use store::sets::Sets;
 ghost use mathlib.Core.Path.{_≡_};
 ghost use mathlib.Core.Bool.{true, not, cond, _&&_};
 ghost use lib.Dec.{eqb};
@@ -32,7 +34,7 @@ pub struct Progress {
 }
 
 // The numbers of a line of an accepted call.
-pub fn line_of(word: Word, p: u8, f: u8, n: u16) -> [u16; 5]
+pub fn line_of(word: Word, p: u8, f: u8, n: u16) -> Entry
     ensures { λ r. ⌜ r ≡ entryOf (lineOf word p f n) ⌝ }
 {
     entries::entry_of(Line {
@@ -97,7 +99,7 @@ fn fill_asked(rest: Rest, asked: &mut [u8; 32])
 }
 
 // Whether an open would now give p the file that it asks for; not if it asks for none.
-fn can_serve(sets: &[[u64; WORDS]; 192], uses: Uses, p: u8, f: u8) -> bool
+fn can_serve(sets: &Sets, uses: Uses, p: u8, f: u8) -> bool
     requires { ⌜ ((1 ≤ p) × (p ≤ 32)) × IsStore (now sets) ⌝ }
     ensures { λ r. ⌜ r ≡ not (eqb f 0) && giveIn (now (sets .entry)) uses p f ⌝ }
 {
@@ -108,13 +110,7 @@ fn can_serve(sets: &[[u64; WORDS]; 192], uses: Uses, p: u8, f: u8) -> bool
 }
 
 // The place of the next waiter, from a place of the line on, to which an open would now give its file; 32 if there is none.
-fn next_given(
-    sets: &[[u64; WORDS]; 192],
-    asked: &[u8; 32],
-    uses: Uses,
-    line: [u8; 32],
-    from: usize,
-) -> usize
+fn next_given(sets: &Sets, asked: &[u8; 32], uses: Uses, line: [u8; 32], from: usize) -> usize
     requires { ⌜ (from ≤ 32) × (all isProgram (names (drop from line)) ≡ true) × IsStore (now sets) ⌝ }
     ensures { λ r. ⌜ (from ≤ r) × (r ≤ 32) × NextFor (now (sets .entry)) (now (asked .entry)) uses line from r ⌝ }
 {
@@ -134,7 +130,7 @@ fn next_given(
 }
 
 // Once through the waiting line, from the oldest: a GIVEN line for each waiter that is given its file.
-fn pass_line(sets: &mut [[u64; WORDS]; 192], lines: &mut [[u16; 5]; 32], w: Progress) -> Progress
+fn pass_line(sets: &mut Sets, lines: &mut Entries, w: Progress) -> Progress
     requires { ⌜ Loose (boardOf (now sets) (w .rest)) × Counts (boardOf (now sets) (w .rest))
         × Fits (writtenIn (now sets) (now lines) w) (pass (names (w .rest .waiting)) (boardOf (now sets) (w .rest)))
         × IsStore (now sets) × IsEntries (now lines) ⌝ }
@@ -165,7 +161,7 @@ fn pass_line(sets: &mut [[u64; WORDS]; 192], lines: &mut [[u16; 5]; 32], w: Prog
 }
 
 // Whether the program p, which waits in this seat, waits for a file, in no conflicting use, and not for a record.
-fn is_unused(sets: &[[u64; WORDS]; 192], uses: Uses, p: u8, seat: Seat) -> bool
+fn is_unused(sets: &Sets, uses: Uses, p: u8, seat: Seat) -> bool
     requires { ⌜ ((1 ≤ p) × (p ≤ 32)) × IsStore (now sets) ⌝ }
     ensures { λ r. ⌜ r ≡ eqb (seat .item) 0 && not (usedIn (now (sets .entry)) uses p (awaitedOf (seat .standing))) ⌝ }
 {
@@ -179,7 +175,7 @@ fn is_unused(sets: &[[u64; WORDS]; 192], uses: Uses, p: u8, seat: Seat) -> bool
 }
 
 // The oldest waiter whose file is in no conflicting use, or 0: waits for a record "are never favoured for want of an order".
-fn oldest_unused(sets: &[[u64; WORDS]; 192], rest: Rest) -> u8
+fn oldest_unused(sets: &Sets, rest: Rest) -> u8
     requires { ⌜ Loose (boardOf (now sets) rest) × IsStore (now sets) ⌝ }
     ensures { λ r. ⌜ r ≡ Option·getD (candidate (boardOf (now (sets .entry)) rest)) 0 ⌝ }
 {
@@ -206,12 +202,7 @@ fn oldest_unused(sets: &[[u64; WORDS]; 192], rest: Rest) -> u8
 }
 
 // The waiter p becomes favoured, with the number admitted and a leave count of 0: a FAVOUR line, with the record if it awaits one.
-pub fn favour_waiter(
-    sets: &[[u64; WORDS]; 192],
-    lines: &mut [[u16; 5]; 32],
-    w: Progress,
-    p: u8,
-) -> Progress
+pub fn favour_waiter(sets: &Sets, lines: &mut Entries, w: Progress, p: u8) -> Progress
     requires { ⌜ ((1 ≤ p) × (p ≤ 32)) × (w .count < 32) × IsEntries (now lines) ⌝ }
     ensures { λ r. ⌜ writtenIn (now (sets .entry)) (now (lines .exit)) r
         ≡ after (writtenIn (now (sets .entry)) (now (lines .entry)) w) (favour (boardOf (now (sets .entry)) (w .rest)) p) ⌝ }
@@ -252,7 +243,7 @@ fn waits_for(seat: Seat, f: u8, n: u16) -> bool
 }
 
 // The oldest waiter for the record n of f, or 0.
-fn oldest_for(sets: &[[u64; WORDS]; 192], rest: Rest, f: u8, n: u16) -> u8
+fn oldest_for(sets: &Sets, rest: Rest, f: u8, n: u16) -> u8
     requires { ⌜ all isProgram (names (rest .waiting)) ≡ true ⌝ }
     ensures { λ r. ⌜ r ≡ Option·getD (recordWaiter (boardOf (now (sets .entry)) rest) f n) 0 ⌝ }
 {
@@ -274,13 +265,7 @@ fn oldest_for(sets: &[[u64; WORDS]; 192], rest: Rest, f: u8, n: u16) -> u8
 }
 
 // "the oldest waiter for the record gets it (GIVEN)": the record n of f, which nobody has in use any more, is handed on.
-pub fn hand_on(
-    sets: &[[u64; WORDS]; 192],
-    lines: &mut [[u16; 5]; 32],
-    w: Progress,
-    f: u8,
-    n: u16,
-) -> Progress
+pub fn hand_on(sets: &Sets, lines: &mut Entries, w: Progress, f: u8, n: u16) -> Progress
     requires { ⌜ Loose (boardOf (now sets) (w .rest)) × (w .count < 32) × IsStore (now sets) × IsEntries (now lines) ⌝ }
     ensures { λ r. ⌜ writtenIn (now (sets .entry)) (now (lines .exit)) r
         ≡ after (writtenIn (now (sets .entry)) (now (lines .entry)) w) (handOn (boardOf (now (sets .entry)) (w .rest)) f n) ⌝ }
@@ -301,7 +286,7 @@ pub fn hand_on(
 }
 
 // The held program p runs, out of the entry line, and the waiters' counts go up: an ADMIT line.
-fn admit_one(sets: &[[u64; WORDS]; 192], lines: &mut [[u16; 5]; 32], w: Progress, p: u8) -> Progress
+fn admit_one(sets: &Sets, lines: &mut Entries, w: Progress, p: u8) -> Progress
     requires { ⌜ ((1 ≤ p) × (p ≤ 32)) × (w .count < 32) × CountsFew (w .rest .passed) × IsStore (now sets) × IsEntries (now lines) ⌝ }
     ensures { λ r. ⌜ writtenIn (now (sets .entry)) (now (lines .exit)) r
         ≡ after (writtenIn (now (sets .entry)) (now (lines .entry)) w) (admitOne (boardOf (now (sets .entry)) (w .rest)) p) ⌝ }
@@ -331,7 +316,7 @@ fn first_held(rest: Rest) -> u8
 }
 
 // The held programs run, one after another from the oldest, until a waiter's count is 8: that one is then favoured.
-fn admit_held(sets: &[[u64; WORDS]; 192], lines: &mut [[u16; 5]; 32], w: Progress) -> Progress
+fn admit_held(sets: &Sets, lines: &mut Entries, w: Progress) -> Progress
     requires { ⌜ Loose (boardOf (now sets) (w .rest)) × Counts (boardOf (now sets) (w .rest)) × (w .rest .favoured ≡ 0)
         × Fits (writtenIn (now sets) (now lines) w) (runHeld (names (w .rest .entry)) (boardOf (now sets) (w .rest)))
         × IsStore (now sets) × IsEntries (now lines) ⌝ }
@@ -353,7 +338,7 @@ fn admit_held(sets: &[[u64; WORDS]; 192], lines: &mut [[u16; 5]; 32], w: Progres
 }
 
 // If nobody is favoured, the oldest waiter whose file is not in use is; if there is none, the held programs run.
-fn choose_next(sets: &[[u64; WORDS]; 192], lines: &mut [[u16; 5]; 32], w: Progress) -> Progress
+fn choose_next(sets: &Sets, lines: &mut Entries, w: Progress) -> Progress
     requires { ⌜ Loose (boardOf (now sets) (w .rest)) × Counts (boardOf (now sets) (w .rest))
         × Fits (writtenIn (now sets) (now lines) w) (choose (boardOf (now sets) (w .rest))) × IsStore (now sets) × IsEntries (now lines) ⌝ }
     ensures { λ r. ⌜ writtenIn (now (sets .entry)) (now (lines .exit)) r
@@ -373,7 +358,7 @@ fn choose_next(sets: &[[u64; WORDS]; 192], lines: &mut [[u16; 5]; 32], w: Progre
 }
 
 // Settle, where somebody waits or is held.
-fn settle_lines(sets: &mut [[u64; WORDS]; 192], lines: &mut [[u16; 5]; 32], w: Progress) -> Progress
+fn settle_lines(sets: &mut Sets, lines: &mut Entries, w: Progress) -> Progress
     requires { ⌜ Loose (boardOf (now sets) (w .rest)) × Counts (boardOf (now sets) (w .rest))
         × Fits (writtenIn (now sets) (now lines) w) (settle (boardOf (now sets) (w .rest))) × IsStore (now sets) × IsEntries (now lines) ⌝ }
     ensures { λ r. ⌜ writtenIn (now (sets .exit)) (now (lines .exit)) r
@@ -385,7 +370,7 @@ fn settle_lines(sets: &mut [[u64; WORDS]; 192], lines: &mut [[u16; 5]; 32], w: P
 }
 
 // Settle: through the waiting line once from the oldest, then favour or run those held.
-pub fn settled(sets: &mut [[u64; WORDS]; 192], lines: &mut [[u16; 5]; 32], w: Progress) -> Progress
+pub fn settled(sets: &mut Sets, lines: &mut Entries, w: Progress) -> Progress
     requires { ⌜ Loose (boardOf (now sets) (w .rest)) × Counts (boardOf (now sets) (w .rest))
         × Fits (writtenIn (now sets) (now lines) w) (settle (boardOf (now sets) (w .rest))) × IsStore (now sets) × IsEntries (now lines) ⌝ }
     ensures { λ r. ⌜ writtenIn (now (sets .exit)) (now (lines .exit)) r

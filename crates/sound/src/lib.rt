@@ -9,6 +9,7 @@ use search::Uses;
 use store::Rest;
 use store::Seat;
 use store::sets;
+use store::sets::Sets;
 use tables::ProgramSet;
 ghost use mathlib.Core.Path.{_≡_};
 ghost use mathlib.Core.Bool.{true, false, cond, _&&_};
@@ -21,7 +22,7 @@ ghost use Rattle.rules.specs.Boards.{everyone};
 ghost use Rattle.rules.specs.Modes.{eachMode};
 ghost use Rattle.rules.specs.Orders.{carried};
 ghost use Rattle.rules.specs.Soundness.{setsSound, itemSound, programSound, lineSound, sound};
-ghost use Rattle.store.specs.Sets.{IsStore, setIn, claimAt, openAt};
+ghost use Rattle.store.specs.Sets.{placeCount, IsStore, setIn, claimAt, openAt};
 ghost use Rattle.store.specs.Store.{programWith, boardOf};
 ghost use Rattle.tables.specs.ProgramSets.{hasProgram};
 ghost use Rattle.tables.specs.Tables.{rowsOf};
@@ -37,24 +38,24 @@ pub struct Judged {
 }
 
 // Whether the set in the first place is within the one in the second.
-fn is_within(sets: &[[u64; WORDS]; 192], k: usize, n: usize) -> bool
-    requires { ⌜ (k < 192) × (n < 192) × IsStore (now sets) ⌝ }
+fn is_within(sets: &Sets, k: usize, n: usize) -> bool
+    requires { ⌜ (k < placeCount) × (n < placeCount) × IsStore (now sets) ⌝ }
     ensures { λ r. ⌜ r ≡ within (setIn (now (sets .entry)) k) (setIn (now (sets .entry)) n) ⌝ }
 {
     words::within(&sets[k], &sets[n])
 }
 
 // Whether the sets in two places share a file.
-fn do_meet(sets: &[[u64; WORDS]; 192], k: usize, n: usize) -> bool
-    requires { ⌜ (k < 192) × (n < 192) × IsStore (now sets) ⌝ }
+fn do_meet(sets: &Sets, k: usize, n: usize) -> bool
+    requires { ⌜ (k < placeCount) × (n < placeCount) × IsStore (now sets) ⌝ }
     ensures { λ r. ⌜ r ≡ meets (setIn (now (sets .entry)) k) (setIn (now (sets .entry)) n) ⌝ }
 {
     words::meets(&sets[k], &sets[n])
 }
 
 // Whether the sets in three places are empty.
-fn are_empty(sets: &[[u64; WORDS]; 192], k: usize, m: usize, n: usize) -> bool
-    requires { ⌜ (k < 192) × (m < 192) × (n < 192) × IsStore (now sets) ⌝ }
+fn are_empty(sets: &Sets, k: usize, m: usize, n: usize) -> bool
+    requires { ⌜ (k < placeCount) × (m < placeCount) × (n < placeCount) × IsStore (now sets) ⌝ }
     ensures { λ r. ⌜ r ≡ emptyIn (now (sets .entry)) k m n ⌝ }
 {
     if !words::is_empty(&sets[k]) {
@@ -67,7 +68,7 @@ fn are_empty(sets: &[[u64; WORDS]; 192], k: usize, m: usize, n: usize) -> bool
 }
 
 // W is within V, R within Q, I within J.
-fn opens_claimed(sets: &[[u64; WORDS]; 192], p: u8) -> bool
+fn opens_claimed(sets: &Sets, p: u8) -> bool
     requires { ⌜ ((1 ≤ p) × (p ≤ 32)) × IsStore (now sets) ⌝ }
     ensures { λ r. ⌜ r ≡ eachMode (λ m. within (openAt (now (sets .entry)) p m) (claimAt (now (sets .entry)) p m)) ⌝ }
 {
@@ -87,7 +88,7 @@ fn opens_claimed(sets: &[[u64; WORDS]; 192], p: u8) -> bool
 }
 
 // Two of V, Q and J share a file.
-fn claims_meet(sets: &[[u64; WORDS]; 192], p: u8) -> bool
+fn claims_meet(sets: &Sets, p: u8) -> bool
     requires { ⌜ ((1 ≤ p) × (p ≤ 32)) × IsStore (now sets) ⌝ }
     ensures { λ r. ⌜ r ≡ claimsMeetIn (now (sets .entry)) p ⌝ }
 {
@@ -104,7 +105,7 @@ fn claims_meet(sets: &[[u64; WORDS]; 192], p: u8) -> bool
 }
 
 // W is within V, R within Q, I within J; no two of V, Q and J share a file.
-fn sets_sound(sets: &[[u64; WORDS]; 192], p: u8) -> bool
+fn sets_sound(sets: &Sets, p: u8) -> bool
     requires { ⌜ ((1 ≤ p) × (p ≤ 32)) × IsStore (now sets) ⌝ }
     ensures { λ r. ⌜ r ≡ setsSound (bareAt (now (sets .entry)) p) ⌝ }
 {
@@ -115,7 +116,7 @@ fn sets_sound(sets: &[[u64; WORDS]; 192], p: u8) -> bool
 }
 
 // Nothing is claimed.
-fn claims_nothing(sets: &[[u64; WORDS]; 192], p: u8) -> bool
+fn claims_nothing(sets: &Sets, p: u8) -> bool
     requires { ⌜ ((1 ≤ p) × (p ≤ 32)) × IsStore (now sets) ⌝ }
     ensures { λ r. ⌜ r ≡ eachMode (λ m. isEmpty (claimAt (now (sets .entry)) p m)) ⌝ }
 {
@@ -126,7 +127,7 @@ fn claims_nothing(sets: &[[u64; WORDS]; 192], p: u8) -> bool
 }
 
 // Nothing is open.
-fn opens_nothing(sets: &[[u64; WORDS]; 192], p: u8) -> bool
+fn opens_nothing(sets: &Sets, p: u8) -> bool
     requires { ⌜ ((1 ≤ p) × (p ≤ 32)) × IsStore (now sets) ⌝ }
     ensures { λ r. ⌜ r ≡ eachMode (λ m. isEmpty (openAt (now (sets .entry)) p m)) ⌝ }
 {
@@ -137,7 +138,7 @@ fn opens_nothing(sets: &[[u64; WORDS]; 192], p: u8) -> bool
 }
 
 // What is said of a program with this standing by itself: absent ones have empty sets, held ones nothing open.
-fn program_sound(sets: &[[u64; WORDS]; 192], p: u8, s: Standing) -> bool
+fn program_sound(sets: &Sets, p: u8, s: Standing) -> bool
     requires { ⌜ ((1 ≤ p) × (p ≤ 32)) × IsStore (now sets) ⌝ }
     ensures { λ r. ⌜ r ≡ isSoundWith (now (sets .entry)) p s ⌝ }
 {
@@ -172,7 +173,7 @@ fn may_have(s: Standing, f: u8) -> bool
 }
 
 // What is said of the record of p's seat: its file is in I, and p runs or waits for it; without a record there is no file of one.
-fn item_sound(sets: &[[u64; WORDS]; 192], p: u8, seat: Seat) -> bool
+fn item_sound(sets: &Sets, p: u8, seat: Seat) -> bool
     requires { ⌜ ((1 ≤ p) × (p ≤ 32)) × IsStore (now sets) ⌝ }
     ensures { λ r. ⌜ r ≡ itemSound (programWith (now (sets .entry)) (p - 1) seat) ⌝ }
 {
@@ -189,7 +190,7 @@ fn item_sound(sets: &[[u64; WORDS]; 192], p: u8, seat: Seat) -> bool
 }
 
 // What is said of p with this seat by itself.
-fn seat_sound(sets: &[[u64; WORDS]; 192], p: u8, seat: Seat) -> bool
+fn seat_sound(sets: &Sets, p: u8, seat: Seat) -> bool
     requires { ⌜ ((1 ≤ p) × (p ≤ 32)) × IsStore (now sets) ⌝ }
     ensures { λ r. ⌜ r ≡ programSound (programWith (now (sets .entry)) (p - 1) seat) ⌝ }
 {
@@ -201,7 +202,7 @@ fn seat_sound(sets: &[[u64; WORDS]; 192], p: u8, seat: Seat) -> bool
 }
 
 // Each program by itself.
-fn programs_sound(sets: &[[u64; WORDS]; 192], rest: Rest) -> bool
+fn programs_sound(sets: &Sets, rest: Rest) -> bool
     requires { ⌜ IsStore (now sets) ⌝ }
     ensures { λ r. ⌜ r ≡ all (isSoundAt (boardOf (now (sets .entry)) rest)) everyone ⌝ }
 {
@@ -217,7 +218,7 @@ fn programs_sound(sets: &[[u64; WORDS]; 192], rest: Rest) -> bool
 }
 
 // No two different programs conflict: what each has open does not clash with what those before it have.
-fn no_conflict(sets: &[[u64; WORDS]; 192]) -> bool
+fn no_conflict(sets: &Sets) -> bool
     requires { ⌜ IsStore (now sets) ⌝ }
     ensures { λ r. ⌜ r ≡ noConflictIn (now (sets .entry)) ⌝ }
 {
@@ -339,14 +340,7 @@ fn line_sound(line: [u8; 32], set: ProgramSet) -> bool
 }
 
 // The waiter's file is claimed, not open by it, and can't be given now; "covers file waits only": not if it waits for a record n.
-fn waiter_sound(
-    sets: &[[u64; WORDS]; 192],
-    rows: &[u32; 32],
-    uses: Uses,
-    p: u8,
-    f: u8,
-    n: u16,
-) -> bool
+fn waiter_sound(sets: &Sets, rows: &[u32; 32], uses: Uses, p: u8, f: u8, n: u16) -> bool
     requires { ⌜ ((1 ≤ p) × (p ≤ 32)) × IsStore (now sets) × (hasProgram (uses .admitted) p ≡ true) × (now rows ≡ rowsOf (now sets) (uses .admitted)) ⌝ }
     ensures { λ r. ⌜ WaiterFor (now (sets .entry)) uses p f n r ⌝ }
 {
@@ -363,13 +357,7 @@ fn waiter_sound(
 }
 
 // All waiters of a line that names waiting programs.
-fn waiters_sound(
-    sets: &[[u64; WORDS]; 192],
-    rows: &[u32; 32],
-    rest: Rest,
-    uses: Uses,
-    line: [u8; 32],
-) -> bool
+fn waiters_sound(sets: &Sets, rows: &[u32; 32], rest: Rest, uses: Uses, line: [u8; 32]) -> bool
     requires { ⌜ KnownLine (now sets) (now rows) rest uses line ⌝ }
     ensures { λ r. ⌜ r ≡ all (waiterAt (boardOf (now (sets .entry)) rest)) (names line) ⌝ }
 {
@@ -393,7 +381,7 @@ fn waiters_sound(
 
 // The same by who is admitted; what is open is asked only where somebody waits.
 fn line_waiters(
-    sets: &[[u64; WORDS]; 192],
+    sets: &Sets,
     rows: &[u32; 32],
     rest: Rest,
     admitted: ProgramSet,
@@ -574,7 +562,7 @@ fn seats_sound(rest: Rest) -> bool
 
 // Sets; no conflict; a completion order exists; the two lines; the waiters; the favoured program; the counts; the records.
 fn is_sound_by(
-    sets: &[[u64; WORDS]; 192],
+    sets: &Sets,
     rows: &[u32; 32],
     rest: Rest,
     admitted: ProgramSet,
@@ -612,7 +600,7 @@ fn is_sound_by(
 }
 
 // Whether the board is sound, and its carried order.
-pub fn judge(sets: &[[u64; WORDS]; 192], rest: Rest) -> Judged
+pub fn judge(sets: &Sets, rest: Rest) -> Judged
     requires { ⌜ IsStore (now sets) ⌝ }
     ensures { λ r. ⌜ (r .sound ≡ sound (boardOf (now (sets .entry)) rest)) × (r .order ≡ asOrder (carried (boardOf (now (sets .entry)) rest))) ⌝ }
 {
@@ -628,7 +616,7 @@ pub fn judge(sets: &[[u64; WORDS]; 192], rest: Rest) -> Judged
 }
 
 // Whether the board is sound.
-pub fn is_sound(sets: &[[u64; WORDS]; 192], rest: Rest) -> bool
+pub fn is_sound(sets: &Sets, rest: Rest) -> bool
     requires { ⌜ IsStore (now sets) ⌝ }
     ensures { λ r. ⌜ r ≡ sound (boardOf (now (sets .entry)) rest) ⌝ }
 {

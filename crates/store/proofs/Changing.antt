@@ -24,7 +24,7 @@ use Rattle.theory.specs.Modes.{closing-claim, closing-open, dropping-claim, dro
 use Rattle.theory.specs.Programs.{Is}
 use Rattle.store.specs.declared.Seat.{Seat}
 use Rattle.store.specs.declared.Rest.{Rest}
-use Rattle.store.specs.Sets.{Sets, IsStore, claimPlace, openPlace, rowIn, setIn, inPlace, SetsOf, PutAt, leftIn, modeAt, closedAt, droppedAt, givenAt}
+use Rattle.store.specs.Sets.{placeCount, Sets, IsStore, claimPlace, openPlace, rowIn, setIn, inPlace, SetsOf, PutAt, leftIn, modeAt, closedAt, droppedAt, givenAt}
 use Rattle.store.specs.Store.{noSeat, seatAt, seatOf, standingAt, withSeats, putSeat, seatedAt, boardOf}
 use Rattle.store.proofs.Laws.{claim-apart, open-apart, claims-apart, claim-place, open-place, put-row, claim-is, open-is}
 use Rattle.store.proofs.Given.{given-store, sets-given}
@@ -124,7 +124,7 @@ module _ (sets : Sets) (r : Rest) (p : ℕ) (h : 1 ≤ p) (k : p ≤ 32) (st : I
 
 -- ---- a file leaves three sets
 
-module _ (sets : Sets) (k f : ℕ) (s : IsStore sets) (h : k < 192) where
+module _ (sets : Sets) (k f : ℕ) (s : IsStore sets) (h : k < placeCount) where
   word : isFile f ≡ true → (f - 1) / 64 < length (rowIn sets k)
   word e = let m = most 64 f e in let n = s .words-are k h in omega arith
 
@@ -139,7 +139,7 @@ module _ (sets : Sets) (k f : ℕ) (s : IsStore sets) (h : k < 192) where
   left-there j d = getD-set-other sets k j (withoutFile (rowIn sets k) f) [] d
 
 -- f leaves the sets in three places, one for each mode
-module _ (sets : Sets) (at-mode : Mode → ℕ) (f : ℕ) (s : IsStore sets) (low : (m : Mode) → at-mode m < 192)
+module _ (sets : Sets) (at-mode : Mode → ℕ) (f : ℕ) (s : IsStore sets) (low : (m : Mode) → at-mode m < placeCount)
     (apart : (m n : Mode) → (isMode m n ≡ true → ⊥) → at-mode m ≢ at-mode n) where
   abbrev one-left : Sets
   one-left = leftIn sets (at-mode Write) f
@@ -201,7 +201,7 @@ module _ (sets : Sets) (r : Rest) (p f : ℕ) (h : 1 ≤ p) (k : p ≤ 32) (s : 
     abbrev opens : Mode → ℕ
     opens m = openPlace m i
 
-    low-open : (m : Mode) → opens m < 192
+    low-open : (m : Mode) → opens m < placeCount
     low-open m = open-place m i lt
 
     apart-open : (m n : Mode) → (isMode m n ≡ true → ⊥) → opens m ≢ opens n
@@ -238,7 +238,7 @@ module _ (sets : Sets) (r : Rest) (p f : ℕ) (h : 1 ≤ p) (k : p ≤ 32) (s : 
     abbrev claims : Mode → ℕ
     claims m = claimPlace m i
 
-    low-claim : (m : Mode) → claims m < 192
+    low-claim : (m : Mode) → claims m < placeCount
     low-claim m = claim-place m i lt
 
     apart-claim : (m n : Mode) → (isMode m n ≡ true → ⊥) → claims m ≢ claims n

@@ -21,11 +21,11 @@ use Rattle.rules.specs.Modes.{Mode, Write, Read, Inquiry, isMode, claimOf, open
 use Rattle.rules.specs.Boards.{noProgram, at, opened, opening}
 use Rattle.theory.specs.Modes.{mode-is, opened-claim, opened-open, opened-same}
 use Rattle.theory.specs.Programs.{Is, Sized, SameSets}
-use Rattle.store.specs.Sets.{Sets, IsStore, claimPlace, openPlace, rowIn, setIn, inPlace, SetsOf, modeAt, joinedIn, givenAt}
+use Rattle.store.specs.Sets.{placeCount, Sets, IsStore, claimPlace, openPlace, rowIn, setIn, inPlace, SetsOf, modeAt, joinedIn, givenAt}
 use Rattle.store.proofs.Laws.{claim-apart, open-apart, open-place, put-row, open-is, mode-at}
 
 -- a file joins the set in a place
-module _ (sets : Sets) (k f : ℕ) (s : IsStore sets) (h : k < 192) where
+module _ (sets : Sets) (k f : ℕ) (s : IsStore sets) (h : k < placeCount) where
   abbrev joined : List ℕ
   joined = withFile (rowIn sets k) f
 

@@ -20,7 +20,7 @@ use Rattle.rules.specs.Modes.{Mode, Write, Read, Inquiry, byMode, isMode, clash
 use Rattle.rules.specs.Boards.{at}
 use Rattle.rules.specs.Orders.{holdsBack}
 use Rattle.theory.specs.Modes.{same-mode, touching-same}
-use Rattle.store.specs.Sets.{Sets, IsStore, claimPlace, openPlace, rowIn, setIn, inPlace, SetsTo, SetsOf, PutAt}
+use Rattle.store.specs.Sets.{placeCount, Sets, IsStore, claimPlace, openPlace, rowIn, setIn, inPlace, SetsTo, SetsOf, PutAt}
 use Rattle.store.specs.Sets.{claimAt, openAt, modeAt, claimsAt, holdsOne, modePlace, PutsFrom}
 
 -- ---- places
@@ -63,13 +63,13 @@ module _ (i j : ℕ) (h : i < 32) (k : j < 32) where
   claims-apart Inquiry Read d e = omega arith
   claims-apart Inquiry Inquiry d e = d refl (omega arith)
 
--- every place is among the 192
-pub claim-place : (m : Mode) (i : ℕ) → i < 32 → claimPlace m i < 192
+-- every place is among these
+pub claim-place : (m : Mode) (i : ℕ) → i < 32 → claimPlace m i < placeCount
 claim-place Write i h = omega arith
 claim-place Read i h = omega arith
 claim-place Inquiry i h = omega arith
 
-pub open-place : (m : Mode) (i : ℕ) → i < 32 → openPlace m i < 192
+pub open-place : (m : Mode) (i : ℕ) → i < 32 → openPlace m i < placeCount
 open-place Write i h = omega arith
 open-place Read i h = omega arith
 open-place Inquiry i h = omega arith
@@ -77,12 +77,12 @@ open-place Inquiry i h = omega arith
 -- ---- rows
 
 -- an array of empty sets
-pub fresh-store : IsStore (replicate 192 (replicate {A = ℕ} wordCount 0))
-fresh-store = fresh-table 192 wordCount
+pub fresh-store : IsStore (replicate placeCount (replicate {A = ℕ} wordCount 0))
+fresh-store = fresh-table placeCount wordCount
 
 -- a row is put in a place
 pub put-row : (sets : Sets) (k : ℕ) (r : List ℕ) → IsStore sets → length r ≡ wordCount → IsStore (set sets k r)
-put-row = put-in 192 wordCount
+put-row = put-in placeCount wordCount
 
 -- ---- one program after another
 

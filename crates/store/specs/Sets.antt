@@ -1,4 +1,4 @@
--- The sets of a board's programs in an array that is lent and not copied: in each of 192 places the words of a set.
+-- The sets of a board's programs in an array that is lent and not copied: in each place the words of a set.
 -- Which place has which set is said here alone.
 -- Assumes nothing.
 use Prim.Native.Nat.{ℕ, _+_, _-_, _<_}
@@ -20,9 +20,13 @@ use Rattle.rules.specs.Boards.{noProgram}
 abbrev pub Sets : Type 0
 Sets = List (List ℕ)
 
--- 192 places, and as many words in each as a set has
+-- how many places there are: V, Q, J, W, R and I of each program
+abbrev pub placeCount : ℕ
+placeCount = 192
+
+-- these places, and as many words in each as a set has
 abbrev pub IsStore : Sets → Type 0
-IsStore sets = IsTable 192 wordCount sets
+IsStore sets = IsTable placeCount wordCount sets
 
 -- ---- places
 

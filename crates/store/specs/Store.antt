@@ -11,7 +11,7 @@ use Rattle.rules.specs.declared.Board.{Board}
 use Rattle.rules.specs.Modes.{Write, Read, Inquiry}
 use Rattle.store.specs.declared.Seat.{Seat}
 use Rattle.store.specs.declared.Rest.{Rest}
-use Rattle.store.specs.Sets.{Sets, setIn, claimPlace, openPlace, inPlace}
+use Rattle.store.specs.Sets.{placeCount, Sets, setIn, claimPlace, openPlace, inPlace}
 
 -- the seat of an absent program
 abbrev pub noSeat : Seat
@@ -153,7 +153,7 @@ pub record RestOf (b : Board) (r : Rest) : Type 0 where
 
 -- no file is in any set
 abbrev pub emptySets : Sets
-emptySets = replicate 192 (replicate {A = ℕ} wordCount 0)
+emptySets = replicate placeCount (replicate {A = ℕ} wordCount 0)
 
 abbrev pub emptyRest : Rest
 emptyRest =

@@ -1,4 +1,4 @@
-// The sets of a board's programs in an array of 192 places that is lent and not copied, a row of words in each place.
+// The sets of a board's programs in an array of places that is lent and not copied, a row of words in each place.
 // Which place has which set is said here alone: V of program p stands in place p - 1, and Q, J, W, R and I stand 32, 64, 96, 128 and 160 places further.
 use crate::Rest;
 use crate::Seat;
@@ -13,8 +13,14 @@ ghost use Prim.Native.Nat.{_-_, _≤_, _<_};
 ghost use Rattle.rules.specs.Modes.{Write, Read, Inquiry, byMode};
 ghost use Rattle.rules.specs.Boards.{setProgram};
 ghost use Rattle.store.specs.Store.{seatOf, putSeat, boardOf, SeatsTo};
-ghost use Rattle.store.specs.Sets.{IsStore, claimPlace, openPlace, PutAt, SetsOf, claimsAt, opensAt, closedAt};
+ghost use Rattle.store.specs.Sets.{placeCount, IsStore, claimPlace, openPlace, PutAt, SetsOf, claimsAt, opensAt, closedAt};
 ghost use Rattle.store.specs.Sets.{PutsFrom, modeAt, modeNumbered, droppedAt, givenAt};
+
+// The places: V, Q, J, W, R and I of each program.
+pub const PLACES: usize = 192;
+
+// Lent, not copied.
+pub type Sets = [[u64; WORDS]; PLACES];
 
 const READABLE: usize = 32;
 
@@ -29,7 +35,7 @@ const INQUIRING: usize = 160;
 // The place of V of p: what it may write.
 pub fn writable_at(p: u8) -> usize
     requires { ⌜ (1 ≤ p) × (p ≤ 32) ⌝ }
-    ensures { λ r. ⌜ (r ≡ claimPlace Write (p - 1)) × (r < 192) ⌝ }
+    ensures { λ r. ⌜ (r ≡ claimPlace Write (p - 1)) × (r < placeCount) ⌝ }
 {
     (p - 1) as usize
 }
@@ -37,7 +43,7 @@ pub fn writable_at(p: u8) -> usize
 // The place of Q of p: what it may read.
 pub fn readable_at(p: u8) -> usize
     requires { ⌜ (1 ≤ p) × (p ≤ 32) ⌝ }
-    ensures { λ r. ⌜ (r ≡ claimPlace Read (p - 1)) × (r < 192) ⌝ }
+    ensures { λ r. ⌜ (r ≡ claimPlace Read (p - 1)) × (r < placeCount) ⌝ }
 {
     READABLE + (p - 1) as usize
 }
@@ -45,7 +51,7 @@ pub fn readable_at(p: u8) -> usize
 // The place of J of p: what it may have for inquiry.
 pub fn inquirable_at(p: u8) -> usize
     requires { ⌜ (1 ≤ p) × (p ≤ 32) ⌝ }
-    ensures { λ r. ⌜ (r ≡ claimPlace Inquiry (p - 1)) × (r < 192) ⌝ }
+    ensures { λ r. ⌜ (r ≡ claimPlace Inquiry (p - 1)) × (r < placeCount) ⌝ }
 {
     INQUIRABLE + (p - 1) as usize
 }
@@ -53,7 +59,7 @@ pub fn inquirable_at(p: u8) -> usize
 // The place of W of p: what it has open for writing.
 pub fn writing_at(p: u8) -> usize
     requires { ⌜ (1 ≤ p) × (p ≤ 32) ⌝ }
-    ensures { λ r. ⌜ (r ≡ openPlace Write (p - 1)) × (r < 192) ⌝ }
+    ensures { λ r. ⌜ (r ≡ openPlace Write (p - 1)) × (r < placeCount) ⌝ }
 {
     WRITING + (p - 1) as usize
 }
@@ -61,7 +67,7 @@ pub fn writing_at(p: u8) -> usize
 // The place of R of p: what it has open for reading.
 pub fn reading_at(p: u8) -> usize
     requires { ⌜ (1 ≤ p) × (p ≤ 32) ⌝ }
-    ensures { λ r. ⌜ (r ≡ openPlace Read (p - 1)) × (r < 192) ⌝ }
+    ensures { λ r. ⌜ (r ≡ openPlace Read (p - 1)) × (r < placeCount) ⌝ }
 {
     READING + (p - 1) as usize
 }
@@ -69,13 +75,13 @@ pub fn reading_at(p: u8) -> usize
 // The place of I of p: what it has open for inquiry.
 pub fn inquiring_at(p: u8) -> usize
     requires { ⌜ (1 ≤ p) × (p ≤ 32) ⌝ }
-    ensures { λ r. ⌜ (r ≡ openPlace Inquiry (p - 1)) × (r < 192) ⌝ }
+    ensures { λ r. ⌜ (r ≡ openPlace Inquiry (p - 1)) × (r < placeCount) ⌝ }
 {
     INQUIRING + (p - 1) as usize
 }
 
 // Three sets, put from place k on: the first there, the others 32 and 64 places further.
-fn put_three(sets: &mut [[u64; WORDS]; 192], k: usize, x: FileSet, y: FileSet, z: FileSet)
+fn put_three(sets: &mut Sets, k: usize, x: FileSet, y: FileSet, z: FileSet)
     requires { ⌜ (k < 128) × IsStore (now sets) ⌝ }
     ensures { λ _. ⌜ PutsFrom k (byMode x y z) (now (sets .entry)) (now (sets .exit)) ⌝ }
 {
@@ -85,7 +91,7 @@ fn put_three(sets: &mut [[u64; WORDS]; 192], k: usize, x: FileSet, y: FileSet, z
 }
 
 // The sets of a program, put at index i.
-fn put_sets(sets: &mut [[u64; WORDS]; 192], i: usize, q: Program)
+fn put_sets(sets: &mut Sets, i: usize, q: Program)
     requires { ⌜ (i < 32) × IsStore (now sets) ⌝ }
     ensures { λ _. ⌜ PutAt q i (now (sets .entry)) (now (sets .exit)) ⌝ }
 {
@@ -100,7 +106,7 @@ fn put_sets(sets: &mut [[u64; WORDS]; 192], i: usize, q: Program)
 }
 
 // The sets of the board's programs.
-fn take_sets(b: Board, sets: &mut [[u64; WORDS]; 192])
+fn take_sets(b: Board, sets: &mut Sets)
     requires { ⌜ IsStore (now sets) ⌝ }
     ensures { λ _. ⌜ SetsOf b (now (sets .exit)) ⌝ }
 {
@@ -137,7 +143,7 @@ fn seats_of(b: Board) -> [Seat; 32]
 }
 
 // The board, taken apart: its sets are put into the array, and the rest comes back.
-pub fn take(b: Board, sets: &mut [[u64; WORDS]; 192]) -> Rest
+pub fn take(b: Board, sets: &mut Sets) -> Rest
     requires { ⌜ IsStore (now sets) ⌝ }
     ensures { λ r. ⌜ SetsOf b (now (sets .exit)) × (boardOf (now (sets .exit)) r ≡ b) ⌝ }
 {
@@ -161,7 +167,7 @@ pub fn take(b: Board, sets: &mut [[u64; WORDS]; 192]) -> Rest
 }
 
 // q is put as program p: its sets into the array, its seat into the rest.
-pub fn put(sets: &mut [[u64; WORDS]; 192], rest: Rest, p: u8, q: Program) -> Rest
+pub fn put(sets: &mut Sets, rest: Rest, p: u8, q: Program) -> Rest
     requires { ⌜ ((1 ≤ p) × (p ≤ 32)) × IsStore (now sets) ⌝ }
     ensures { λ r. ⌜ boardOf (now (sets .exit)) r ≡ setProgram (boardOf (now (sets .entry)) rest) p q ⌝ }
     ensures { λ r. ⌜ (r ≡ putSeat rest p (seatOf q)) × IsStore (now (sets .exit)) ⌝ }
@@ -179,7 +185,7 @@ pub fn put(sets: &mut [[u64; WORDS]; 192], rest: Rest, p: u8, q: Program) -> Res
 }
 
 // The mode in which p opens f, by its number: 0 for writing, 1 for reading, 2 for inquiry.
-pub fn mode_at(sets: &[[u64; WORDS]; 192], p: u8, f: u8) -> u8
+pub fn mode_at(sets: &Sets, p: u8, f: u8) -> u8
     requires { ⌜ ((1 ≤ p) × (p ≤ 32)) × IsStore (now sets) ⌝ }
     ensures { λ r. ⌜ (modeNumbered r ≡ modeAt (now (sets .entry)) p f) × (r ≤ 2) ⌝ }
 {
@@ -195,7 +201,7 @@ pub fn mode_at(sets: &[[u64; WORDS]; 192], p: u8, f: u8) -> u8
 }
 
 // Whether p claims f in a way that clashes with the mode of this number.
-pub fn has_claim(sets: &[[u64; WORDS]; 192], p: u8, f: u8, mode: u8) -> bool
+pub fn has_claim(sets: &Sets, p: u8, f: u8, mode: u8) -> bool
     requires { ⌜ ((1 ≤ p) × (p ≤ 32)) × IsStore (now sets) ⌝ }
     ensures { λ r. ⌜ r ≡ claimsAt (now (sets .entry)) f (modeNumbered mode) p ⌝ }
 {
@@ -218,7 +224,7 @@ pub fn has_claim(sets: &[[u64; WORDS]; 192], p: u8, f: u8, mode: u8) -> bool
 }
 
 // Whether p has f open.
-pub fn has_open(sets: &[[u64; WORDS]; 192], p: u8, f: u8) -> bool
+pub fn has_open(sets: &Sets, p: u8, f: u8) -> bool
     requires { ⌜ ((1 ≤ p) × (p ≤ 32)) × IsStore (now sets) ⌝ }
     ensures { λ r. ⌜ r ≡ opensAt (now (sets .entry)) f p ⌝ }
 {
@@ -235,7 +241,7 @@ pub fn has_open(sets: &[[u64; WORDS]; 192], p: u8, f: u8) -> bool
 }
 
 // p is given f: it joins W if it is in V, R if it is in Q, and I otherwise.
-pub fn give(sets: &mut [[u64; WORDS]; 192], p: u8, f: u8)
+pub fn give(sets: &mut Sets, p: u8, f: u8)
     requires { ⌜ ((1 ≤ p) × (p ≤ 32)) × IsStore (now sets) ⌝ }
     ensures { λ _. ⌜ now (sets .exit) ≡ givenAt (now (sets .entry)) p f ⌝ }
 {
@@ -256,7 +262,7 @@ pub fn give(sets: &mut [[u64; WORDS]; 192], p: u8, f: u8)
 }
 
 // f is open to p no longer.
-pub fn close(sets: &mut [[u64; WORDS]; 192], p: u8, f: u8)
+pub fn close(sets: &mut Sets, p: u8, f: u8)
     requires { ⌜ ((1 ≤ p) × (p ≤ 32)) × IsStore (now sets) ⌝ }
     ensures { λ _. ⌜ now (sets .exit) ≡ closedAt (now (sets .entry)) p f ⌝ }
 {
@@ -269,7 +275,7 @@ pub fn close(sets: &mut [[u64; WORDS]; 192], p: u8, f: u8)
 }
 
 // f leaves p's claim.
-pub fn drop(sets: &mut [[u64; WORDS]; 192], p: u8, f: u8)
+pub fn drop(sets: &mut Sets, p: u8, f: u8)
     requires { ⌜ ((1 ≤ p) × (p ≤ 32)) × IsStore (now sets) ⌝ }
     ensures { λ _. ⌜ now (sets .exit) ≡ droppedAt (now (sets .entry)) p f ⌝ }
 {

@@ -1,8 +1,8 @@
 // Which admitted program holds back which, in an array that is lent and not copied, by the sets of a board's programs (`store::sets`):
 // in `rows` the set of the admitted programs that the admitted program p holds back stands in place p - 1.
-use files::WORDS;
 use parts::modes;
 use store::sets;
+use store::sets::Sets;
 ghost use mathlib.Core.Path.{_≡_};
 ghost use Prim.Native.Nat.{_≤_};
 ghost use Rattle.store.specs.Sets.{IsStore, holdsOne};
@@ -29,7 +29,7 @@ pub fn join(s: ProgramSet, p: u8, yes: bool) -> ProgramSet
 }
 
 // The test of an ordered pair: whether p holds back q. No other function makes it.
-pub fn holds_back(sets: &[[u64; WORDS]; 192], p: u8, q: u8) -> bool
+pub fn holds_back(sets: &Sets, p: u8, q: u8) -> bool
     requires { ⌜ ((1 ≤ p) × (p ≤ 32)) × ((1 ≤ q) × (q ≤ 32)) × IsStore (now sets) ⌝ }
     ensures { λ r. ⌜ r ≡ holdsOne (now (sets .entry)) q p ⌝ }
 {
@@ -43,7 +43,7 @@ pub fn holds_back(sets: &[[u64; WORDS]; 192], p: u8, q: u8) -> bool
 }
 
 // Those of a set that hold p back: one test for each of them.
-pub fn holders_of(sets: &[[u64; WORDS]; 192], p: u8, set: ProgramSet) -> ProgramSet
+pub fn holders_of(sets: &Sets, p: u8, set: ProgramSet) -> ProgramSet
     requires { ⌜ ((1 ≤ p) × (p ≤ 32)) × IsStore (now sets) ⌝ }
     ensures { λ r. ⌜ r ≡ packed (holdersOf (now (sets .entry)) p set) 32 ⌝ }
 {

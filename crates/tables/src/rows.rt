@@ -4,6 +4,7 @@ use crate::shared::Shared;
 use files::WORDS;
 use files::words;
 use store::sets;
+use store::sets::Sets;
 ghost use mathlib.Core.Path.{_≡_};
 ghost use mathlib.Core.Bool.{true};
 ghost use Prim.Native.Nat.{_≤_};
@@ -14,7 +15,7 @@ ghost use Rattle.tables.specs.Tables.{heldBy, rowsOf, packed};
 ghost use Rattle.tables.specs.Shared.{claimedAt, openedAt, SharedBy};
 
 // What p claims.
-fn claims_of(sets: &[[u64; WORDS]; 192], p: u8) -> [u64; WORDS]
+fn claims_of(sets: &Sets, p: u8) -> [u64; WORDS]
     requires { ⌜ ((1 ≤ p) × (p ≤ 32)) × IsStore (now sets) ⌝ }
     ensures { λ r. ⌜ r ≡ claimedAt (now (sets .entry)) p ⌝ }
 {
@@ -28,7 +29,7 @@ fn claims_of(sets: &[[u64; WORDS]; 192], p: u8) -> [u64; WORDS]
 }
 
 // What p has open.
-fn opens_of(sets: &[[u64; WORDS]; 192], p: u8) -> [u64; WORDS]
+fn opens_of(sets: &Sets, p: u8) -> [u64; WORDS]
     requires { ⌜ ((1 ≤ p) × (p ≤ 32)) × IsStore (now sets) ⌝ }
     ensures { λ r. ⌜ r ≡ openedAt (now (sets .entry)) p ⌝ }
 {
@@ -42,7 +43,7 @@ fn opens_of(sets: &[[u64; WORDS]; 192], p: u8) -> [u64; WORDS]
 }
 
 // What the programs of a set claim.
-fn claimed_by(sets: &[[u64; WORDS]; 192], set: ProgramSet) -> Shared
+fn claimed_by(sets: &Sets, set: ProgramSet) -> Shared
     requires { ⌜ IsStore (now sets) ⌝ }
     ensures { λ r. ⌜ SharedBy (claimedAt (now (sets .entry))) (hasProgram set) r ⌝ }
 {
@@ -58,7 +59,7 @@ fn claimed_by(sets: &[[u64; WORDS]; 192], set: ProgramSet) -> Shared
 }
 
 // Those of a set that p holds back: one test for each of them.
-fn held_by(sets: &[[u64; WORDS]; 192], p: u8, set: ProgramSet) -> ProgramSet
+fn held_by(sets: &Sets, p: u8, set: ProgramSet) -> ProgramSet
     requires { ⌜ ((1 ≤ p) × (p ≤ 32)) × IsStore (now sets) ⌝ }
     ensures { λ r. ⌜ r ≡ packed (heldBy (now (sets .entry)) p set) 32 ⌝ }
 {
@@ -74,7 +75,7 @@ fn held_by(sets: &[[u64; WORDS]; 192], p: u8, set: ProgramSet) -> ProgramSet
 }
 
 // The row of p, one of the admitted: the others of them that it holds back. Nobody is tested if none of them claims a file that p has open.
-fn row_of(sets: &[[u64; WORDS]; 192], admitted: ProgramSet, claimed: Shared, p: u8) -> ProgramSet
+fn row_of(sets: &Sets, admitted: ProgramSet, claimed: Shared, p: u8) -> ProgramSet
     requires { ⌜ ((1 ≤ p) × (p ≤ 32)) × (hasProgram admitted p ≡ true) × SharedBy (claimedAt (now sets)) (hasProgram admitted) claimed × IsStore (now sets) ⌝ }
     ensures { λ r. ⌜ r ≡ packed (heldBy (now (sets .entry)) p (withoutProgram admitted p)) 32 ⌝ }
 {
@@ -89,7 +90,7 @@ fn row_of(sets: &[[u64; WORDS]; 192], admitted: ProgramSet, claimed: Shared, p: 
 }
 
 // The rows of the admitted: each ordered pair of different ones is tested at most once.
-pub fn fill_rows(sets: &[[u64; WORDS]; 192], admitted: ProgramSet, rows: &mut [u32; 32])
+pub fn fill_rows(sets: &Sets, admitted: ProgramSet, rows: &mut [u32; 32])
     requires { ⌜ (now rows ≡ replicate 32 0) × IsStore (now sets) ⌝ }
     ensures { λ _. ⌜ now (rows .exit) ≡ rowsOf (now (sets .entry)) admitted ⌝ }
 {

@@ -1,6 +1,7 @@
 // The files that some of several programs have, and those that two of them have: what the others have than one of them.
 use files::WORDS;
 use files::words;
+use store::sets::Sets;
 ghost use mathlib.Core.Path.{_≡_};
 ghost use Rattle.tables.specs.Shared.{sharing, othersOf, openedIn};
 
@@ -49,7 +50,7 @@ impl Shared {
 }
 
 // What all programs have open.
-pub fn opened(sets: &[[u64; WORDS]; 192]) -> OpenFiles
+pub fn opened(sets: &Sets) -> OpenFiles
     ensures { λ r. ⌜ r ≡ openedIn (now (sets .entry)) ⌝ }
 {
     let mut writing = Shared::NONE;

@@ -1,17 +1,17 @@
 // A board of the rules, whole, made of its sets and the rest; at the edges only.
 // That a set is one word is known here alone.
 use files::FileSet;
-use files::WORDS;
 use rules::Board;
 use rules::Program;
 use store::Rest;
 use store::Seat;
 use store::sets;
+use store::sets::Sets;
 ghost use mathlib.Core.Path.{_≡_};
 ghost use Prim.Native.Nat.{_-_, _≤_, _<_};
 ghost use lib.ListN.{length, getD};
 ghost use Rattle.files.specs.Words.{wordCount, setOf};
-ghost use Rattle.store.specs.Sets.{IsStore, setIn};
+ghost use Rattle.store.specs.Sets.{placeCount, IsStore, setIn};
 ghost use Rattle.store.specs.Store.{noSeat, programWith, programsFrom, boardOf};
 
 // The set of a row.
@@ -23,15 +23,15 @@ fn set_of(s: &[u64]) -> FileSet
 }
 
 // The set in place k.
-pub fn set_at(sets: &[[u64; WORDS]; 192], k: usize) -> FileSet
-    requires { ⌜ (k < 192) × IsStore (now sets) ⌝ }
+pub fn set_at(sets: &Sets, k: usize) -> FileSet
+    requires { ⌜ (k < placeCount) × IsStore (now sets) ⌝ }
     ensures { λ r. ⌜ r ≡ setIn (now (sets .entry)) k ⌝ }
 {
     set_of(&sets[k])
 }
 
 // Program p, with a seat.
-fn program(sets: &[[u64; WORDS]; 192], p: u8, seat: Seat) -> Program
+fn program(sets: &Sets, p: u8, seat: Seat) -> Program
     requires { ⌜ ((1 ≤ p) × (p ≤ 32)) × IsStore (now sets) ⌝ }
     ensures { λ r. ⌜ r ≡ programWith (now (sets .entry)) (p - 1) seat ⌝ }
 {
@@ -64,7 +64,7 @@ fn program(sets: &[[u64; WORDS]; 192], p: u8, seat: Seat) -> Program
 }
 
 // The programs.
-fn programs(sets: &[[u64; WORDS]; 192], seats: [Seat; 32]) -> [Program; 32]
+fn programs(sets: &Sets, seats: [Seat; 32]) -> [Program; 32]
     requires { ⌜ IsStore (now sets) ⌝ }
     ensures { λ r. ⌜ r ≡ programsFrom (now (sets .entry)) (λ i. getD seats i noSeat) 32 0 ⌝ }
 {
@@ -80,7 +80,7 @@ fn programs(sets: &[[u64; WORDS]; 192], seats: [Seat; 32]) -> [Program; 32]
 }
 
 // The board.
-pub fn board(sets: &[[u64; WORDS]; 192], rest: Rest) -> Board
+pub fn board(sets: &Sets, rest: Rest) -> Board
     requires { ⌜ IsStore (now sets) ⌝ }
     ensures { λ r. ⌜ r ≡ boardOf (now (sets .entry)) rest ⌝ }
 {
