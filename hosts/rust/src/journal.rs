@@ -1,21 +1,14 @@
 use crate::{Refusal, JOURNAL_LINE};
-use std::ops::Range;
 use std::str::FromStr;
 
-/// The parts of a line, each with its width: the word, the numbers, and then byte 10.
-const WORD: Range<usize> = 0..6;
-const PROGRAM: Range<usize> = after(WORD, 3);
-const FILE: Range<usize> = after(PROGRAM, 3);
-const REFUSAL: Range<usize> = after(FILE, 3);
-const RECORD: Range<usize> = after(REFUSAL, 5);
-const END: usize = RECORD.end;
+/// Where the numbers of a line begin, after its word, and where it ends with byte 10.
+const JOURNAL_PROGRAM: usize = 6;
+const JOURNAL_FILE: usize = JOURNAL_PROGRAM + 3;
+const JOURNAL_REFUSAL: usize = JOURNAL_FILE + 3;
+const JOURNAL_RECORD: usize = JOURNAL_REFUSAL + 3;
+const JOURNAL_END: usize = JOURNAL_RECORD + 5;
 
-const _: () = assert!(END + 1 == JOURNAL_LINE);
-
-/// The next columns after a part, so many.
-const fn after(part: Range<usize>, width: usize) -> Range<usize> {
-    part.end..part.end + width
-}
+const _: () = assert!(JOURNAL_END + 1 == JOURNAL_LINE);
 
 /// The word of a journal line. `docs/REFUSALS.md` says what comes after each.
 #[derive(Clone, Copy, Debug, PartialEq, Eq, Hash)]
@@ -40,7 +33,7 @@ pub enum Word {
 
 impl Word {
     /// The word in its six columns.
-    pub const fn columns(self) -> &'static [u8; WORD.end] {
+    pub const fn columns(self) -> &'static [u8; JOURNAL_PROGRAM] {
         match self {
             Word::Admit => b"ADMIT ",
             Word::Held => b"HELD  ",
@@ -87,21 +80,21 @@ impl Line {
     /// assert_eq!(Line::read(b"REFUSE  2  0 17    0\n"), None);
     /// ```
     pub fn read(bytes: &[u8; JOURNAL_LINE]) -> Option<Line> {
-        let refusal = match number(&bytes[REFUSAL])? {
+        let refusal = match number(&bytes[JOURNAL_REFUSAL..JOURNAL_RECORD])? {
             0 => None,
             n @ (3..=7 | 9..=16 | 18 | 20 | 21) => Some(Refusal::from_number(n)?),
             _ => return None, // the others come in no line
         };
-        let word = Word::read(&bytes[WORD])?;
-        if bytes[END] != b'\n' || (word == Word::Refuse) != refusal.is_some() {
+        let word = Word::read(&bytes[..JOURNAL_PROGRAM])?;
+        if bytes[JOURNAL_END] != b'\n' || (word == Word::Refuse) != refusal.is_some() {
             return None;
         }
         Some(Line {
             word,
-            program: number(&bytes[PROGRAM])?,
-            file: number(&bytes[FILE])?,
+            program: number(&bytes[JOURNAL_PROGRAM..JOURNAL_FILE])?,
+            file: number(&bytes[JOURNAL_FILE..JOURNAL_REFUSAL])?,
             refusal,
-            record: number(&bytes[RECORD])?,
+            record: number(&bytes[JOURNAL_RECORD..JOURNAL_END])?,
         })
     }
 }
