@@ -217,6 +217,11 @@ fn refusals_of_the_line() {
         let text = String::from_utf8_lossy(request);
         assert_eq!(refusal_of(&mut board, request), number, "{text}");
     }
+}
+
+#[test]
+fn the_longest_line() {
+    let mut board = Board::new();
     let mut longest = b"ENTER   1LABEL   ".to_vec();
     let files = (0..3).flat_map(|_| 1..=FILES);
     for number in [FILES; 3].into_iter().chain(files) {
@@ -568,12 +573,14 @@ fn images_with_records() {
         let refused = Board::from_image(&changed(&image, field));
         assert_eq!(refused, Err(Error::Refused(Refusal::NotSound)), "{field}");
     }
-    let file = changed(&image, "awaited file of 3 = 4");
-    for (number, sound) in [(0, false), (1, true), (365, false), (u16::MAX, true)] {
-        let mut image = file;
-        let at = layout::image::INQUIRY + 2 * layout::image::INQUIRY_LEN;
-        let at = at + layout::image::RECORD_IN_USE;
-        image[at..at + layout::image::RECORD].copy_from_slice(&number.to_le_bytes());
+}
+
+/// Program 3 may have any record in use but 365, which 1 has.
+#[test]
+fn images_with_other_records() {
+    let image = changed(record_in_use().image(), "awaited file of 3 = 4");
+    for (number, sound) in [(1, true), (365, false), (u16::MAX, true)] {
+        let image = changed(&image, &format!("record in use of 3 = {number}"));
         let read = Board::from_image(&image).map(|board| records(&board, 3).1);
         let expected = match sound {
             true => Ok(Some(Record { file: 4, number })),
@@ -777,79 +784,44 @@ fn refusals_of_the_writer_come_in_order() {
     let (enter, fetch) = (Verb::Enter.number(), Verb::Fetch.number());
     let give_back = Verb::Return.number();
     let claims = [255; CLAIMS_LEN + 1];
-    let good = &claims[..CLAIMS_LEN];
     let mut line = [170; LONGEST_LINE + 1];
-    for (answer, expected) in [
-        (entry::write(0, 0, 0, 0, b"", b"", &mut []), entry::NO_VERB),
-        (entry::write(9, 0, 0, 0, b"", b"", &mut []), entry::NO_VERB),
-        (
-            entry::write(fetch, 33, 1, 0, b"", b"", &mut []),
-            entry::OUT_OF_RANGE,
-        ),
-        (
-            entry::write(fetch, 1, 0, 0, b"", b"", &mut []),
-            entry::OUT_OF_RANGE,
-        ),
-        (
-            entry::write(fetch, 1, 65, 0, b"", b"", &mut []),
-            entry::OUT_OF_RANGE,
-        ),
-        (
-            entry::write(fetch, 1, 64, 0, b"", b"", &mut []),
-            entry::BAD_RECORD,
-        ),
-        (
-            entry::write(fetch, 1, 64, 65536, b"", b"", &mut []),
-            entry::BAD_RECORD,
-        ),
-        (
-            entry::write(fetch, 1, 64, u64::MAX, b"", b"", &mut []),
-            entry::BAD_RECORD,
-        ),
-        (
-            entry::write(fetch, 1, 64, 65535, b"", b"", &mut line[..16]),
-            entry::BUFFER_SHORT,
-        ),
-        (
-            entry::write(enter, 33, 0, 0, good, b"", &mut []),
-            entry::OUT_OF_RANGE,
-        ),
-        (
-            entry::write(enter, 1, 0, 0, &good[1..], b"", &mut []),
-            entry::OUT_OF_RANGE,
-        ),
-        (
-            entry::write(enter, 1, 0, 0, &claims, b"", &mut []),
-            entry::OUT_OF_RANGE,
-        ),
-        (
-            entry::write(enter, 1, 0, 0, good, b"LABEL", &mut []),
-            entry::BAD_LABEL,
-        ),
-        (
-            entry::write(enter, 1, 0, 0, good, b"LABEL   ", &mut line[..601]),
-            entry::BUFFER_SHORT,
-        ),
-        (
-            entry::write(give_back, 0, 0, 0, b"", b"", &mut []),
-            entry::OUT_OF_RANGE,
-        ),
-        (
-            entry::write(give_back, 1, 0, 0, b"", b"", &mut line[..8]),
-            entry::BUFFER_SHORT,
-        ),
+    for ([verb, program, file, record], claims_len, label, room, refusal) in [
+        ([0, 0, 0, 0], 0, "", 0, 3),
+        ([9, 0, 0, 0], 0, "", 0, 3),
+        ([fetch, 33, 1, 0], 0, "", 0, 8),
+        ([fetch, 1, 0, 0], 0, "", 0, 8),
+        ([fetch, 1, 65, 0], 0, "", 0, 8),
+        ([fetch, 1, 64, 0], 0, "", 0, 19),
+        ([fetch, 1, 64, 65536], 0, "", 0, 19),
+        ([fetch, 1, 64, u64::MAX], 0, "", 0, 19),
+        ([fetch, 1, 64, 65535], 0, "", 16, 17),
+        ([enter, 33, 0, 0], 24, "", 0, 8),
+        ([enter, 1, 0, 0], 23, "", 0, 8),
+        ([enter, 1, 0, 0], 25, "", 0, 8),
+        ([enter, 1, 0, 0], 24, "LABEL", 0, 6),
+        ([enter, 1, 0, 0], 24, "LABEL   ", 601, 17),
+        ([give_back, 0, 0, 0], 0, "", 0, 8),
+        ([give_back, 1, 0, 0], 0, "", 8, 17),
     ] {
-        assert_eq!(answer, expected);
+        let (claims, label) = (&claims[..claims_len], label.as_bytes());
+        let line = &mut line[..room];
+        let answer = entry::write(verb, program, file, record, claims, label, line);
+        assert_eq!(0u64.wrapping_sub(answer), refusal);
     }
     assert_eq!(line, [170; LONGEST_LINE + 1]);
-    let answer = entry::write(enter, 1, 0, 0, good, b"LABEL   ", &mut line);
+}
+
+#[test]
+fn the_writer_fills_just_its_line() {
+    let (enter, fetch) = (Verb::Enter.number(), Verb::Fetch.number());
+    let mut line = [170; LONGEST_LINE + 1];
+    let claims = [255; CLAIMS_LEN];
+    let answer = entry::write(enter, 1, 0, 0, &claims, b"LABEL   ", &mut line);
     assert_eq!((answer, line[LONGEST_LINE]), (602, 170));
     for (record, columns) in [(1, b"FETCH  32 64    1"), (65535, b"FETCH  32 6465535")] {
-        assert_eq!(
-            entry::write(fetch, 32, 64, record, b"", b"", &mut line[..17]),
-            17
-        );
-        assert_eq!(&line[..17], columns);
+        let mut line = [170; 18];
+        let answer = entry::write(fetch, 32, 64, record, b"", b"", &mut line);
+        assert_eq!((answer, &line[..17], line[17]), (17, &columns[..], 170));
     }
 }
 
