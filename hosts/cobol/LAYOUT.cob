@@ -507,6 +507,10 @@
            MOVE 64 TO LB-CLAIMED-FILE (1)
            MOVE 29 TO LB-REQUEST-LEN
            PERFORM ASK
+           IF NOT LB-ADMIT (1) OR LB-INQUIRY-OPEN (1) NOT = 0
+                   OR LB-INQUIRY-CLAIM (1) NOT = LB-FILE-BIT (64)
+               PERFORM FAIL
+           END-IF
            MOVE "CLERK" TO LB-CALL-LABEL
            MOVE 0 TO LB-CALL-WRITABLE
            MOVE LB-FILE-BIT (64) TO LB-CALL-INQUIRABLE
@@ -516,7 +520,6 @@
            MOVE 1 TO LB-CALL-PROGRAM
            PERFORM ASK-CALL
            IF NOT LB-GIVEN (1)
-                   OR LB-INQUIRY-CLAIM (1) NOT = LB-FILE-BIT (64)
                    OR LB-INQUIRY-CLAIM (32) NOT = LB-FILE-BIT (64)
                    OR LB-INQUIRY-OPEN (1) NOT = LB-FILE-BIT (64)
                    OR LB-INQUIRY-OPEN (32) NOT = LB-FILE-BIT (64)

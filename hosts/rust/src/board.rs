@@ -94,8 +94,8 @@ impl Board {
 
     /// Serves one request line, given without its byte 10.
     ///
-    /// A refusal with 3 to 16, 18, 20 or 21 is a reply too, with one REFUSE line. An error never
-    /// comes from a board that was made by [`new`](Board::new) or
+    /// A refusal with 3 to 7, 9 to 16, 18, 20 or 21 is a reply too, with one REFUSE line. An error
+    /// never comes from a board that was made by [`new`](Board::new) or
     /// [`from_image`](Board::from_image).
     pub fn serve(&mut self, line: &[u8]) -> Result<Reply, Error> {
         let mut journal = vec![0; JOURNAL_ROOM];
@@ -129,7 +129,7 @@ impl Reply {
         self.answer
     }
 
-    /// The lines after the answer: who got a record that was given back, and what settling did; or,
+    /// The lines after the answer: who got a record that was returned, and what settling did; or,
     /// after the HELD of an ENTER, the FAVOUR line of a waiter that
     /// [`MOST_PASSED`](crate::MOST_PASSED) programs have passed.
     ///

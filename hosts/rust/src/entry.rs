@@ -143,8 +143,8 @@ pub fn order(image: &[u8], order: &mut [u8]) -> u64 {
 /// its length, [`NO_VERB`], [`OUT_OF_RANGE`], [`BAD_RECORD`], [`BAD_LABEL`] or [`BUFFER_SHORT`].
 /// The verbs are those of [`Verb::number`](crate::Verb::number). The claims have
 /// [`CLAIMS_LEN`](crate::CLAIMS_LEN) bytes: the sets of files to write, to read and to inquire into,
-/// each with its lowest byte first and file 1 the lowest bit. What a verb does not use is not looked
-/// at. [`Request`](crate::Request) is easier to use.
+/// each with its lowest byte first and file 1 the lowest bit; of another length they are out of
+/// range. What a verb does not use is not looked at. [`Request`](crate::Request) is easier to use.
 ///
 /// ```
 /// use lock_board::{entry, Verb, CLAIMS_LEN, LONGEST_LINE, SET_LEN};

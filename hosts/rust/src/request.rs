@@ -21,7 +21,7 @@ pub enum Verb {
     Cancel,
     /// The program asks for a record of a file that it has open for inquiry.
     Fetch,
-    /// The program gives back the record that it has in use.
+    /// The program returns the record that it has in use.
     Return,
 }
 
@@ -87,7 +87,7 @@ impl Request {
     }
 
     /// The program asks for a record, 1 to 65,535, of a file that it has open for inquiry. With a
-    /// record in use it may only give it back or leave.
+    /// record in use it may only return it or leave.
     ///
     /// ```
     /// # use lock_board::{Board, Request, Word};
@@ -110,7 +110,7 @@ impl Request {
         }
     }
 
-    /// The program gives back the record that it has in use: a RETURN.
+    /// The program returns the record that it has in use.
     pub fn return_record(program: u8) -> Request {
         Request::new(Verb::Return, program, 0)
     }

@@ -18,8 +18,9 @@ const AT_FAVOURING: usize = FAVOURED + 1;
 const LEAVES: usize = AT_FAVOURING + 1;
 const PASSED: usize = LEAVES + 1;
 const INQUIRY: usize = PASSED + PROGRAMS;
-/// Where the fields of a program begin in its second row, and how many bytes that has.
+/// The bytes of a record's number.
 const RECORD_LEN: usize = 2;
+/// Where the fields of a program begin in its second row, and how many bytes that has.
 const INQUIRY_CLAIM: usize = 0;
 const INQUIRY_OPEN: usize = INQUIRY_CLAIM + SET_LEN;
 const RECORD_IN_USE: usize = INQUIRY_OPEN + SET_LEN;
@@ -118,14 +119,11 @@ impl Program {
     /// writes a file that the other claims, reads one that the other may write or inquire into, or
     /// inquires into one that the other may write or read.
     pub fn holds_back(&self, other: &Program) -> Files {
-        let written = self.write_open.0 | self.read_open.0 | self.inquiry_open.0;
-        let read = self.write_open.0 | self.inquiry_open.0;
-        let inquired = self.write_open.0 | self.read_open.0;
-        Files(
-            written & other.write_claim.0
-                | read & other.read_claim.0
-                | inquired & other.inquiry_claim.0,
-        )
+        let (v, q) = (other.write_claim.0, other.read_claim.0);
+        let j = other.inquiry_claim.0;
+        let (w, r) = (self.write_open.0, self.read_open.0);
+        let i = self.inquiry_open.0;
+        Files(w & (v | q | j) | r & (v | j) | i & (v | q))
     }
 }
 

@@ -782,7 +782,7 @@ fn refusals_of_the_digraph_come_in_order() {
 #[test]
 fn refusals_of_the_writer_come_in_order() {
     let (enter, fetch) = (Verb::Enter.number(), Verb::Fetch.number());
-    let give_back = Verb::Return.number();
+    let returning = Verb::Return.number();
     let claims = [255; CLAIMS_LEN + 1];
     let mut line = [170; LONGEST_LINE + 1];
     for ([verb, program, file, record], claims_len, label, room, refusal) in [
@@ -800,8 +800,8 @@ fn refusals_of_the_writer_come_in_order() {
         ([enter, 1, 0, 0], 25, "", 0, 8),
         ([enter, 1, 0, 0], 24, "LABEL", 0, 6),
         ([enter, 1, 0, 0], 24, "LABEL   ", 601, 17),
-        ([give_back, 0, 0, 0], 0, "", 0, 8),
-        ([give_back, 1, 0, 0], 0, "", 8, 17),
+        ([returning, 0, 0, 0], 0, "", 0, 8),
+        ([returning, 1, 0, 0], 0, "", 8, 17),
     ] {
         let (claims, label) = (&claims[..claims_len], label.as_bytes());
         let line = &mut line[..room];
