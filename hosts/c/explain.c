@@ -60,7 +60,7 @@ static struct counts counts_of(const uint8_t *line) {
 }
 
 /* Where the n-th file of an ENTER stands, from 0 on. */
-static size_t file_at(size_t n) { return FILES_AT + NUMBER_LEN * n; }
+static size_t claimed_at(size_t n) { return FILES_AT + NUMBER_LEN * n; }
 
 /* ---- refusals 3 to 7: what is wrong in the line */
 
@@ -100,7 +100,7 @@ static void explain_length(struct text *text, const struct refused *r) {
     else {
         const struct counts n = counts_of(r->line);
         say(text, " with %d files to write, %d to read and %d to inquire into ends with column %d",
-            (int)n.of[0], (int)n.of[1], (int)n.of[2], (int)file_at(n.of[0] + n.of[1] + n.of[2]));
+            (int)n.of[0], (int)n.of[1], (int)n.of[2], (int)claimed_at(n.of[0] + n.of[1] + n.of[2]));
     }
 }
 
@@ -126,7 +126,7 @@ static struct field field_of(const struct refused *r, size_t n) {
         return n == 1 ? file : record;
     count.at += NUMBER_LEN * (n - 1);
     if (n > CLAIMS)
-        file.at = file_at(n - 1 - CLAIMS);
+        file.at = claimed_at(n - 1 - CLAIMS);
     return n > CLAIMS ? file : count;
 }
 
@@ -162,8 +162,8 @@ static void explain_label(struct text *text, const struct refused *r) {
 static void explain_rising(struct text *text, const struct refused *r) {
     const struct counts counts = counts_of(r->line);
     const size_t read = counts.of[0], inquiry = read + counts.of[1]; /* where these claims begin */
-    for (size_t n = 1; file_at(n + 1) <= r->len; n++) {
-        const size_t at = file_at(n);
+    for (size_t n = 1; claimed_at(n + 1) <= r->len; n++) {
+        const size_t at = claimed_at(n);
         const int file = number_at(r->line + at), before = number_at(r->line + at - NUMBER_LEN);
         if (n != read && n != inquiry && file <= before) {
             say(text, "columns %d-%d have file %d after file %d", (int)at + 1, (int)at + NUMBER_LEN,
@@ -256,7 +256,7 @@ static void take_claims(const struct refused *r, uint64_t *claims) {
     for (int i = 0; i < CLAIMS; i++) {
         const size_t end = n + counts.of[i];
         for (claims[i] = 0; n < end; n++)
-            claims[i] |= file_set(number_at(r->line + file_at(n)));
+            claims[i] |= file_set(number_at(r->line + claimed_at(n)));
     }
 }
 

@@ -185,8 +185,10 @@ static void back_case(char *in, char *out) {
 /* A call that is refused, by the names of the header; its claims meet. */
 static void refused_call(uint64_t verb, uint64_t program, uint64_t file, uint64_t record,
                          size_t claims_len, size_t label_len, size_t room, uint64_t answer) {
-    struct call call = {verb,       program,     file,     record, {1, [8] = 1, [16] = 1},
-                        claims_len, "STOCK    ", label_len};
+    struct call call = {verb, program, file, record, .claims = {[0] = 1, [8] = 1, [16] = 1}};
+    call.claims_len = claims_len;
+    memcpy(call.label, "STOCK    ", sizeof call.label);
+    call.label_len = label_len;
     case_number++;
     compare(&call, room, answer, "", 0);
 }
@@ -196,7 +198,7 @@ static void refused(uint64_t verb, uint64_t program, uint64_t file, size_t label
     refused_call(verb, program, file, 0, LOCK_BOARD_CLAIMS_LEN, label_len, room, answer);
 }
 
-/* A FETCH that is refused; a claims' length is not looked at. */
+/* A FETCH that is refused; its claims are not looked at. */
 static void refused_fetch(uint64_t program, uint64_t file, uint64_t record, size_t room,
                           uint64_t answer) {
     refused_call(LOCK_BOARD_FETCH, program, file, record, 0, 0, room, answer);
