@@ -9,7 +9,9 @@
 use crate::compare::call::{library, model, Call, Outcome};
 use crate::compare::session::Session;
 use crate::model::board::PROGRAMS;
-use crate::model::image::{COUNTS, ENTRY_LINE, FAVOURED, INQUIRY, INQUIRY_LEN, PROGRAM, WAITING_LINE};
+use crate::model::image::{
+    COUNTS, ENTRY_LINE, FAVOURED, INQUIRY, INQUIRY_LEN, PROGRAM, WAITING_LINE,
+};
 use crate::model::journal::{COLUMNS, LINE};
 
 /// The library and the model go through a session as it is told.
