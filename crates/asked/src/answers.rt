@@ -37,24 +37,45 @@ fn answer_letter(a: Answer) -> u8 {
     }
 }
 
-// The four bytes of a line.
-fn line_bytes(l: Line) -> [u8; 4]
-    ensures { λ r. ⌜ length r ≡ 4 ⌝ }
+// The low byte of a number.
+fn low(n: u16) -> u8 {
+    (n % 256) as u8
+}
+
+// The high byte of a number.
+fn high(n: u16) -> u8 {
+    (n / 256) as u8
+}
+
+// The seven bytes of a line.
+fn line_bytes(l: Line) -> [u8; 7]
+    ensures { λ r. ⌜ length r ≡ 7 ⌝ }
 {
     let word = l.word;
-    [word_letter(word), l.program, l.file, l.refusal]
+    [
+        word_letter(word),
+        low(l.program),
+        low(l.file),
+        high(l.file),
+        low(l.refusal),
+        low(l.item),
+        high(l.item),
+    ]
 }
 
 // The bytes of all lines.
-fn lines_bytes(lines: [Line; 32]) -> [u8; 128] {
-    let mut bytes = [0u8; 128];
+fn lines_bytes(lines: [Line; 32]) -> [u8; 224] {
+    let mut bytes = [0u8; 224];
     let mut i: usize = 0;
     while i < 32 {
-        let four = line_bytes(lines[i]);
-        bytes[4 * i] = four[0];
-        bytes[4 * i + 1] = four[1];
-        bytes[4 * i + 2] = four[2];
-        bytes[4 * i + 3] = four[3];
+        let seven = line_bytes(lines[i]);
+        bytes[7 * i] = seven[0];
+        bytes[7 * i + 1] = seven[1];
+        bytes[7 * i + 2] = seven[2];
+        bytes[7 * i + 3] = seven[3];
+        bytes[7 * i + 4] = seven[4];
+        bytes[7 * i + 5] = seven[5];
+        bytes[7 * i + 6] = seven[6];
         i += 1;
     }
     bytes

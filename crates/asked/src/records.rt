@@ -10,13 +10,15 @@ ghost use mathlib.Core.Path.{_≡_};
 ghost use Prim.Native.Nat.{_≤_};
 ghost use lib.ListN.{length};
 
-// A record: its kind and its four numbers.
+// A record: its kind and its six numbers.
 pub struct Record {
     pub kind: u8,
     pub program: u64,
     pub file: u64,
+    pub item: u64,
     pub writable: u64,
     pub readable: u64,
+    pub inquirable: u64,
 }
 
 // A byte as a number.
@@ -35,25 +37,33 @@ fn number(part: &[u8]) -> u64 {
     n
 }
 
-// The record of 33 bytes.
+// The record of 49 bytes.
 pub fn parse(s: &[u8]) -> Record
-    requires { ⌜ length (now s) ≡ 33 ⌝ }
+    requires { ⌜ length (now s) ≡ 49 ⌝ }
 {
     Record {
         kind: s[0],
         program: number(&s[1..9]),
         file: number(&s[9..17]),
-        writable: number(&s[17..25]),
-        readable: number(&s[25..33]),
+        item: number(&s[17..25]),
+        writable: number(&s[25..33]),
+        readable: number(&s[33..41]),
+        inquirable: number(&s[41..49]),
     }
 }
 
-// The direct call of a record; any kind but the five others is leave.
+// The direct call enter of a record.
+fn enter(b: Board, r: Record) -> Answered {
+    let writable = FileSet { bits: r.writable };
+    let readable = FileSet { bits: r.readable };
+    let inquirable = FileSet { bits: r.inquirable };
+    direct::enter(b, r.program, writable, readable, inquirable)
+}
+
+// The direct call of a record; any kind but the seven others is leave.
 fn call(b: Board, r: Record) -> Answered {
     if r.kind == b'E' {
-        let writable = FileSet { bits: r.writable };
-        let readable = FileSet { bits: r.readable };
-        return direct::enter(b, r.program, writable, readable);
+        return enter(b, r);
     }
     if r.kind == b'O' {
         return direct::open(b, r.program, r.file);
@@ -66,6 +76,12 @@ fn call(b: Board, r: Record) -> Answered {
     }
     if r.kind == b'X' {
         return direct::cancel(b, r.program);
+    }
+    if r.kind == b'F' {
+        return direct::fetch(b, r.program, r.file, r.item);
+    }
+    if r.kind == b'R' {
+        return direct::return_item(b, r.program);
     }
     direct::leave(b, r.program)
 }
@@ -121,7 +137,7 @@ fn matrix(b: Board) {
 // Whether the list that follows is a loop with the file given to the program.
 fn check(b: Board, r: Record) {
     let mut text = [0u8; 4096];
-    let n = read_text(&mut text, r.writable);
+    let n = read_text(&mut text, r.item);
     answers::truth(digraph::loops::is_loop_with(b, r.program, r.file, front(&text, n)));
 }
 
@@ -136,7 +152,7 @@ fn in_place(b: Board, r: Record) -> Board {
     let mut text = [0u8; 4096];
     let mut journal = [170u8; 1024];
     let n = read_text(&mut text, r.program);
-    let lent = post(b, front(&text, n), &mut journal, r.file, r.writable);
+    let lent = post(b, front(&text, n), &mut journal, r.file, r.item);
     let board = lent.board;
     answers::post(lent.posted, &journal);
     answers::write_image(board);

@@ -8,9 +8,9 @@ use rules::Standing;
 
 // The first `places` numbers of `program` and the first `files` numbers of `file`.
 // In a ring there are as many files as places, and each program has two: that of its own place and the next.
-// `ways` is how many ways a program may have a file. 3: in V, in V and W, in Q and R.
-// 5: also in Q, or not at all. 16: in any of the four sets. Another number above 5: as 5, the rest being not at all.
-// `standings` is 1 (running), 2 (also waiting) or 4 (also held or absent).
+// `ways` is how many ways a program may have a file. 4: in V, in V and W, in Q and R, in J and I.
+// 7: also in Q, in J, or not at all. 64: in any of the six sets. Another number above 7: as 7, the rest being not at all.
+// `standings` is 1 (running), 2 (also waiting), 4 (also running with a record in use, waiting for a record) or 6 (also held or absent).
 pub struct Family {
     pub places: usize,
     pub program: [usize; 6],
@@ -21,12 +21,14 @@ pub struct Family {
     pub standings: u64,
 }
 
-// V, Q, W and R of a program, and what is left of the number.
+// V, Q, J, W, R and I of a program, and what is left of the number.
 struct Sets {
     v: u64,
     q: u64,
+    j: u64,
     w: u64,
     r: u64,
+    i: u64,
     left: u64,
 }
 
@@ -41,10 +43,32 @@ pub fn program(v: u64, q: u64, w: u64, r: u64, standing: Standing) -> Program {
     Program {
         writable: FileSet { bits: v },
         readable: FileSet { bits: q },
+        inquirable: FileSet { bits: 0 },
         writing: FileSet { bits: w },
         reading: FileSet { bits: r },
+        inquiring: FileSet { bits: 0 },
         standing: standing,
+        file: 0,
+        item: 0,
     }
+}
+
+// `p` with inquiry claim j and i open for inquiry.
+pub fn inquirer(p: Program, j: u64, i: u64) -> Program {
+    let inquirable = FileSet { bits: j };
+    let inquiring = FileSet { bits: i };
+    let mut next = p;
+    next.inquirable = inquirable;
+    next.inquiring = inquiring;
+    next
+}
+
+// `p` with record `item` of `file`: in use if it runs, awaited if it waits.
+pub fn with_record(p: Program, file: u8, item: u16) -> Program {
+    let mut next = p;
+    next.file = file;
+    next.item = item;
+    next
 }
 
 // `b` with `p` as program `number`.
@@ -102,16 +126,18 @@ fn number_at(xs: [usize; 6], i: usize) -> usize {
     0
 }
 
-// What a digit says of a file: 1 it is in V, 2 in Q, 4 in W, 8 in R, summed up.
+// What a digit says of a file: 1 it is in V, 2 in Q, 4 in J, 8 in W, 16 in R, 32 in I, summed up.
 fn use_of(d: u64, ways: u64) -> u64 {
-    if ways == 16 {
+    if ways == 64 {
         return d;
     }
     match d {
         0 => 1,
-        1 => 5,
-        2 => 10,
-        3 => 2,
+        1 => 9,
+        2 => 18,
+        3 => 36,
+        4 => 2,
+        5 => 4,
         _ => 0,
     }
 }
@@ -131,8 +157,10 @@ fn with_file(s: Sets, file: u8, ways: u64) -> Sets {
     Sets {
         v: s.v | if_odd(u, bit),
         q: s.q | if_odd(u / 2, bit),
-        w: s.w | if_odd(u / 4, bit),
-        r: s.r | if_odd(u / 8, bit),
+        j: s.j | if_odd(u / 4, bit),
+        w: s.w | if_odd(u / 8, bit),
+        r: s.r | if_odd(u / 16, bit),
+        i: s.i | if_odd(u / 32, bit),
         left: shorter(s.left, ways),
     }
 }
@@ -161,8 +189,10 @@ fn sets_of(f: Family, i: usize, number: u64) -> Sets {
     let mut s = Sets {
         v: 0,
         q: 0,
+        j: 0,
         w: 0,
         r: 0,
+        i: 0,
         left: number,
     };
     let mut k: usize = 0;
@@ -178,8 +208,19 @@ fn standing_of(d: u64, file: u8) -> Standing {
     match d {
         0 => Standing::Running,
         1 => Standing::Waiting(file),
-        2 => Standing::Held,
+        2 => Standing::Running,
+        3 => Standing::Waiting(file),
+        4 => Standing::Held,
         _ => Standing::Absent,
+    }
+}
+
+// `p` with a record of a file, if the standing's digit says so.
+fn recorded(p: Program, d: u64, file: u8) -> Program {
+    match d {
+        2 => with_record(p, file, 1),
+        3 => with_record(p, file, 1),
+        _ => p,
     }
 }
 
@@ -187,9 +228,11 @@ fn standing_of(d: u64, file: u8) -> Standing {
 fn with_program(m: Made, f: Family, i: usize) -> Made {
     let numbers = f.program;
     let before = m.board;
-    let standing = standing_of(digit(m.left, f.standings), file_of(f, i, 0));
+    let d = digit(m.left, f.standings);
+    let file = file_of(f, i, 0);
     let s = sets_of(f, i, shorter(m.left, f.standings));
-    let p = program(s.v, s.q, s.w, s.r, standing);
+    let user = program(s.v, s.q, s.w, s.r, standing_of(d, file));
+    let p = recorded(inquirer(user, s.j, s.i), d, file);
     let board = placed(before, number_at(numbers, i), p);
     Made {
         board: board,

@@ -6,6 +6,7 @@ use super::paths;
 use files::WORDS;
 use rules::Board;
 use search::Search;
+use store::sets::PLACES;
 
 // Whether the board has a completion order, whether it has one by rising number, and whether search, matrix and loop agree.
 pub struct Outcome {
@@ -69,7 +70,7 @@ fn all_agree(b: Board, a: Admitted, kind: Search, t: Tried, at: [u8; 32]) -> boo
 // Both searches on one board; the board's own order is the one that the test of a sound board gives back.
 pub fn compared(b: Board) -> Outcome {
     let a = orders::admitted_programs(b);
-    let mut sets = [[0u64; WORDS]; 128];
+    let mut sets = [[0u64; WORDS]; PLACES];
     let rest = store::sets::take(b, &mut sets);
     let j = sound::judge(&sets, rest);
     let o = j.order;

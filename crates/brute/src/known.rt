@@ -89,8 +89,52 @@ fn session(t: Tally) -> Tally {
     checked(c, three(none, given, run), 1, order(2, 3, 0))
 }
 
+// Two who inquire into file 1; one who does, with a writer or a reader that waits; a writer or a reader, with one who waits to inquire.
+fn inquirers(t: Tally) -> Tally {
+    let none = Program::ABSENT;
+    let idle = boards::program(0, 0, 0, 0, Standing::Running);
+    let clerk = boards::inquirer(idle, 1, 1);
+    let a = checked(t, three(clerk, clerk, none), 2, order(1, 2, 0));
+    let writer = boards::program(1, 0, 0, 0, Standing::Waiting(1));
+    let b = checked(a, three(clerk, writer, none), 1, order(1, 2, 0));
+    let reader = boards::program(0, 1, 0, 0, Standing::Waiting(1));
+    let c = checked(b, three(reader, clerk, none), 1, order(2, 1, 0));
+    let asking = boards::inquirer(boards::program(0, 0, 0, 0, Standing::Waiting(1)), 1, 0);
+    let writing = boards::program(1, 0, 1, 0, Standing::Running);
+    let d = checked(c, three(asking, writing, none), 1, order(2, 1, 0));
+    let reading = boards::program(0, 1, 0, 1, Standing::Running);
+    checked(d, three(asking, reading, none), 1, order(2, 1, 0))
+}
+
+// One inquires into file 1 and may into file 2, another reads file 2: it may write file 1, and there is no order; it may inquire into it.
+fn crossed(t: Tally) -> Tally {
+    let none = Program::ABSENT;
+    let idle = boards::program(0, 0, 0, 0, Standing::Running);
+    let clerk = boards::inquirer(idle, 3, 1);
+    let writer = boards::program(1, 2, 0, 2, Standing::Running);
+    let a = checked(t, three(clerk, writer, none), 0, order(0, 0, 0));
+    let lists = boards::program(0, 2, 0, 2, Standing::Running);
+    let looks = boards::inquirer(lists, 1, 0);
+    checked(a, three(clerk, looks, none), 1, order(2, 1, 0))
+}
+
+// Program 1 has record 17 of file 1 in use and 2 waits for it: no record holds back anybody. Program 3 waits to write the file.
+fn records(t: Tally) -> Tally {
+    let none = Program::ABSENT;
+    let idle = boards::program(0, 0, 0, 0, Standing::Running);
+    let user = boards::with_record(boards::inquirer(idle, 1, 1), 1, 17);
+    let still = boards::program(0, 0, 0, 0, Standing::Waiting(1));
+    let waiter = boards::with_record(boards::inquirer(still, 1, 1), 1, 17);
+    let a = checked(t, three(user, waiter, none), 2, order(1, 2, 0));
+    let writer = boards::program(1, 0, 0, 0, Standing::Waiting(1));
+    checked(a, three(user, waiter, writer), 2, order(1, 2, 3))
+}
+
 pub fn known_answers() -> Tally {
     let a = claims(compare::nothing());
     let b = readers(a);
-    session(b)
+    let c = session(b);
+    let d = inquirers(c);
+    let e = crossed(d);
+    records(e)
 }

@@ -79,15 +79,23 @@ pub fn admitted_programs(b: Board) -> Admitted {
     a
 }
 
-// W of i meets V or Q of j, or R of i meets V of j.
+// "I of i meets V or Q of j, or W or R of i meets J of j"
+fn holds_back_by_inquiry(i: Program, j: Program) -> bool {
+    if i.inquiring.bits & (j.writable.bits | j.readable.bits) != 0 {
+        return true;
+    }
+    (i.writing.bits | i.reading.bits) & j.inquirable.bits != 0
+}
+
+// "W of i meets V or Q of j, or R of i meets V of j"
 fn holds_back(i: Program, j: Program) -> bool {
-    if i.writing.bits & j.writable.bits != 0 {
+    if i.writing.bits & (j.writable.bits | j.readable.bits) != 0 {
         return true;
     }
-    if i.writing.bits & j.readable.bits != 0 {
+    if i.reading.bits & j.writable.bits != 0 {
         return true;
     }
-    i.reading.bits & j.writable.bits != 0
+    holds_back_by_inquiry(i, j)
 }
 
 // The set that holds only place `i`.

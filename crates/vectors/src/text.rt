@@ -28,7 +28,7 @@ pub fn line_end(s: &[u8], from: usize) -> usize
     i
 }
 
-// Where a line is cut: "a line over 407 bytes is handed on as its first 408".
+// Where a line is cut: "The longest line has 602 bytes; a longer one is cut to 603."
 pub fn cut(from: usize, end: usize) -> usize
     requires { ⌜ from ≤ end ⌝ }
     ensures { λ r. ⌜ (from ≤ r) × (r ≤ end) ⌝ }

@@ -1,16 +1,20 @@
 -- `lines_bytes` is safe and ends. Assumes nothing.
 use mathlib.Core.Path.{_≡_}
 use Prim.Native.Nat.{_-_, _≤_}
-use lib.ListN.{length}
+use native.Mathlib.Omega.{arith}
+use lib.ListN.{length, length-set}
 use borrow.Author.Needs.{needs}
 use Rattle.asked.proofs.answers.lines_bytes.Statement.{statement}
 use Rattle.asked.proofs.answers.lines_bytes.Tie as tie
 
 abbrev Inv-loop : tie.InvT-loop
-Inv-loop lines bytes₀ i₀ bytes i = (i ≤ 32) × (length bytes ≡ 128)
+Inv-loop lines bytes₀ i₀ bytes i = (i ≤ 32) × (length bytes ≡ 224)
 
 abbrev μ-loop : tie.MeasureT-loop
 μ-loop lines bytes₀ i₀ bytes i = 32 - i
+
+loop-again : tie.Need-loop-again Inv-loop μ-loop
+loop-again c = simp length-set (omega arith)
 
 pub lines-bytes-spec : {M : Type 1} → statement M
 lines-bytes-spec =
@@ -40,4 +44,16 @@ lines-bytes-spec =
     (λ c. search needs)
     (λ c. search needs)
     (λ c. search needs)
+    (λ c. search needs)
+    (λ c. search needs)
+    (λ c. search needs)
+    (λ c. search needs)
+    (λ c. search needs)
+    (λ c. search needs)
+    (λ c. search needs)
+    (λ c. search needs)
+    (λ c. search needs)
+    (λ c. search needs)
+    (λ c. search needs)
+    loop-again
     (λ c. search needs))
