@@ -65,6 +65,7 @@ fn admitted(standing: Standing, v: Files, q: Files, w: Files, r: Files) -> Progr
         q,
         w,
         r,
+        ..Program::ABSENT
     }
 }
 
@@ -297,6 +298,7 @@ fn same_program(viewed: &lock_board::Program, program: &Program) -> bool {
         q,
         w,
         r,
+        ..Program::ABSENT
     } == *program
 }
 
