@@ -1,4 +1,4 @@
-//! Writes the six workloads of the bench: request lines for the program
+//! Writes the seven workloads of the bench: request lines for the program
 //! `board`, always the same ones. The model of the tests follows the board, so
 //! that the lines keep it busy; neither the library nor the program is called.
 //!
@@ -22,13 +22,14 @@ const SEED: u64 = 197_214_701;
 
 type Next = fn(&mut Workload) -> Vec<u8>;
 
-const WORKLOADS: [(&str, Next); 6] = [
+const WORKLOADS: [(&str, Next); 7] = [
     ("low", low),
     ("high", high),
     ("unsafe", unsafe_opens),
     ("refusals", refusals),
     ("wide", wide),
     ("cancel", cancels),
+    ("clerks", clerks),
 ];
 
 fn main() {
@@ -134,10 +135,36 @@ impl Workload {
             _ => Request::Leave { p },
         }
     }
+
+    /// A line of a running clerk: a return or a leave if it has a record in use,
+    /// else a fetch, or an open, close or leave.
+    fn look_up(&mut self, p: usize) -> Request {
+        let program = *self.board.get(p);
+        if program.in_use.is_some() {
+            return if self.random.per_mille(950) {
+                Request::Return { p }
+            } else {
+                Request::Leave { p }
+            };
+        }
+        let n = self.random.within(1, 4);
+        match (
+            self.random.pick(&members(program.i)),
+            self.random.per_mille(850),
+        ) {
+            (Some(f), true) => Request::Fetch { p, f, n },
+            _ => self.live(p, [70, 20, 0]),
+        }
+    }
 }
 
 fn text(request: Request, label: &[u8; 8]) -> Vec<u8> {
     line::write(&request, label)
+}
+
+/// An enter that claims nothing for inquiry.
+fn enter(p: usize, v: Files, q: Files) -> Request {
+    Request::Enter { p, v, q, j: 0 }
 }
 
 /// Eight programs, each with files of its own; one in five also claims a file
@@ -154,7 +181,7 @@ fn low(work: &mut Workload) -> Vec<u8> {
             1..=3 => q |= only(64),
             _ => {}
         }
-        return text(Request::Enter { p, v, q }, b"LOW     ");
+        return text(enter(p, v, q), b"LOW     ");
     }
     let p = work.some(8, Standing::Running).unwrap_or(p);
     text(work.live(p, [55, 35, 3]), b"LOW     ")
@@ -168,7 +195,7 @@ fn high(work: &mut Workload) -> Vec<u8> {
             let (w, r) = (work.random.within(2, 5), work.random.within(0, 3));
             let v = work.files(w, hot);
             let q = work.files(r, hot & !v);
-            return text(Request::Enter { p, v, q }, b"HIGH    ");
+            return text(enter(p, v, q), b"HIGH    ");
         }
     }
     let p = work.some(32, Standing::Running).unwrap_or(1);
@@ -185,14 +212,7 @@ fn unsafe_opens(work: &mut Workload) -> Vec<u8> {
     if let (Some(p), true) = (work.some(32, Standing::Absent), work.random.per_mille(550)) {
         let near = 0x3f << (4 * work.random.below(6));
         let count = work.random.within(3, 4);
-        return text(
-            Request::Enter {
-                p,
-                v: work.files(count, near),
-                q: 0,
-            },
-            label,
-        );
+        return text(enter(p, work.files(count, near), 0), label);
     }
     if let (Some((p, f)), true) = (work.random.pick(&safe), work.random.per_mille(350)) {
         return text(Request::Open { p, f }, label);
@@ -232,10 +252,10 @@ fn refusals(work: &mut Workload) -> Vec<u8> {
         0 => b"START   1".to_vec(),
         1 => [text(Request::Open { p, f }, label), b" ".to_vec()].concat(),
         2 => b"CLOSE  01  1".to_vec(),
-        3 => text(Request::Enter { p, v: 0xf0f0, q: 0 }, b"BAD\x7f    "),
-        4 => format!("ENTER {p:3}FALLING   2  0 12 11").into_bytes(),
-        5 => format!("ENTER {p:3}COUNT    65  0").into_bytes(),
-        6 | 7 => text(Request::Enter { p, v: 6, q: 12 }, label),
+        3 => text(enter(p, 0xf0f0, 0), b"BAD\x7f    "),
+        4 => format!("ENTER {p:3}FALLING   2  0  0 12 11").into_bytes(),
+        5 => format!("ENTER {p:3}COUNT    65  0  0").into_bytes(),
+        6 | 7 => text(enter(p, 6, 12), label),
         8 => text(Request::Open { p, f }, label),
         9 => text(Request::Close { p, f }, label),
         10 => text(Request::Drop { p, f: f.max(25) }, label),
@@ -251,7 +271,7 @@ fn wide(work: &mut Workload) -> Vec<u8> {
             let count = work.random.within(20, 64);
             let v = work.files(count, !0);
             let q = if work.random.per_mille(500) { !v } else { 0 };
-            return text(Request::Enter { p, v, q }, b"WIDE    ");
+            return text(enter(p, v, q), b"WIDE    ");
         }
     }
     let p = work.some(32, Standing::Running).unwrap_or(1);
@@ -267,4 +287,26 @@ fn cancels(work: &mut Workload) -> Vec<u8> {
         (Some(p), true) => text(Request::Cancel { p }, b"CANCEL  "),
         _ => high(work),
     }
+}
+
+/// Thirty clerks look up the same few records of four files; two batch programs
+/// write one of these files and read another.
+fn clerks(work: &mut Workload) -> Vec<u8> {
+    let (label, files) = (b"CLERKS  ", 0xf);
+    let absent = work.some(32, Standing::Absent);
+    let running = work.some(32, Standing::Running);
+    let request = match (absent, running, work.random.per_mille(120)) {
+        (Some(p), _, true) | (Some(p), None, _) if p > 30 => {
+            let v = work.files(1, files);
+            enter(p, v, work.files(1, files & !v))
+        }
+        (Some(p), _, true) | (Some(p), None, _) => {
+            let count = work.random.within(1, 2);
+            let j = work.files(count, files);
+            Request::Enter { p, v: 0, q: 0, j }
+        }
+        (_, Some(p), _) if p > 30 => work.live(p, [70, 15, 0]),
+        (_, running, _) => work.look_up(running.unwrap_or(1)),
+    };
+    text(request, label)
 }

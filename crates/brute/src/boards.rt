@@ -102,7 +102,7 @@ fn shorter(x: u64, b: u64) -> u64 {
 }
 
 // The set that holds only file `f`.
-fn file_bit(f: u8) -> u64 {
+fn file_bit(f: u16) -> u64 {
     if f == 0 {
         return 0;
     }
@@ -151,7 +151,7 @@ fn if_odd(x: u64, bit: u64) -> u64 {
 }
 
 // The sets with the file of one more digit.
-fn with_file(s: Sets, file: u8, ways: u64) -> Sets {
+fn with_file(s: Sets, file: u16, ways: u64) -> Sets {
     let u = use_of(digit(s.left, ways), ways);
     let bit = file_bit(file);
     Sets {
@@ -204,7 +204,7 @@ fn sets_of(f: Family, i: usize, number: u64) -> Sets {
     s
 }
 
-fn standing_of(d: u64, file: u8) -> Standing {
+fn standing_of(d: u64, file: u16) -> Standing {
     match d {
         0 => Standing::Running,
         1 => Standing::Waiting(file),

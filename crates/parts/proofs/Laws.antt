@@ -1,56 +1,70 @@
 -- The table of modes, as the code computes it.
 -- Assumes nothing.
 use Prim.Native.Nat.{ℕ, _^_, _<_}
-use mathlib.Core.Path.{_≡_, refl, sym, ap, _∙_}
+use mathlib.Core.Path.{_≡_, refl, sym, ap, ap₂, _∙_}
 use mathlib.Core.Bool.{Bool, true, false, not, _||_}
 use mathlib.Core.List.{List}
 use lib.Bits.{bitAnd, bitOr, and-lt, or-lt}
 use lib.Dec.{eqb}
 use lib.ListN.{length, getD}
 use Rattle.files.specs.declared.FileSet.{FileSet}
+use Rattle.files.specs.Bits.{hasBit, share}
 use Rattle.files.specs.Sets.{meets}
 use Rattle.files.specs.Words.{bitsOf}
-use Rattle.files.proofs.Bits.{or-none}
+use Rattle.files.proofs.Bits.{or-none, or-has, share-of, of-share}
+use Rattle.laws.specs.Tests.{same-test, or-cases, or-left, or-right}
 use Rattle.files.proofs.Rows.{Words, row-words, and-both-words, or-both-words}
 use Rattle.rules.specs.Modes.{byMode, touching, touching-is}
 use Rattle.parts.specs.Modes.{clashes, SameLengths}
 
--- the same tests in two groupings
-regrouped : (a b c d e f g : Bool) → (a || b || c || d || e || f || g) ≡ ((a || b || c) || (d || e) || (f || g))
-regrouped true b c d e f g = refl
-regrouped false true c d e f g = refl
-regrouped false false true d e f g = refl
-regrouped false false false true e f g = refl
-regrouped false false false false true f g = refl
-regrouped false false false false false f g = refl
+-- two sets joined meet a third exactly when one of them does
+join-meets : (a b c : ℕ) → share (bitOr a b) c ≡ (share a c || share b c)
+join-meets a b c = same-test (share (bitOr a b) c) (share a c || share b c)
+    (λ e. let (k, x, y) = of-share (bitOr a b) c e in or-cases (hasBit a k) (hasBit b k) (sym (or-has a b k) ∙ x)
+    (λ u. or-left (share a c) (share b c) (share-of a c k u y)) (λ u. or-right (share a c) (share b c) (share-of b c k u y)))
+    (λ e. or-cases (share a c) (share b c) e
+    (λ u. let (k, x, y) = of-share a c u in share-of (bitOr a b) c k (or-has a b k ∙ or-left (hasBit a k) (hasBit b k) x) y)
+    (λ u. let (k, x, y) = of-share b c u in share-of (bitOr a b) c k (or-has a b k ∙ or-right (hasBit a k) (hasBit b k) x) y))
+
+-- the same tests by columns and by rows
+regrouped : (wv rv iv wq iq wj rj : Bool)
+    → ((((wv || rv) || iv) || (wq || iq)) || (wj || rj)) ≡ ((wv || wq || wj) || (rv || rj) || (iv || iq))
+regrouped true rv iv wq iq wj rj = refl
+regrouped false true iv true iq wj rj = refl
+regrouped false true iv false iq true rj = refl
+regrouped false true iv false iq false rj = refl
+regrouped false false true true iq wj rj = refl
+regrouped false false true false iq true rj = refl
+regrouped false false true false iq false true = refl
+regrouped false false true false iq false false = refl
+regrouped false false false true iq wj rj = refl
+regrouped false false false false true true rj = refl
+regrouped false false false false true false true = refl
+regrouped false false false false true false false = refl
+regrouped false false false false false true rj = refl
+regrouped false false false false false false true = refl
+regrouped false false false false false false false = refl
 
 -- some file is in it exactly when the sets touch
 pub clashes-touch : (w r i v q j : FileSet)
     → not (eqb (clashes (w .bits) (r .bits) (i .bits) (v .bits) (q .bits) (j .bits)) 0) ≡ touching (byMode w r i) (byMode v q j)
 clashes-touch w r i v q j =
-    or-none f (bitAnd (i .bits) (q .bits))
-    ∙ ap (λ (x : Bool). x || meets i q) (or-none e (bitAnd (i .bits) (v .bits))
-    ∙ ap (λ (x : Bool). x || meets i v) (or-none d (bitAnd (r .bits) (j .bits))
-    ∙ ap (λ (x : Bool). x || meets r j) (or-none c (bitAnd (r .bits) (v .bits))
-    ∙ ap (λ (x : Bool). x || meets r v) (or-none b (bitAnd (w .bits) (j .bits))
-    ∙ ap (λ (x : Bool). x || meets w j) (or-none (bitAnd (w .bits) (v .bits)) (bitAnd (w .bits) (q .bits)))))))
-    ∙ regrouped (meets w v) (meets w q) (meets w j) (meets r v) (meets r j) (meets i v) (meets i q)
+    or-none (bitOr a b) c
+    ∙ ap (λ (x : Bool). x || not (eqb c 0)) (or-none a b)
+    ∙ ap₂ (λ (x y : Bool). x || y) (ap₂ (λ (x y : Bool). x || y)
+    (join-meets (bitOr (w .bits) (r .bits)) (i .bits) (v .bits) ∙ ap (λ (x : Bool). x || meets i v) (join-meets (w .bits) (r .bits) (v .bits)))
+    (join-meets (w .bits) (i .bits) (q .bits))) (join-meets (w .bits) (r .bits) (j .bits))
+    ∙ regrouped (meets w v) (meets r v) (meets i v) (meets w q) (meets i q) (meets w j) (meets r j)
     ∙ sym (touching-is (byMode w r i) (byMode v q j))
   where
+    a : ℕ
+    a = bitAnd (bitOr (bitOr (w .bits) (r .bits)) (i .bits)) (v .bits)
+
     b : ℕ
-    b = bitOr (bitAnd (w .bits) (v .bits)) (bitAnd (w .bits) (q .bits))
+    b = bitAnd (bitOr (w .bits) (i .bits)) (q .bits)
 
     c : ℕ
-    c = bitOr b (bitAnd (w .bits) (j .bits))
-
-    d : ℕ
-    d = bitOr c (bitAnd (r .bits) (v .bits))
-
-    e : ℕ
-    e = bitOr d (bitAnd (r .bits) (j .bits))
-
-    f : ℕ
-    f = bitOr e (bitAnd (i .bits) (v .bits))
+    c = bitAnd (bitOr (w .bits) (r .bits)) (j .bits)
 
 -- the same of rows, word by word
 pub clash-words : (w r i v q j : List ℕ) → SameLengths w r i v q j
@@ -59,12 +73,12 @@ pub clash-words : (w r i v q j : List ℕ) → SameLengths w r i v q j
 clash-words w r i v q j n =
     let a = row-words w (length w) refl in let b = row-words r (length w) (n .of-r) in let c = row-words i (length w) (n .of-i) in
     let x = row-words v (length w) (n .of-v) in let y = row-words q (length w) (n .of-q) in let z = row-words j (length w) (n .of-j) in
-    or-both-words (or-both-words (or-both-words (or-both-words (or-both-words (or-both-words (and-both-words a x) (and-both-words a y))
-    (and-both-words a z)) (and-both-words b x)) (and-both-words b z)) (and-both-words c x)) (and-both-words c y)
+    or-both-words (or-both-words (and-both-words (or-both-words (or-both-words a b) c) x) (and-both-words (or-both-words a c) y))
+    (and-both-words (or-both-words a b) z)
 
 -- it is a word if the six are
 pub clash-word : (w r i v q j : ℕ) → w < 2 ^ 64 → r < 2 ^ 64 → i < 2 ^ 64 → v < 2 ^ 64 → q < 2 ^ 64 → j < 2 ^ 64 → clashes w r i v q j < 2 ^ 64
 clash-word w r i v q j a b c x y z =
-    or-lt 64 _ (bitAnd i q) (or-lt 64 _ (bitAnd i v) (or-lt 64 _ (bitAnd r j) (or-lt 64 _ (bitAnd r v) (or-lt 64 _ (bitAnd w j)
-    (or-lt 64 (bitAnd w v) (bitAnd w q) (and-lt 64 w v a x) (and-lt 64 w q a y)) (and-lt 64 w j a z)) (and-lt 64 r v b x)) (and-lt 64 r j b z))
-    (and-lt 64 i v c x)) (and-lt 64 i q c y)
+    or-lt 64 _ (bitAnd (bitOr w r) j) (or-lt 64 (bitAnd (bitOr (bitOr w r) i) v) (bitAnd (bitOr w i) q)
+    (and-lt 64 (bitOr (bitOr w r) i) v (or-lt 64 (bitOr w r) i (or-lt 64 w r a b) c) x) (and-lt 64 (bitOr w i) q (or-lt 64 w i a c) y))
+    (and-lt 64 (bitOr w r) j (or-lt 64 w r a b) z)

@@ -9,10 +9,9 @@ use Rattle.files.specs.declared.FileSet.{FileSet}
 use Rattle.files.specs.Words.{setOf}
 use Rattle.rules.specs.Modes.{Mode, byMode}
 
--- what three sets share with three others, in the modes that clash
+-- what three sets share with three others, in the modes that clash: by columns of the table
 abbrev pub clashes : ℕ → ℕ → ℕ → ℕ → ℕ → ℕ → ℕ
-clashes w r i v q j =
-    bitOr (bitOr (bitOr (bitOr (bitOr (bitOr (bitAnd w v) (bitAnd w q)) (bitAnd w j)) (bitAnd r v)) (bitAnd r j)) (bitAnd i v)) (bitAnd i q)
+clashes w r i v q j = bitOr (bitOr (bitAnd (bitOr (bitOr w r) i) v) (bitAnd (bitOr w i) q)) (bitAnd (bitOr w r) j)
 
 -- the sets in three rows, by mode
 abbrev pub rows : List ℕ → List ℕ → List ℕ → Mode → FileSet

@@ -22,9 +22,9 @@ pub fn touches(w: &[u64], r: &[u64], i: &[u64], v: &[u64], q: &[u64], j: &[u64])
     false
 }
 
-// Whether one word of each clashes.
+// Whether one word of each clashes: by columns of the table, so that what one program has is joined once for all others.
 fn clash(w: u64, r: u64, i: u64, v: u64, q: u64, j: u64) -> bool
     ensures { λ t. ⌜ t ≡ not (eqb (clashes w r i v q j) 0) ⌝ }
 {
-    (w & v) | (w & q) | (w & j) | (r & v) | (r & j) | (i & v) | (i & q) != 0
+    ((w | r | i) & v) | ((w | i) & q) | ((w | r) & j) != 0
 }

@@ -3,20 +3,20 @@
 -- Assumes nothing.
 use Prim.Native.Nat.{ℕ, zero, suc}
 use mathlib.Core.Path.{_≡_}
-use mathlib.Core.Bool.{Bool, true, not, _&&_, _||_}
+use mathlib.Core.Bool.{Bool, true, false, not, _&&_, _||_}
 use mathlib.Core.List.{List}
 use Rattle.files.specs.Sets.{member}
 use Rattle.files.specs.Words.{setOf}
 use Rattle.rules.specs.declared.Board.{Board}
 use Rattle.laws.specs.Lists.{any, found}
 use Rattle.rules.specs.Modes.{clashing, someMode}
-use Rattle.rules.specs.Boards.{everyone}
+use Rattle.rules.specs.Boards.{everyone, at, hasOpen}
 use Rattle.rules.specs.Orders.{carried, inUse, safe, canGive}
 use Rattle.rules.specs.Soundness.{noConflict}
 use Rattle.tables.specs.declared.ProgramSet.{ProgramSet}
 use Rattle.tables.specs.ProgramSets.{noPrograms, hasProgram, withoutProgram}
 use Rattle.store.specs.Sets.{Sets, SetsOf, modeAt, holdsOne, claimsAt}
-use Rattle.tables.specs.Shared.{sharedIn, openRow, openedIn, othersOf}
+use Rattle.tables.specs.Shared.{openIn, openedIn}
 use Rattle.tables.specs.Tables.{packed, rowOf}
 use Rattle.search.specs.declared.Uses.{Uses}
 use Rattle.tables.specs.Boards.{admits, admittedSet}
@@ -27,9 +27,9 @@ use Rattle.tables.specs.Boards.{admits, admittedSet}
 abbrev pub usesIn : ProgramSet → Sets → Uses
 usesIn a sets = record { admitted = a; files = openedIn sets }
 
--- another than p has f open, in a mode that clashes with the one in which p would open it
+-- some program has f open, in a mode that clashes with the one in which p would open it
 abbrev pub usedIn : Sets → Uses → ℕ → ℕ → Bool
-usedIn sets u p f = someMode (λ m. clashing (modeAt sets p f) m && member (setOf (othersOf (sharedIn m (u .files)) (openRow sets m p))) f)
+usedIn sets u p f = someMode (λ m. clashing (modeAt sets p f) m && member (setOf (openIn m (u .files))) f)
 
 -- by the rows: x is of the set, and p stands in its row
 abbrev pub holdersIn : List ℕ → ℕ → ProgramSet → ℕ → Bool
@@ -61,9 +61,9 @@ giveIn sets u p f = not (usedIn sets u p f) && safeIn sets (u .admitted) p f
 abbrev pub usesOf : Board → Sets → Uses
 usesOf b sets = usesIn (admittedSet b) sets
 
--- on every board without conflict that has these sets: the test says whether f is in conflicting use
+-- on every board without conflict that has these sets, where p has not f open: the test says whether f is in conflicting use
 abbrev pub UsedFor : Sets → Uses → ℕ → ℕ → Bool → Type 0
-UsedFor sets u p f r = (b : Board) → SetsOf b sets → u ≡ usesOf b sets → noConflict b ≡ true → r ≡ inUse b p f
+UsedFor sets u p f r = (b : Board) → SetsOf b sets → u ≡ usesOf b sets → noConflict b ≡ true → hasOpen (at b p) f ≡ false → r ≡ inUse b p f
 
 -- on every board with these sets and admitted programs that has an order: the test says whether an order comes back with f given to p
 abbrev pub SafeFor : Sets → ProgramSet → ℕ → ℕ → Bool → Type 0
@@ -71,7 +71,7 @@ SafeFor sets a p f r = (b : Board) → SetsOf b sets → a ≡ admittedSet b →
     → r ≡ safe b p f
 
 -- on every board with an order and without conflict that has these sets: the test says whether an open would give f
--- to the admitted program p
+-- to the admitted program p, which has it not open
 abbrev pub GivenFor : Sets → Uses → ℕ → ℕ → Bool → Type 0
 GivenFor sets u p f r = (b : Board) → SetsOf b sets → u ≡ usesOf b sets → noConflict b ≡ true → found (carried b) ≡ true
-    → admits b p ≡ true → r ≡ canGive b p f
+    → admits b p ≡ true → hasOpen (at b p) f ≡ false → r ≡ canGive b p f

@@ -1,69 +1,64 @@
 // Whether a file can be given, by the arrays of a board.
 use crate::Order;
 use crate::Uses;
+use files::WORDS;
 use files::words;
 use store::Rest;
 use store::sets;
 use store::sets::Sets;
 use tables::ProgramSet;
-use tables::shared::Shared;
 ghost use mathlib.Core.Path.{_≡_};
 ghost use mathlib.Core.Bool.{true};
-ghost use Prim.Native.Nat.{_≤_, _<_};
+ghost use Prim.Native.Nat.{_≤_};
 ghost use Rattle.search.specs.Gives.{usesIn, usedIn, holdersIn, safeIn, giveIn};
 ghost use Rattle.rules.specs.Orders.{carried, withGiven};
 ghost use Rattle.files.specs.Sets.{member};
 ghost use Rattle.files.specs.Words.{setOf};
-ghost use Rattle.store.specs.Sets.{placeCount, IsStore, rowIn};
+ghost use Rattle.store.specs.Sets.{IsStore};
 ghost use Rattle.store.specs.Store.{boardOf};
 ghost use Rattle.search.specs.Rows.{asOrder};
 ghost use Rattle.tables.specs.ProgramSets.{hasProgram};
-ghost use Rattle.tables.specs.Shared.{othersOf};
 ghost use Rattle.tables.specs.Tables.{packed, rowsOf};
 
 // What is open, by the sets, with these admitted.
 pub fn uses_in(admitted: ProgramSet, sets: &Sets) -> Uses
+    requires { ⌜ IsStore (now sets) ⌝ }
     ensures { λ r. ⌜ r ≡ usesIn admitted (now (sets .entry)) ⌝ }
 {
     let files = tables::shared::opened(sets);
     Uses { admitted, files }
 }
 
-// Whether another has f than the one whose row of open files stands in this place, by what all have open in its mode.
-fn another_has(sets: &Sets, place: usize, all: Shared, f: u16) -> bool
-    requires { ⌜ (place < placeCount) × IsStore (now sets) ⌝ }
-    ensures { λ r. ⌜ r ≡ member (setOf (othersOf all (rowIn (now (sets .entry)) place))) f ⌝ }
+// Whether f is among these files.
+fn is_among(files: [u64; WORDS], f: u16) -> bool
+    ensures { λ r. ⌜ r ≡ member (setOf files) f ⌝ }
 {
-    let others = all.by_others(sets[place]);
-    words::has(&others, f)
+    words::has(&files, f)
 }
 
-// Whether another than p has f open in a mode that clashes with the one in which p opens it: on a board without conflict that is
-// conflicting use.
+// Whether some program has f open in a mode that clashes with the one in which p opens it: on a board without conflict, where p has not
+// f open, that is conflicting use.
 pub fn in_use(sets: &Sets, u: Uses, p: u8, f: u16) -> bool
     requires { ⌜ ((1 ≤ p) × (p ≤ 32)) × IsStore (now sets) ⌝ }
     ensures { λ r. ⌜ r ≡ usedIn (now (sets .entry)) u p f ⌝ }
 {
     let mode = sets::mode_at(sets, p, f);
-    let w = sets::writing_at(p);
     let written = u.files.writing;
-    if another_has(sets, w, written, f) {
+    if is_among(written, f) {
         return true;
     }
-    let i = sets::inquiring_at(p);
     let inquired = u.files.inquiring;
     if mode == 1 {
-        return another_has(sets, i, inquired, f);
+        return is_among(inquired, f);
     }
-    let r = sets::reading_at(p);
     let read = u.files.reading;
-    if another_has(sets, r, read, f) {
+    if is_among(read, f) {
         return true;
     }
     if mode != 0 {
         return false;
     }
-    another_has(sets, i, inquired, f)
+    is_among(inquired, f)
 }
 
 // Whether giving f to p is safe: on a board that has an order, whether one comes back. Those that hold p back, directly or through

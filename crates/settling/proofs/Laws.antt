@@ -18,7 +18,7 @@ use Rattle.rules.specs.declared.Program.{Program}
 use Rattle.rules.specs.declared.Board.{Board}
 use Rattle.rules.specs.declared.Word.{Word}
 use Rattle.laws.specs.Lists.{all, first, names}
-use Rattle.rules.specs.Boards.{at, awaited, awaitedOf, isProgram, isWaiting}
+use Rattle.rules.specs.Boards.{at, awaited, awaitedOf, hasOpen, isProgram, isWaiting}
 use Rattle.rules.specs.Orders.{withGiven, canGive}
 use Rattle.rules.specs.Settling.{Step, line, still, andThen, unfavour, resume, tryGive, pass, candidate, favour, runHeld, choose, settle}
 use Rattle.laws.specs.Laws.{_∈_, Pairs, here, each-all, first-some}
@@ -187,6 +187,11 @@ module _ (b : Board) (l : List ℕ) (k : ℕ) (h : k < length l) (ne : getD l k 
       let m = least 64 f (claims-file (at b (getD l k 0)) f (ready-at .0 .asked (getD l k 0) (waiter-at .0) f (d, z) .claimed)) in
       let e : awaited b (getD l k 0) ≡ f = ap awaitedOf d in omega arith
 
+  -- and has it not open
+  waiter-shut : at b (getD l k 0) .item ≡ 0 → hasOpen (at b (getD l k 0)) (awaited b (getD l k 0)) ≡ false
+  waiter-shut z = let (f, d) = waiting-file (at b (getD l k 0) .standing) (waiter-at .1) in
+      ap (λ (x : ℕ). hasOpen (at b (getD l k 0)) x) (ap awaitedOf d) ∙ ready-at .0 .asked (getD l k 0) (waiter-at .0) f (d, z) .shut
+
   -- what the arrays say of the waiter is what the rules say
   pub waiter-can : (sets : Sets) (asked : List ℕ) (u : Uses) (t : Bool) → SetsOf b sets → u ≡ usesOf b sets → Asks b (names (drop k l)) asked
       → t ≡ not (eqb (getD asked (getD l k 0 - 1) 0) 0) && giveIn sets u (getD l k 0) (getD asked (getD l k 0 - 1) 0) → t ≡ canServe b (getD l k 0)
@@ -195,7 +200,8 @@ module _ (b : Board) (l : List ℕ) (k : ℕ) (h : k < length l) (ne : getD l k 
       ∙ by-test (eqb (at b (getD l k 0) .item) 0)
       (λ d. let n = waiter-file (eqb-true (at b (getD l k 0) .item) 0 d) in
       rw (d, ne-eqb (awaited b (getD l k 0)) 0 n) (give-by sets u (getD l k 0) (awaited b (getD l k 0)) _ (waiter-range .0) (waiter-range .1) refl b x z
-      (loose-apart b (ready-at .0)) (loose-order b (ready-at .0)) (waiting-in (at b (getD l k 0) .standing) (waiter-at .1))))
+      (loose-apart b (ready-at .0)) (loose-order b (ready-at .0)) (waiting-in (at b (getD l k 0) .standing) (waiter-at .1))
+      (waiter-shut (eqb-true (at b (getD l k 0) .item) 0 d))))
       (λ d. rw d)
 
   pub asks-left : (asked : List ℕ) → Asks b (names (drop k l)) asked → Asks b (names (drop (k + 1) l)) asked
@@ -205,8 +211,11 @@ module _ (b : Board) (l : List ℕ) (k : ℕ) (h : k < length l) (ne : getD l k 
       → t ≡ eqb (s .item) 0 && not (usedIn sets u (getD l k 0) (awaitedOf (s .standing))) → t ≡ unused b (getD l k 0)
   waiter-unused sets u s t x z e g = g
       ∙ ap (λ (y : Seat). eqb (y .item) 0 && not (usedIn sets u (getD l k 0) (awaitedOf (y .standing)))) (sym e)
-      ∙ ap (λ (y : Bool). eqb (at b (getD l k 0) .item) 0 && not y)
-      (used-by sets u (getD l k 0) (awaited b (getD l k 0)) _ (waiter-range .0) (waiter-range .1) refl b x z (loose-apart b (ready-at .0)))
+      ∙ by-test (eqb (at b (getD l k 0) .item) 0)
+      (λ d. ap (λ (y : Bool). eqb (at b (getD l k 0) .item) 0 && not y)
+      (used-by sets u (getD l k 0) (awaited b (getD l k 0)) _ (waiter-range .0) (waiter-range .1) refl b x z (loose-apart b (ready-at .0))
+      (waiter-shut (eqb-true (at b (getD l k 0) .item) 0 d))))
+      (λ d. rw d)
 
   pub ready-left : Ready b (names (drop (k + 1) l))
   unfolding Pairs

@@ -1,7 +1,5 @@
 // The test of a sound board: by the sets of its programs, which are lent, and the rest.
-use files::WORDS;
 use files::words;
-use parts::modes;
 use parts::standings;
 use rules::Standing;
 use search::Order;
@@ -28,7 +26,7 @@ ghost use Rattle.tables.specs.ProgramSets.{hasProgram};
 ghost use Rattle.tables.specs.Tables.{rowsOf};
 ghost use Rattle.search.specs.Rows.{asOrder};
 ghost use Rattle.search.specs.Gives.{usesIn};
-ghost use Rattle.sound.specs.Parts.{isName, stands, takes, bareAt, emptyIn, claimsMeetIn, isSoundWith, standsFor, isSoundAt, noConflictIn};
+ghost use Rattle.sound.specs.Parts.{isName, stands, takes, bareAt, emptyIn, claimsMeetIn, isSoundWith, standsFor, isSoundAt};
 ghost use Rattle.sound.specs.Parts.{seatSet, recordFits, recordAt, waiterAt, KnownLine, WaiterFor, NoneFavoured, SomeFavoured, FavourSound, countFits, countAt, Packed};
 
 // Whether a board is sound, and its carried order.
@@ -212,30 +210,6 @@ fn programs_sound(sets: &Sets, rest: Rest) -> bool
         if !seat_sound(sets, p, rest.seats[i]) {
             return false;
         }
-        p += 1;
-    }
-    true
-}
-
-// No two different programs conflict: what each has open does not clash with what those before it have.
-fn no_conflict(sets: &Sets) -> bool
-    requires { ⌜ IsStore (now sets) ⌝ }
-    ensures { λ r. ⌜ r ≡ noConflictIn (now (sets .entry)) ⌝ }
-{
-    let mut written = [0u64; WORDS];
-    let mut read = [0u64; WORDS];
-    let mut inquired = [0u64; WORDS];
-    let mut p: u8 = 1;
-    while p <= 32 {
-        let w = sets::writing_at(p);
-        let r = sets::reading_at(p);
-        let i = sets::inquiring_at(p);
-        if modes::touches(&sets[w], &sets[r], &sets[i], &written, &read, &inquired) {
-            return false;
-        }
-        words::join(&mut written, &sets[w]);
-        words::join(&mut read, &sets[r]);
-        words::join(&mut inquired, &sets[i]);
         p += 1;
     }
     true
@@ -513,7 +487,7 @@ fn seats_sound(rest: Rest) -> bool
     records_sound(rest)
 }
 
-// Sets; no conflict; a completion order exists; the two lines; the waiters; the favoured program; the counts; the records.
+// Sets; a completion order exists, so that there is no conflict; the two lines; the waiters; the favoured program; the counts; the records.
 fn is_sound_by(
     sets: &Sets,
     rows: &[u32; 32],
@@ -527,9 +501,6 @@ fn is_sound_by(
     ensures { λ r. ⌜ r ≡ sound (boardOf (now (sets .entry)) rest) ⌝ }
 {
     if !programs_sound(sets, rest) {
-        return false;
-    }
-    if !no_conflict(sets) {
         return false;
     }
     if !ordered {

@@ -23,13 +23,13 @@ use Rattle.rules.specs.Boards.{isProgram, everyone}
 use Rattle.store.specs.Sets.{Sets}
 use Rattle.theory.specs.Programs.{is-of, of-is, mem-everyone, everyone-is}
 use Rattle.tables.specs.declared.shared.Shared.{Shared}
-use Rattle.tables.specs.Shared.{noneShared, sharing, sharedTo, sharedIn, openRow, openedIn, othersOf, inWords, SharedBy}
+use Rattle.tables.specs.Shared.{noneShared, sharing, sharedTo, openIn, openRow, openedIn, othersOf, inWords, SharedBy}
 
 -- what all have open in a mode, by the sets
-pub shared-in : (sets : Sets) (m : Mode) → sharedIn m (openedIn sets) ≡ sharedTo (openRow sets m) 32
-shared-in sets Write = refl
-shared-in sets Read = refl
-shared-in sets Inquiry = refl
+pub open-in : (sets : Sets) (m : Mode) → openIn m (openedIn sets) ≡ sharedTo (openRow sets m) 32 .once
+open-in sets Write = refl
+open-in sets Read = refl
+open-in sets Inquiry = refl
 
 -- nothing is in no words
 no-word : (x : ℕ) → inWords (noneShared .once) x ≡ false
@@ -177,11 +177,8 @@ module _ (g : ℕ → List ℕ) where
   -- ---- of all programs
 
   module _ (p : ℕ) (c : isProgram p ≡ true) (w : (q : ℕ) → 1 ≤ q → q ≤ 32 → length (g q) ≡ wordCount) where
-    abbrev theirs : FileSet
-    theirs = setOf (othersOf (sharedTo g 32) (g p))
-
-    own : length (g p) ≡ wordCount
-    own = let i = is-of p c in w p (i .least) (i .most)
+    abbrev all : FileSet
+    all = setOf (sharedTo g 32 .once)
 
     -- a test of another program
     abbrev another : (FileSet → Bool) → ℕ → Bool
@@ -199,11 +196,12 @@ module _ (g : ℕ → List ℕ) where
       and-right (not (eqb i p)) (t (setOf (g i))) b,
     )
 
-    -- a file that another has
-    pub others-member : (f : ℕ) → member theirs f ≡ any (λ i. not (eqb i p) && member (setOf (g i)) f) everyone
-    others-member f = same-test (member theirs f) _
-        (λ e. let (i, a, n, b) = others-of isProgram (sharedTo g 32) (shared-to 32 w) p c own (f - 1) (has-bit 64 (theirs .bits) f e) in
-        some-other (λ s. member s f) i a n (and-both (isFile f) (has i (f - 1)) (has-number 64 (theirs .bits) f e) b))
+    -- a file that p has not: some program has it exactly if another has
+    pub some-member : (f : ℕ) → member (setOf (g p)) f ≡ false → member all f ≡ any (λ i. not (eqb i p) && member (setOf (g i)) f) everyone
+    some-member f out = same-test (member all f) _
+        (λ e. let (i, a, b) = shared-to 32 w .once-is (f - 1) .0 (has-bit 64 (all .bits) f e) in
+        let m = and-both (isFile f) (has i (f - 1)) (has-number 64 (all .bits) f e) b in
+        some-other (λ s. member s f) i a (λ z. never (ap (λ (x : ℕ). member (setOf (g x)) f) (sym z) ∙ m) out) m)
         (λ e. let (i, a, n, b) = other-some (λ s. member s f) e in
-        and-both (isFile f) (hasBit (theirs .bits) (f - 1)) (has-number 64 (setOf (g i) .bits) f b)
-        (of-others isProgram (sharedTo g 32) (shared-to 32 w) p c own i (f - 1) a n (has-bit 64 (setOf (g i) .bits) f b)))
+        and-both (isFile f) (hasBit (all .bits) (f - 1)) (has-number 64 (setOf (g i) .bits) f b)
+        (shared-to 32 w .once-is (f - 1) .1 (i, a, has-bit 64 (setOf (g i) .bits) f b)))

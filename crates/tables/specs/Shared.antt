@@ -31,11 +31,11 @@ sharedTo g (suc n) = sharing (sharedTo g n) (g (suc n))
 abbrev pub othersOf : Shared → List ℕ → List ℕ
 othersOf k own = wordwise bitOr (k .twice) (wordwise lessBits (k .once) own)
 
--- what all programs have open in a mode
-abbrev pub sharedIn : Mode → OpenFiles → Shared
-sharedIn Write o = o .writing
-sharedIn Read o = o .reading
-sharedIn Inquiry o = o .inquiring
+-- what is open in a mode
+abbrev pub openIn : Mode → OpenFiles → List ℕ
+openIn Write o = o .writing
+openIn Read o = o .reading
+openIn Inquiry o = o .inquiring
 
 -- by the sets: what p has open in a mode
 abbrev pub openRow : Sets → Mode → ℕ → List ℕ
@@ -45,9 +45,9 @@ openRow sets m p = rowIn sets (openPlace m (p - 1))
 abbrev pub openedIn : Sets → OpenFiles
 openedIn sets =
     record {
-      writing = sharedTo (openRow sets Write) 32;
-      reading = sharedTo (openRow sets Read) 32;
-      inquiring = sharedTo (openRow sets Inquiry) 32;
+      writing = sharedTo (openRow sets Write) 32 .once;
+      reading = sharedTo (openRow sets Read) 32 .once;
+      inquiring = sharedTo (openRow sets Inquiry) 32 .once;
     }
 
 -- what stands in three rows, by mode

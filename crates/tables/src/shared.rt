@@ -1,8 +1,10 @@
-// The files that some of several programs have, and those that two of them have: what the others have than one of them.
+// The files that some of several programs have, and those that two of them have: what the others have than one of them; and what all
+// programs have open.
 use files::WORDS;
 use files::words;
 use store::sets::Sets;
 ghost use mathlib.Core.Path.{_≡_};
+ghost use Rattle.store.specs.Sets.{IsStore};
 ghost use Rattle.tables.specs.Shared.{sharing, othersOf, openedIn};
 
 pub struct Shared {
@@ -12,9 +14,9 @@ pub struct Shared {
 
 // What all programs have open, for writing, for reading and for inquiry.
 pub struct OpenFiles {
-    pub writing: Shared,
-    pub reading: Shared,
-    pub inquiring: Shared,
+    pub writing: [u64; WORDS],
+    pub reading: [u64; WORDS],
+    pub inquiring: [u64; WORDS],
 }
 
 impl Shared {
@@ -51,19 +53,20 @@ impl Shared {
 
 // What all programs have open.
 pub fn opened(sets: &Sets) -> OpenFiles
+    requires { ⌜ IsStore (now sets) ⌝ }
     ensures { λ r. ⌜ r ≡ openedIn (now (sets .entry)) ⌝ }
 {
-    let mut writing = Shared::NONE;
-    let mut reading = Shared::NONE;
-    let mut inquiring = Shared::NONE;
+    let mut writing = [0u64; WORDS];
+    let mut reading = [0u64; WORDS];
+    let mut inquiring = [0u64; WORDS];
     let mut p: u8 = 1;
     while p <= 32 {
         let w = store::sets::writing_at(p);
-        writing = writing.with(sets[w]);
+        words::join(&mut writing, &sets[w]);
         let r = store::sets::reading_at(p);
-        reading = reading.with(sets[r]);
+        words::join(&mut reading, &sets[r]);
         let i = store::sets::inquiring_at(p);
-        inquiring = inquiring.with(sets[i]);
+        words::join(&mut inquiring, &sets[i]);
         p += 1;
     }
     OpenFiles {

@@ -8,6 +8,7 @@ use Rattle.rules.specs.Orders.{carried, withGiven, inUse}
 use Rattle.rules.specs.Settling.{line}
 use Rattle.rules.specs.Replies.{reply}
 use Rattle.apply.specs.Replies.{waitingFor}
+use Rattle.theory.specs.Calls.{open-may}
 use Rattle.theory.specs.Sound.{loose-apart}
 use Rattle.store.specs.Sets.{Sets, IsStore, givenAt}
 use Rattle.store.specs.Store.{boardOf}
@@ -40,7 +41,7 @@ used : (u : tie.After-in-use) → let s = start u in u .in-use .result ≡ inUse
 used u = let s = start u in let a = s .args in let n = u .before .before in
     used-by (a .sets .now) _ (a .p) (a .f) _ (s .pre .0 .0) (s .pre .0 .1) (u .in-use .ensures) (board s) (board-sets (a .sets .now) (a .rest) (s .pre .3))
     (n .uses-in .ensures ∙ ap (λ (x : ProgramSet). usesIn x (a .sets .now)) (admits-are (n .before .before)))
-    (loose-apart (board s) (s .pre .1 .loose))
+    (loose-apart (board s) (s .pre .1 .loose)) (let m = open-may (board s) (a .p) (a .f) (s .pre .2) in m .asked .shut)
 
 abbrev tested : tie.After-order-given → tie.After-in-use
 tested o = o .before .before .before

@@ -143,6 +143,11 @@ add-n c = let n = range (turn c) .2 in omega arith
 give-requires : tie.Need-give-requires Inv-loop μ-loop
 give-requires c κs = let i = turn (c .before) in let r = range i in ((r .0, r .1), i .before .loop .inv .2)
 
+uses-in-requires-2 : tie.Need-uses-in-requires-2 Inv-loop μ-loop
+uses-in-requires-2 c κs = let g = c .before in let i = turn (told g) in let s = i .before in let r = range i in
+    let p = getD (start (begun s) .args .w .rest .waiting) (s .loop .j) 0 in let f = getD (asked (begun s) .fill-asked .last .1 .0) (p - 1) 0 in
+    subst IsStore (sym (g .give .ensures)) (given-store (s .loop .sets) p f (r .0) (r .1) (s .loop .inv .2))
+
 module _ (u : tie.After-uses-in2 Inv-loop μ-loop) where
   abbrev here : tie.In-loop Inv-loop μ-loop
   here = turn (told (gave u))
@@ -253,7 +258,7 @@ pass-line-spec =
     element-set-from-lines
     add-n
     give-requires
-    (λ c κs. search needs)
+    uses-in-requires-2
     (λ c. search needs)
     next-given-requires-2
     (λ c. search needs)

@@ -17,6 +17,9 @@ unfolding all
 returns c = let a = c .before .args in let m : length (a .t5) ≡ 32 = search needs in
     sym (all-names-stop (a .t5) 0 (waiterAt (boardOf (a .sets .now) (a .rest))) (omega arith) (c .if1 .taken))
 
+uses-in-requires : tie.Need-uses-in-requires
+uses-in-requires c κs = c .before .pre .0 .in-sets .0
+
 waiters-sound-requires : tie.Need-waiters-sound-requires
 waiters-sound-requires c κs = let s = c .before .before in let a = s .args in (
   subst (λ (u : Uses). Known (boardOf (a .sets .now) (a .rest)) (a .sets .now) u) (sym (c .uses-in .ensures)) (s .pre .0),
@@ -26,4 +29,4 @@ waiters-sound-requires c κs = let s = c .before .before in let a = s .args in (
 
 pub line-waiters-spec : {M : Type 1} → statement M
 line-waiters-spec =
-    tie.close (tie.spec (λ c. search needs) returns (λ c κs. search needs) waiters-sound-requires (λ c. c .waiters-sound .ensures))
+    tie.close (tie.spec (λ c. search needs) returns uses-in-requires waiters-sound-requires (λ c. c .waiters-sound .ensures))

@@ -64,7 +64,8 @@ returns-4 c = λ b k a e. let j = c .before in let i = j .before .before in let 
   sym (opened (j .before) b (k .in-sets)) ∙ j .if3 .left,
 )
     (ap not (give-by (s .args .sets .now) (s .args .uses) (s .args .p) (s .args .f) _ (s .pre .0 .0) (s .pre .0 .1)
-    (c .can-give-by .ensures) b (k .in-sets) (k .in-use) (k .apart) (k .ordered) a))
+    (c .can-give-by .ensures) b (k .in-sets) (k .in-use) (k .apart) (k .ordered) a
+    (sym (opened (j .before) b (k .in-sets)) ∙ j .if3 .left)))
 
 pub waiter-sound-spec : {M : Type 1} → statement M
 waiter-sound-spec =
