@@ -130,10 +130,7 @@ fn lines_at_the_edges_are_written() {
     both_write(b"FETCH   1  1    1", fetch(1, 1, 1));
     both_write(b"FETCH  32 6465535", fetch(32, 64, 65_535));
     both_write(b"FETCH  10 10 1000", fetch(10, 10, 1000));
-    both_write(
-        b"ENTER  32 a~!1234  0  0  0",
-        enter(32, b" a~!1234", 0, 0),
-    );
+    both_write(b"ENTER  32 a~!1234  0  0  0", enter(32, b" a~!1234", 0, 0));
     let (v, q) = (1 << 63 | 1, 1 << 9);
     let line = b"ENTER  10          2  1  0  1 64 10";
     both_write(line, enter(10, b"        ", v, q));

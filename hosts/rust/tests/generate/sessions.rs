@@ -157,10 +157,19 @@ impl<'a> Cast<'a> {
             2 => Request::Close { p, f },
             3 => Request::Drop { p, f },
             _ => {
-                let n = random.pick(&self.records)?;
+                let n = self.record(board, random)?;
                 Request::Fetch { p, f, n }
             }
         })
+    }
+
+    /// The number of a record, of one in use in many cases.
+    fn record(&self, board: &Board, random: &mut Random) -> Option<usize> {
+        let users = board.which(|program| program.in_use.is_some());
+        match random.pick(&users).filter(|_| random.per_mille(400)) {
+            Some(user) => board.get(user).in_use.map(|record| record.number),
+            None => random.pick(&self.records),
+        }
     }
 
     /// A request about the session's programs and files, refused in many cases.
