@@ -3,8 +3,8 @@
 // What a line has, by arithmetic. A family of p programs has (standings * ways ^ files) ^ p boards, in a ring (standings * ways ^ 2) ^ p;
 // of these each k-th are a k-th part, rounded up. One program alone always has an order.
 // Of the 49 pairs of ways in which two programs may have a file, the first one holds back the second in 14: in 6 if it has the file in V and W,
-// in 4 if in Q and R, in 4 if in J and I. So in 35 it does not, and in 28 neither holds back the other. With n files and both running
-// 35 ^ n + 35 ^ n - 28 ^ n boards have an order, and 35 ^ n - 28 ^ n of these not the rising one.
+// in 4 if in Q and R, in 4 if in J and I. So in 35 it does not, and in 28 neither holds back the other. With n files, for each pair
+// of standings that are both admitted, 35 ^ n + 35 ^ n - 28 ^ n boards have an order, and 35 ^ n - 28 ^ n of these not the rising one.
 use super::boards;
 use super::boards::Family;
 use super::compare;
