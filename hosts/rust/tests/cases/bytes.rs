@@ -139,7 +139,9 @@ fn every_byte_agrees() {
         ("fetch", &[5, 11, 13, 20, 21]),
         ("return", &[5, 11, 13, 20]),
     ] {
-        let names = numbers.iter().map(|number| format!("{verb} refused with {number}"));
+        let names = numbers
+            .iter()
+            .map(|number| format!("{verb} refused with {number}"));
         names.for_each(|name| met.assert_met(&[&name]));
     }
 }

@@ -280,7 +280,7 @@ fn direct_calls_agree_on_images() {
     assert_refusals(&met, [1, 8].into_iter());
     met.assert_met(&["cancel refused with 1", "cancel refused with 8"]);
     met.assert_met(&CANCELS[..6]);
-    met.assert_met(&RECORDS[..4]);
+    met.assert_met(&["fetch that gives", "return of a record that nobody awaits"]);
     met.assert_met(&[BEHIND_A_LOWER]);
     for name in ["refused image", "unsound board", "sound board"] {
         assert!(met.get(name) > 0, "no {name}");

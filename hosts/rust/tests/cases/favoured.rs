@@ -1,13 +1,13 @@
-//! What is promised while a program is favoured, in random lists with cancels
-//! among them: read from the list and the journal alone, of the library and of
-//! the model.
+//! What is promised while a program is favoured, in random lists with cancels,
+//! fetches and returns among them: read from the list and the journal alone, of the
+//! library and of the model.
 //!
 //! "While a program is favoured, the accepted leaves after the call that favoured
 //! it and the programs now admitted add up to the number admitted after that
 //! call. It gets its file at the latest with the leave that brings those leaves
 //! to that number less one." Document 02: a cancel of an admitted program other
 //! than itself counts as such a leave, and "a wait now also ends with its own
-//! cancel".
+//! cancel"; a favoured program may also get its record, "within the same bound".
 
 use super::lists::{lists, List};
 use super::{calls, seed};
@@ -47,7 +47,13 @@ impl Told {
         }
         for &(word, p) in &lines[1..] {
             match word {
-                "GIVEN" => self.given(p, met),
+                "GIVEN" => {
+                    // A return gives a record, never a file.
+                    if request.starts_with(b"RETURN") && self.is_favoured(p) {
+                        met.add("record by a return");
+                    }
+                    self.given(p, met);
+                }
                 "ADMIT" => drop(self.admitted.insert(p)),
                 _ => {
                     assert_eq!(word, "FAVOUR");
@@ -55,6 +61,10 @@ impl Told {
                 }
             }
         }
+    }
+
+    fn is_favoured(&self, p: usize) -> bool {
+        matches!(&self.favoured, Some(favoured) if favoured.program == p)
     }
 
     fn favours(&mut self, program: usize, by_enter: bool, met: &mut Counters) {
@@ -165,5 +175,6 @@ fn favoured_programs_wait_no_longer_than_promised() {
         "file before",
         "file at the latest",
         "file at the latest, favoured by an enter",
+        "record by a return",
     ]);
 }

@@ -1,5 +1,6 @@
-//! What document 02 promises every waiter, in lists with cancels among them:
-//! read from the list and the journal alone, of the library and of the model.
+//! What document 02 promises every waiter, for a file or for a record, in lists with
+//! cancels, fetches and returns among them: read from the list and the journal alone,
+//! of the library and of the model.
 //!
 //! "After every list of calls, no waiter has been passed by more than 8
 //! admissions. Others' leaves and the cancels of other admitted programs during
@@ -59,7 +60,12 @@ impl Told {
         for &(word, p) in lines {
             match word {
                 "ADMIT" => self.admits(p),
-                "WAIT" | "UNSAFE" => self.begins(p),
+                "WAIT" | "UNSAFE" => {
+                    if request.starts_with(b"FETCH") {
+                        met.add("wait for a record");
+                    }
+                    self.begins(p);
+                }
                 "GIVEN" => self.ends(p, "wait ended by GIVEN", met),
                 "DONE" if goes => self.goes(p, met),
                 _ => {}
@@ -129,5 +135,6 @@ fn waiters_are_passed_no_more_than_promised() {
         "8 more have gone",
         "wait ended by GIVEN",
         "wait ended by its own cancel",
+        "wait for a record",
     ]);
 }

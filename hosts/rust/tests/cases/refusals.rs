@@ -90,6 +90,8 @@ fn refusals_on_an_image_agree() {
         "readers-3",
         "session",
         "cancel-refusals-5",
+        "record-refusals",
+        "records-refusals-3",
     ];
     let mut paths = vectors::names();
     paths.retain(|path| chosen.contains(&path.file_stem().unwrap().to_str().unwrap()));

@@ -1,6 +1,7 @@
 //! Random sessions from the empty board, each run through to the empty board again.
 
 use super::plan::emptied;
+use super::small_scope::first_one;
 use super::{calls, seed};
 use crate::compare::call::Call;
 use crate::compare::counters::{Counters, BEHIND_A_LOWER, CANCELS, COUNTS, RECORDS};
@@ -28,6 +29,7 @@ const MET: &[&str] = &[
     "open settled by all orders",
     "open that waits by all orders",
     "run through",
+    "board whose first one awaits a record",
 ];
 
 /// Refusals of fetch and return in lines. As 8, 19 is met only in direct calls.
@@ -130,6 +132,7 @@ impl Run<'_> {
             .0;
         self.met.answer(&call, &outcome);
         self.met.boards(&self.board, &after);
+        self.met.add(first_one(&after));
         self.all_orders(&call.line, &after);
         (self.board, self.image) = (after, outcome.image);
     }

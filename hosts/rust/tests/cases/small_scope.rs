@@ -133,16 +133,22 @@ fn hurry(board: &mut Board) {
 }
 
 /// What is said of every board after calls: it is sound, and its image is that of no
-/// other; it has an order, by trying all; "the order's first program isn't waiting,
-/// or it awaits a record whose user is running".
+/// other; it has an order, by trying all, of which the carried one is one; "the
+/// order's first program isn't waiting, or it awaits a record whose user is running".
 fn by_the_sentences(board: &Board, met: &mut Counters) {
     assert_eq!(image::read(&image::write(board)).as_ref(), Ok(board));
     assert!(order::some_order(board));
     let order = order::carried(board).expect("an order");
     assert!(order::completes(board, &order));
+    met.add(first_one(board));
+}
+
+/// What the order's first program does; that it waits for a file ends the test.
+pub fn first_one(board: &Board) -> &'static str {
+    let order = order::carried(board).expect("an order");
     let first = order.first().map(|&p| board.get(p));
     let awaits = first.and_then(|first| first.awaits());
-    met.add(match (first.map(|first| first.standing), awaits) {
+    match (first.map(|first| first.standing), awaits) {
         (None, _) => "board with nobody",
         (Some(Standing::Running), _) => "board whose first one runs",
         (_, Some(record)) => {
@@ -151,7 +157,7 @@ fn by_the_sentences(board: &Board, met: &mut Counters) {
             "board whose first one awaits a record"
         }
         _ => panic!("the order's first one waits for a file: {board:?}"),
-    });
+    }
 }
 
 /// What scopes of two files meet.

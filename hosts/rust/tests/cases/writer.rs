@@ -130,10 +130,7 @@ fn lines_at_the_edges_are_written() {
     both_write(b"FETCH   1  1    1", fetch(1, 1, 1));
     both_write(b"FETCH  32 6465535", fetch(32, 64, 65_535));
     both_write(b"FETCH  10 10 1000", fetch(10, 10, 1000));
-    both_write(
-        b"ENTER  32 a~!1234  0  0  0",
-        enter(32, b" a~!1234", 0, 0),
-    );
+    both_write(b"ENTER  32 a~!1234  0  0  0", enter(32, b" a~!1234", 0, 0));
     let (v, q) = (1 << 63 | 1, 1 << 9);
     let line = b"ENTER  10          2  1  0  1 64 10";
     both_write(line, enter(10, b"        ", v, q));
@@ -183,7 +180,7 @@ fn the_longest_line_is_written() {
 #[test]
 fn refusals_of_the_writer_come_in_order() {
     let label = b"STOCK   ";
-    let refused: [(Writing, usize, u64); 49] = [
+    let refused: [(Writing, usize, u64); 28] = [
         // no verb, and program, file, claims, label and buffer are wrong too
         (other(0, 0, 0), 0, 3),
         (other(9, 0, 65), 0, 3),
@@ -191,8 +188,7 @@ fn refusals_of_the_writer_come_in_order() {
         (other(1 << 32 | OPEN, 1, 1), 12, 3),
         (other(256 + LEAVE, 1, 1), 9, 3),
         (other(256 + CANCEL, 1, 0), 9, 3),
-        (other(256 + RETURN, 1, 0), 9, 3),
-        // program or file out of range; record, label and buffer are wrong too
+        // program or file out of range; label and buffer are wrong too
         (enter(0, b"", 1, 1), 0, 8),
         (enter(33, b"STOC\x1FK  ", 1, 0), 26, 8),
         (enter(33, label, 1, 0), 0, 8),
@@ -207,6 +203,29 @@ fn refusals_of_the_writer_come_in_order() {
         (other(LEAVE, u64::MAX, 1), 9, 8),
         (other(CANCEL, 0, 1), 0, 8),
         (other(CANCEL, 33, 1), 9, 8),
+        // ENTER's label; the buffer is too short too
+        (enter(1, b"", 1, 1), 0, 6),
+        (enter(1, b"STOCK  ", 0, 0), 0, 6),
+        (enter(1, b"STOCK    ", 0, 0), 26, 6),
+        (enter(1, b"STOCK  \x7F", 0, 0), 25, 6),
+        (enter(1, b"\x1FSTOCK  ", 3, 3), 25, 6),
+        // the buffer alone
+        (enter(1, label, 3, 3), enter_length(4) - 1, 17),
+        (other(LEAVE, 1, 65), 8, 17),
+        (other(CANCEL, 1, 65), 8, 17),
+    ];
+    for (writing, len, number) in refused {
+        both_leave(Err(number), &writing, len);
+    }
+}
+
+/// The same of FETCH, RETURN and ENTER's claims.
+#[test]
+fn refusals_of_records_and_claims_come_in_order() {
+    let label = b"STOCK   ";
+    let refused: [(Writing, usize, u64); 21] = [
+        (other(256 + RETURN, 1, 0), 9, 3),
+        // program or file out of range; record and buffer are wrong too
         (other(RETURN, 0, 1), 0, 8),
         (other(RETURN, 1 << 32 | 1, 1), 9, 8),
         (fetch(0, 1, 0), 0, 8),
@@ -226,16 +245,7 @@ fn refusals_of_the_writer_come_in_order() {
         (fetch(32, 64, 65_536 + 1), 16, 19),
         (fetch(32, 64, 1 << 32 | 1), 17, 19),
         (fetch(1, 1, u64::MAX), 100, 19),
-        // ENTER's label; the buffer is too short too
-        (enter(1, b"", 1, 1), 0, 6),
-        (enter(1, b"STOCK  ", 0, 0), 0, 6),
-        (enter(1, b"STOCK    ", 0, 0), 26, 6),
-        (enter(1, b"STOCK  \x7F", 0, 0), 25, 6),
-        (enter(1, b"\x1FSTOCK  ", 3, 3), 25, 6),
         // the buffer alone
-        (enter(1, label, 3, 3), enter_length(4) - 1, 17),
-        (other(LEAVE, 1, 65), 8, 17),
-        (other(CANCEL, 1, 65), 8, 17),
         (other(RETURN, 1, 65), 8, 17),
         (fetch(1, 1, 1), 16, 17),
         (fetch(32, 64, 65_535), 0, 17),

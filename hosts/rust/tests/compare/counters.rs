@@ -204,42 +204,49 @@ impl Counters {
         }
     }
 
-    /// Counts what a fetch, or the end of a record's use, has done.
+    /// Counts what a fetch, the cancel of a record waiter or the end of a record's use
+    /// has done.
     fn records(&mut self, before: &Board, after: &Board) {
-        let same = |p: &usize| before.get(*p).in_use == after.get(*p).in_use;
-        let awaits = |p: &usize| before.get(*p).awaits();
-        let began = |p: &usize| !same(p) && awaits(p).is_none();
-        if users(after).iter().any(began) {
-            self.add("fetch that gives");
+        let awaits = |board: &Board, p: usize| board.get(p).awaits().is_some();
+        let gone = |p: usize| after.get(p).standing == Standing::Absent;
+        let fetched = |&p: &usize| before.get(p).in_use.is_none() && !awaits(before, p);
+        let waits = |&p: &usize| awaits(after, p) && !before.waiting.contains(&p);
+        let cancelled = |&p: &usize| awaits(before, p) && gone(p);
+        for (met, name) in [
+            (users(after).iter().any(fetched), "fetch that gives"),
+            (after.waiting.iter().any(waits), "fetch that waits"),
+            (
+                before.waiting.iter().any(cancelled),
+                "cancel of a record waiter",
+            ),
+        ] {
+            if met {
+                self.add(name);
+            }
         }
-        let wait = |p: &usize| after.get(*p).awaits().is_some() && !before.waiting.contains(p);
-        if after.waiting.iter().any(wait) {
-            self.add("fetch that waits");
+        let ended = |p: &usize| after.get(*p).in_use.is_none();
+        if let Some(p) = users(before).into_iter().find(ended) {
+            self.returned(p, before, after);
         }
-        let gone = |p: &usize| after.get(*p).standing == Standing::Absent;
-        if before
-            .waiting
-            .iter()
-            .any(|p| gone(p) && awaits(p).is_some())
-        {
-            self.add("cancel of a record waiter");
-        }
-        let Some(p) = users(before).into_iter().find(|p| !same(p)) else {
-            return;
-        };
-        let next = users(after).into_iter().find(|p| !same(p));
-        self.add(match (gone(&p), next) {
+    }
+
+    /// Counts what the end of a record's use by this program has done.
+    fn returned(&mut self, p: usize, before: &Board, after: &Board) {
+        let gone = after.get(p).standing == Standing::Absent;
+        let record = before.get(p).in_use.expect("a record in use");
+        let next = after.user(record);
+        self.add(match (gone, next) {
             (false, None) => "return of a record that nobody awaits",
             (false, Some(_)) => "return that hands on",
             (true, None) => "leave with a record that nobody awaits",
             (true, Some(_)) => "leave that hands on",
         });
-        let awaited = |q: &usize| after.get(*q).awaits() == before.get(p).in_use;
+        let awaited = |q: &usize| after.get(*q).awaits() == Some(record);
         let favours = after.favoured != 0 && after.favoured != before.favoured;
         let admits = after.entry.len() < before.entry.len();
         for (met, name) in [
-            (!gone(&p) && favours, "return that favours"),
-            (!gone(&p) && admits, "return that admits"),
+            (!gone && favours, "return that favours"),
+            (!gone && admits, "return that admits"),
             (
                 next.is_some() && after.waiting.iter().any(awaited),
                 "record handed on beside another waiter",

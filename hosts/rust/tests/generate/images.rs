@@ -6,9 +6,9 @@
 
 use super::lines::text;
 use super::random::Random;
+use super::records;
 use super::sessions::{Cast, PROFILES};
-use crate::model::board::{members, only, Board, Record, Standing};
-use crate::model::board::{FILES, MOST_PASSES, PROGRAMS, RECORDS};
+use crate::model::board::{members, only, Board, Standing, FILES, MOST_PASSES, PROGRAMS};
 use crate::model::image::{self, *};
 use crate::model::settle::would_give;
 
@@ -57,19 +57,19 @@ pub const DAMAGES: &[Damage] = &[
     can_be_given,
     other_favoured,
     nobody_favoured,
-    user_without_file,
-    user_file_range,
-    user_of_another_file,
-    user_of_another_record,
-    user_not_running,
-    user_waits,
-    in_use_twice,
-    record_handed_anyway,
-    awaited_by_no_waiter,
-    awaited_free,
-    awaited_not_inquired,
-    record_for_a_file,
-    file_for_a_record,
+    records::user_without_file,
+    records::user_file_range,
+    records::user_of_another_file,
+    records::user_of_another_record,
+    records::user_not_running,
+    records::user_waits,
+    records::in_use_twice,
+    records::handed_anyway,
+    records::awaited_by_no_waiter,
+    records::awaited_free,
+    records::awaited_not_inquired,
+    records::awaited_of_a_file,
+    records::file_of_a_record,
     number,
     leaves,
     number_and_leaves,
@@ -80,7 +80,7 @@ pub const DAMAGES: &[Damage] = &[
 ];
 
 /// A value from a byte's whole range, small ones more often.
-fn byte(random: &mut Random, low: usize) -> u8 {
+pub fn byte(random: &mut Random, low: usize) -> u8 {
     if random.per_mille(500) {
         low as u8
     } else {
@@ -129,12 +129,12 @@ fn noise(image: &mut Vec<u8>, _: &Board, random: &mut Random) {
 }
 
 /// The first byte of a field of program p.
-fn at(p: usize, field: usize) -> usize {
+pub fn at(p: usize, field: usize) -> usize {
     PROGRAM * (p - 1) + field
 }
 
 /// The first byte of a field of program p's second row.
-fn inquiry(p: usize, field: usize) -> usize {
+pub fn inquiry(p: usize, field: usize) -> usize {
     INQUIRY + INQUIRY_LEN * (p - 1) + field
 }
 
@@ -151,11 +151,6 @@ fn open(p: usize) -> [usize; 3] {
 /// Adds file f to the set that begins at this byte.
 fn add(image: &mut [u8], set: usize, f: usize) {
     image[set + (f - 1) / 8] |= 1 << ((f - 1) % 8);
-}
-
-/// Puts a record's number into two bytes.
-fn put(image: &mut [u8], at: usize, number: usize) {
-    image[at..at + RECORD].copy_from_slice(&(number as u16).to_le_bytes());
 }
 
 fn some_program(board: &Board, standing: Standing, random: &mut Random) -> Option<usize> {
@@ -326,153 +321,6 @@ fn other_favoured(image: &mut Vec<u8>, board: &Board, random: &mut Random) {
 
 fn nobody_favoured(image: &mut Vec<u8>, _: &Board, _: &mut Random) {
     image[FAVOURED..COUNTS].fill(0);
-}
-
-/// One of the programs with a record in use, and its record.
-fn some_user(board: &Board, random: &mut Random) -> Option<(usize, Record)> {
-    let p = random.pick(&board.which(|program| program.in_use.is_some()))?;
-    Some((p, board.get(p).in_use?))
-}
-
-/// One of the programs that await a record, and the record.
-fn some_record_waiter(board: &Board, random: &mut Random) -> Option<(usize, Record)> {
-    let p = random.pick(&board.which(|program| program.awaits().is_some()))?;
-    Some((p, board.get(p).awaits()?))
-}
-
-fn user_without_file(image: &mut Vec<u8>, board: &Board, random: &mut Random) {
-    if let Some((p, _)) = some_user(board, random) {
-        image[at(p, AWAITED)] = 0;
-    }
-}
-
-fn user_file_range(image: &mut Vec<u8>, board: &Board, random: &mut Random) {
-    if let Some((p, _)) = some_user(board, random) {
-        image[at(p, AWAITED)] = byte(random, FILES + 1);
-    }
-}
-
-/// Its file byte names another file; sound, if that is open for inquiry and nobody
-/// awaits the record.
-fn user_of_another_file(image: &mut Vec<u8>, board: &Board, random: &mut Random) {
-    if let Some((p, _)) = some_user(board, random) {
-        let open = members(board.get(p).i);
-        let any = random.within(1, FILES);
-        let f = random.pick(&open).filter(|_| random.per_mille(300));
-        image[at(p, AWAITED)] = f.unwrap_or(any) as u8;
-    }
-}
-
-/// The record of a user is another one, or none; the first is sound, if nobody awaits
-/// its own.
-fn user_of_another_record(image: &mut Vec<u8>, board: &Board, random: &mut Random) {
-    if let Some((p, _)) = some_user(board, random) {
-        let number = random.within(0, RECORDS) * random.below(2);
-        put(image, inquiry(p, RECORD_IN_USE), number);
-    }
-}
-
-/// A program that waits, is held or is absent has a record in use.
-fn user_not_running(image: &mut Vec<u8>, board: &Board, random: &mut Random) {
-    let idle = board.which(|program| program.standing != Standing::Running);
-    if let Some(p) = random.pick(&idle) {
-        put(image, inquiry(p, RECORD_IN_USE), random.within(1, RECORDS));
-        if random.per_mille(500) && board.get(p).standing == Standing::Absent {
-            image[at(p, AWAITED)] = random.within(1, FILES) as u8;
-        }
-    }
-}
-
-/// A user of a record waits: for its own file, or for its own record.
-fn user_waits(image: &mut Vec<u8>, board: &Board, random: &mut Random) {
-    if let Some((p, record)) = some_user(board, random) {
-        let mut board = board.clone();
-        board.get_mut(p).standing = Standing::Waiting(record.file);
-        board.get_mut(p).awaited_record = record.number * random.below(2);
-        board.waiting.push(p);
-        *image = image::write(&board);
-    }
-}
-
-/// A record in use is that of another program too, which runs without one; in most
-/// cases one with the file open for inquiry.
-fn in_use_twice(image: &mut Vec<u8>, board: &Board, random: &mut Random) {
-    if let Some((_, record)) = some_user(board, random) {
-        let any = random.per_mille(100);
-        let other = random.pick(&board.which(|program| {
-            program.standing == Standing::Running
-                && program.in_use.is_none()
-                && (any || program.i & only(record.file) != 0)
-        }));
-        if let Some(p) = other {
-            let mut board = board.clone();
-            board.get_mut(p).in_use = Some(record);
-            *image = image::write(&board);
-        }
-    }
-}
-
-/// One who awaits a record has it, though its user has it too; or its user has it no
-/// longer.
-fn record_handed_anyway(image: &mut Vec<u8>, board: &Board, random: &mut Random) {
-    if let Some((p, record)) = some_record_waiter(board, random) {
-        let mut board = board.clone();
-        match board.user(record) {
-            Some(user) if random.per_mille(500) => board.get_mut(user).in_use = None,
-            _ => board.serve(p),
-        }
-        *image = image::write(&board);
-    }
-}
-
-fn awaited_by_no_waiter(image: &mut Vec<u8>, board: &Board, random: &mut Random) {
-    let idle = board.which(|program| !matches!(program.standing, Standing::Waiting(_)));
-    if let Some(p) = random.pick(&idle) {
-        let in_use = board.get(p).in_use.map(|record| record.number);
-        let number = in_use.unwrap_or(random.within(1, RECORDS));
-        put(image, inquiry(p, AWAITED_RECORD), number);
-    }
-}
-
-/// Another number than the awaited one, which is in use in few cases.
-fn awaited_free(image: &mut Vec<u8>, board: &Board, random: &mut Random) {
-    if let Some((p, record)) = some_record_waiter(board, random) {
-        let other = [
-            record.number ^ 1,
-            record.number ^ 256,
-            random.within(1, RECORDS),
-        ];
-        put(image, inquiry(p, AWAITED_RECORD), other[random.below(3)]);
-    }
-}
-
-/// Somebody awaits a record in use of a file that is not in its I.
-fn awaited_not_inquired(image: &mut Vec<u8>, board: &Board, random: &mut Random) {
-    let Some((_, record)) = some_user(board, random) else {
-        return;
-    };
-    let outside = |p: &usize| board.get(*p).i & only(record.file) == 0;
-    let waiters: Vec<usize> = board.waiting.iter().copied().filter(outside).collect();
-    if let Some(p) = random.pick(&waiters) {
-        image[at(p, AWAITED)] = record.file as u8;
-        put(image, inquiry(p, AWAITED_RECORD), record.number);
-    }
-}
-
-/// One who waits for a file awaits a record of it.
-fn record_for_a_file(image: &mut Vec<u8>, board: &Board, random: &mut Random) {
-    let of_file = |p: &usize| board.get(*p).awaits().is_none();
-    let waiters: Vec<usize> = board.waiting.iter().copied().filter(of_file).collect();
-    if let Some(p) = random.pick(&waiters) {
-        put(image, inquiry(p, AWAITED_RECORD), random.within(1, RECORDS));
-    }
-}
-
-/// One who awaits a record waits for its file, which is open by it.
-fn file_for_a_record(image: &mut Vec<u8>, board: &Board, random: &mut Random) {
-    if let Some((p, _)) = some_record_waiter(board, random) {
-        put(image, inquiry(p, AWAITED_RECORD), 0);
-    }
 }
 
 fn number(image: &mut Vec<u8>, _: &Board, random: &mut Random) {

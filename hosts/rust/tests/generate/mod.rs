@@ -4,6 +4,7 @@ pub mod images;
 pub mod lines;
 pub mod numbers;
 pub mod random;
+pub mod records;
 pub mod scripts;
 pub mod sessions;
 pub mod writings;

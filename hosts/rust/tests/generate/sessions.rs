@@ -130,37 +130,31 @@ impl<'a> Cast<'a> {
                 p: random.pick(&all)?,
             });
         }
-        let files = |program: &Program| match kind {
-            _ if program.in_use.is_some() => 0,
-            1 | 3 => program.claim() & !program.open(),
-            2 => program.open(),
-            6 => program.i,
-            _ => 0,
-        };
-        let fits = |program: &Program| {
-            let fits = match kind {
-                4 => true,
-                7 => program.in_use.is_some(),
-                _ => files(program) != 0,
-            };
-            program.standing == Standing::Running && fits
-        };
-        let p = random.pick(&board.which(fits))?;
+        let p = random.pick(&board.which(|program| fits(kind, program)))?;
         match kind {
             4 => return Some(Request::Leave { p }),
             7 => return Some(Request::Return { p }),
             _ => {}
         }
-        let f = random.pick(&members(files(board.get(p))))?;
+        let f = random.pick(&members(files(kind, board.get(p))))?;
         Some(match kind {
             1 => Request::Open { p, f },
             2 => Request::Close { p, f },
             3 => Request::Drop { p, f },
             _ => {
-                let n = random.pick(&self.records)?;
+                let n = self.record(board, random)?;
                 Request::Fetch { p, f, n }
             }
         })
+    }
+
+    /// The number of a record, of one in use in many cases.
+    fn record(&self, board: &Board, random: &mut Random) -> Option<usize> {
+        let users = board.which(|program| program.in_use.is_some());
+        match random.pick(&users).filter(|_| random.per_mille(400)) {
+            Some(user) => board.get(user).in_use.map(|record| record.number),
+            None => random.pick(&self.records),
+        }
     }
 
     /// A request about the session's programs and files, refused in many cases.
@@ -204,6 +198,27 @@ impl<'a> Cast<'a> {
             set
         })
     }
+}
+
+/// The files that a request of this kind may name for a running program.
+fn files(kind: usize, program: &Program) -> Files {
+    match kind {
+        _ if program.in_use.is_some() => 0,
+        1 | 3 => program.claim() & !program.open(),
+        2 => program.open(),
+        6 => program.i,
+        _ => 0,
+    }
+}
+
+/// Whether a program runs and may make a request of this kind.
+fn fits(kind: usize, program: &Program) -> bool {
+    let fits = match kind {
+        4 => true,
+        7 => program.in_use.is_some(),
+        _ => files(kind, program) != 0,
+    };
+    program.standing == Standing::Running && fits
 }
 
 /// The number of a record; those at the edges more often.

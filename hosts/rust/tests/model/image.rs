@@ -105,41 +105,19 @@ pub fn parts(image: &[u8]) -> (Board, Vec<Fault>, Vec<Fault>) {
     (board, broken, gaps)
 }
 
-/// A program by its two rows. "The awaited-file byte of a record's user holds its
-/// file", and the users run.
+/// A program by its two rows.
 fn program(first: &[u8], second: &[u8], broken: &mut Vec<Fault>) -> Program {
     let set = |row: &[u8], at| Files::from_le_bytes(row[at..at + SET].try_into().unwrap());
     let number = |at: usize| usize::from(u16::from_le_bytes([second[at], second[at + 1]]));
-    let (awaited, in_use) = (usize::from(first[AWAITED]), number(RECORD_IN_USE));
-    let standing = match first[STANDING] {
-        0 => Standing::Absent,
-        1 => Standing::Running,
-        2 => Standing::Waiting(awaited),
-        3 => Standing::Held,
-        _ => {
-            broken.push(Fault::StandingByte);
-            Standing::Absent
-        }
-    };
-    let [runs, waits] = [1, 2].map(|number| first[STANDING] == number);
-    let named = waits || in_use != 0;
-    for (fault, is) in [
-        (Fault::AwaitedNotZero, !named && awaited != 0),
-        (Fault::AwaitedRange, waits && awaited == 0),
-        (Fault::AwaitedRange, named && awaited > FILES),
-        (Fault::UserWithoutFile, runs && in_use != 0 && awaited == 0),
-        (Fault::UserNotRunning, !runs && in_use != 0),
-        (
-            Fault::AwaitedRecordOfNoWaiter,
-            !waits && number(AWAITED_RECORD) != 0,
-        ),
-    ] {
-        if is {
-            broken.push(fault);
-        }
-    }
+    let (file, in_use) = (usize::from(first[AWAITED]), number(RECORD_IN_USE));
+    broken.extend(seat(first[STANDING], file, in_use, number(AWAITED_RECORD)));
     Program {
-        standing,
+        standing: match first[STANDING] {
+            1 => Standing::Running,
+            2 => Standing::Waiting(file),
+            3 => Standing::Held,
+            _ => Standing::Absent,
+        },
         v: set(first, V),
         q: set(first, Q),
         j: set(second, J),
@@ -147,11 +125,29 @@ fn program(first: &[u8], second: &[u8], broken: &mut Vec<Fault>) -> Program {
         r: set(first, R),
         i: set(second, I),
         in_use: (in_use != 0).then_some(Record {
-            file: awaited,
+            file,
             number: in_use,
         }),
         awaited_record: number(AWAITED_RECORD),
     }
+}
+
+/// The faults of a program's standing, awaited-file byte, record in use and awaited
+/// record. "The awaited-file byte of a record's user holds its file", and users run.
+fn seat(standing: u8, file: usize, in_use: usize, awaited: usize) -> Vec<Fault> {
+    let (runs, waits) = (standing == 1, standing == 2);
+    let named = waits || in_use != 0;
+    let faults = [
+        (Fault::StandingByte, standing > 3),
+        (Fault::AwaitedNotZero, !named && file != 0),
+        (Fault::AwaitedRange, waits && file == 0),
+        (Fault::AwaitedRange, named && file > FILES),
+        (Fault::UserWithoutFile, runs && in_use != 0 && file == 0),
+        (Fault::UserNotRunning, !runs && in_use != 0),
+        (Fault::AwaitedRecordOfNoWaiter, !waits && awaited != 0),
+    ];
+    let found = faults.into_iter().filter(|(_, is)| *is);
+    found.map(|(fault, _)| fault).collect()
 }
 
 /// The names of a line; one that follows a 0 is a gap.
