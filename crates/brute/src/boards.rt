@@ -66,7 +66,7 @@ pub fn inquirer(p: Program, j: u64, i: u64) -> Program {
 // `p` with record `item` of `file`: in use if it runs, awaited if it waits.
 pub fn with_record(p: Program, file: u8, item: u16) -> Program {
     let mut next = p;
-    next.file = file;
+    next.file = file as u16;
     next.item = item;
     next
 }
@@ -102,7 +102,7 @@ fn shorter(x: u64, b: u64) -> u64 {
 }
 
 // The set that holds only file `f`.
-fn file_bit(f: u16) -> u64 {
+fn file_bit(f: u8) -> u64 {
     if f == 0 {
         return 0;
     }
@@ -151,7 +151,7 @@ fn if_odd(x: u64, bit: u64) -> u64 {
 }
 
 // The sets with the file of one more digit.
-fn with_file(s: Sets, file: u16, ways: u64) -> Sets {
+fn with_file(s: Sets, file: u8, ways: u64) -> Sets {
     let u = use_of(digit(s.left, ways), ways);
     let bit = file_bit(file);
     Sets {
@@ -204,12 +204,12 @@ fn sets_of(f: Family, i: usize, number: u64) -> Sets {
     s
 }
 
-fn standing_of(d: u64, file: u16) -> Standing {
+fn standing_of(d: u64, file: u8) -> Standing {
     match d {
         0 => Standing::Running,
-        1 => Standing::Waiting(file),
+        1 => Standing::Waiting(file as u16),
         2 => Standing::Running,
-        3 => Standing::Waiting(file),
+        3 => Standing::Waiting(file as u16),
         4 => Standing::Held,
         _ => Standing::Absent,
     }

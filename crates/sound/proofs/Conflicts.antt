@@ -72,8 +72,11 @@ module _ (b : Board) (e : all (isSoundAt b) everyone ≡ true) (o : found (carri
   apart : (i j : ℕ) → Is i → Is j → i ≢ j → conflict (at b i) (at b j) ≡ false
   apart i j x y n = no-true (conflict (at b i) (at b j)) (λ t. by-test (isAdmitted (at b i .standing))
       (λ u. by-test (isAdmitted (at b j .standing))
-      (λ v. never o (loop-exists b .0 (i ∷ (j ∷ []), two-loop b i j n (steps i j x y n u v t)
-      (steps j i y x (λ d. n (sym d)) v u (conflict-sym (at b i) (at b j) t)))))
+      (λ v. never o (loop-exists b .0 (
+        i ∷ (j ∷ []),
+        two-loop b i j n (steps i j x y n u v t)
+            (steps j i y x (λ d. n (sym d)) v u (conflict-sym (at b i) (at b j) t)),
+      )))
       (λ v. never t (conflict-idle (at b i) (at b j) (idle j y v))))
       (λ u. never t (idle-conflict (at b i) (at b j) (idle i x u))))
 

@@ -70,8 +70,12 @@ returns-3 c = let r = c .before in let e = first (asked r) in let h = e .before 
 
 returns-4 : tie.Need-returns-4
 returns-4 c = let l = c .before in let r = l .before in let e = first (asked r) in let h = e .before in by-answer (known h) false
-    (rw (ne-eqb (known h .mode-at .result) 0 (c .if4 .taken), mode-not (asked r), sym (h .is-among .ensures) ∙ e .if1 .left,
-    sym (r .is-among3 .ensures) ∙ l .if3 .left))
+    (rw (
+      ne-eqb (known h .mode-at .result) 0 (c .if4 .taken),
+      mode-not (asked r),
+      sym (h .is-among .ensures) ∙ e .if1 .left,
+      sym (r .is-among3 .ensures) ∙ l .if3 .left,
+    ))
 
 returns-5 : tie.Need-returns-5
 returns-5 c = let z = c .before in let l = z .before in let r = l .before in let e = first (asked r) in let h = e .before in
