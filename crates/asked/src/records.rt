@@ -6,6 +6,7 @@ use direct::Answered;
 use files::FileSet;
 use libc::STDIN_FILENO;
 use rules::Board;
+use rules::Claims;
 ghost use mathlib.Core.Path.{_≡_};
 ghost use Prim.Native.Nat.{_≤_};
 ghost use lib.ListN.{length};
@@ -57,7 +58,12 @@ fn enter(b: Board, r: Record) -> Answered {
     let writable = FileSet { bits: r.writable };
     let readable = FileSet { bits: r.readable };
     let inquirable = FileSet { bits: r.inquirable };
-    direct::enter(b, r.program, writable, readable, inquirable)
+    let claims = Claims {
+        writable,
+        readable,
+        inquirable,
+    };
+    direct::enter(b, r.program, claims)
 }
 
 // The direct call of a record; any kind but the seven others is leave.
