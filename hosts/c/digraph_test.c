@@ -3,16 +3,22 @@
  * matrix and loops are worked out by hand: what they answer, what they refuse and in
  * which sequence, and that other bytes are kept.
  *
- * The board, with the file that 9 waits for in brackets:
+ * The board, with the files that programs wait for in brackets:
  *
- *     program   V      Q      open         holds back
- *      5        2      1      2, writing   9 (over 2)
- *      9        3      2      (3)          32 (over 3), if given
+ *     program   V      Q      J      open         holds back
+ *      5        2      1             2, writing   9 (over 2)
+ *      9        3      2             (3)          32 (over 3), if given
+ *     14                      40     40, inquiry  15 (over 40); has record 7 of file 40
+ *     15               40
+ *     16                      40     40, inquiry  15 (over 40); waits for record 7 of file 40
  *     20               1
- *     21        64            64, writing  22 (over 64)
- *     22               64     (64)         21 (over 64), if given
- *     30               1                   held at entry: not in the matrix
- *     32        1      3      1, writing   5, 20 (over 1)
+ *     21        64                   64, writing  22, 23 (over 64)
+ *     22               64            (64)         21, 23 (over 64), if given
+ *     23                      64
+ *     24               60            60, reading  25 (over 60)
+ *     25                      60     (60)         24 (over 60), if given
+ *     30               1                          held at entry: not in the matrix
+ *     32        1      3             1, writing   5, 20 (over 1)
  */
 #include "lock_board.h"
 
@@ -24,20 +30,32 @@
 #define GUARDS 16 /* bytes on each side of a buffer that must be kept */
 
 static const char *const requests[] = {
-    "ENTER  32LABEL     1  1  1  3",
+    "ENTER  14LABEL     0  0  1 40",
+    "ENTER  15LABEL     0  1  0 40",
+    "ENTER  16LABEL     0  0  1 40",
+    "OPEN   14 40",
+    "OPEN   16 40",
+    "FETCH  14 40    7",
+    "ENTER  23LABEL     0  0  1 64",
+    "ENTER  24LABEL     0  1  0 60",
+    "ENTER  25LABEL     0  0  1 60",
+    "OPEN   24 60",
+    "ENTER  32LABEL     1  1  0  1  3",
     "OPEN   32  1",
-    "ENTER   5LABEL     1  1  2  1",
+    "ENTER   5LABEL     1  1  0  2  1",
     "OPEN    5  2",
-    "ENTER   9LABEL     1  1  3  2",
+    "ENTER   9LABEL     1  1  0  3  2",
     "OPEN    9  3", /* UNSAFE */
-    "ENTER  20LABEL     0  1  1",
-    "ENTER  21LABEL     1  0 64",
+    "ENTER  20LABEL     0  1  0  1",
+    "ENTER  21LABEL     1  0  0 64",
     "OPEN   21 64",
-    "ENTER  22LABEL     0  1 64",
-    "OPEN   22 64", /* WAIT */
-    "ENTER  31LABEL     0  0",
+    "ENTER  22LABEL     0  1  0 64",
+    "OPEN   22 64",      /* WAIT */
+    "OPEN   25 60",      /* WAIT */
+    "FETCH  16 40    7", /* WAIT */
+    "ENTER  31LABEL     0  0  0",
     "LEAVE  31", /* 9 is favoured */
-    "ENTER  30LABEL     0  1  1",
+    "ENTER  30LABEL     0  1  0  1",
 };
 
 static uint8_t image[LOCK_BOARD_IMAGE_LEN + 1];
@@ -57,7 +75,7 @@ static void serve_requests(void) {
             fail("a refused request", (unsigned long)n);
     }
     if (memcmp(journal, "HELD   30", 9) != 0 || image[LOCK_BOARD_FAVOURED] != 9 ||
-        memcmp(image + LOCK_BOARD_WAITING_LINE, "\x09\x16\x00", 3) != 0)
+        memcmp(image + LOCK_BOARD_WAITING_LINE, "\x09\x16\x19\x10\x00", 5) != 0)
         fail("the board is not the one to be tested", 0);
 }
 
@@ -82,6 +100,10 @@ static void test_matrix(size_t image_len, size_t len, uint64_t answer) {
         reaches(rows, 5, 9);
         reaches(rows, 32, 20);
         reaches(rows, 21, 22);
+        reaches(rows, 21, 23);
+        reaches(rows, 14, 15); /* 14 and 16 do not hold back each other */
+        reaches(rows, 16, 15);
+        reaches(rows, 24, 25);
     }
     if (lock_board_reach(image, image_len, found + GUARDS, len) != answer)
         fail("another answer for a matrix in bytes", (unsigned long)len);
@@ -136,15 +158,18 @@ static void test_loop(size_t image_len, uint64_t program, size_t len, uint64_t a
         fail("asking for a loop changed the image, program", (unsigned long)program);
 }
 
-/* Those that wait have their loops, whatever they wait for; the others, absent and held too, none.
+/*
+ * Those that wait for a file have their loops; the others, absent and held too, and 16, which waits
+ * for a record, none.
  */
 static void test_loops(void) {
     const size_t all = LOCK_BOARD_IMAGE_LEN, room = LOCK_BOARD_LOOP_ROOM;
     for (uint64_t p = 1; p <= LOCK_BOARD_PROGRAMS; p++)
-        if (p != 9 && p != 22)
+        if (p != 9 && p != 22 && p != 25)
             test_loop(all, p, room, 0, "");
     test_loop(all, 9, room, 3, "\x09\x20\x05");
     test_loop(all, 22, room, 2, "\x15\x16");
+    test_loop(all, 25, room, 2, "\x18\x19");
     test_loop(all, 9, room + GUARDS, 3, "\x09\x20\x05");
     test_loop(all, 9, room - 1, LOCK_BOARD_BUFFER_SHORT, "");
     test_loop(all, 9, 0, LOCK_BOARD_BUFFER_SHORT, "");
@@ -202,7 +227,7 @@ static void test_other_gifts(void) {
     test_list(9, 2, "\x09\x20\x05", 3, 0); /* the board as it is has no loop */
     test_list(5, 2, "\x09\x20\x05", 3, 0); /* open already */
     test_list(32, 3, "\x09\x20\x05", 3, 0);
-    test_list(9, 1, "\x09\x20\x05", 3, 0); /* in neither claim */
+    test_list(9, 1, "\x09\x20\x05", 3, 0); /* in none of its claims */
     test_list(9, 0, "\x09\x20\x05", 3, 0); /* no file */
     test_list(9, 65, "\x09\x20\x05", 3, 0);
     test_list(9, wide | 3, "\x09\x20\x05", 3, 0);
@@ -213,6 +238,18 @@ static void test_other_gifts(void) {
     test_list(UINT64_MAX, 3, "\x09\x20\x05", 3, 0);
     test_list(1, 3, "\x09\x20\x05", 3, 0);  /* absent */
     test_list(30, 1, "\x09\x20\x05", 3, 0); /* held */
+}
+
+/* Files given for inquiry, and to others where some inquire. */
+static void test_inquiry_gifts(void) {
+    test_list(25, 60, "\x18\x19", 2, 1); /* 24 reads 60, 25 would inquire into it */
+    test_list(15, 40, "\x0e\x0f", 2, 1); /* 14 inquires into 40, 15 would read it */
+    test_list(15, 40, "\x0f\x10", 2, 1);
+    test_list(15, 40, "\x0e\x10", 2, 0); /* two that inquire */
+    test_list(16, 40, "\x0e\x10", 2, 0); /* open already: a record changes nothing */
+    test_list(16, 40, "\x10\x0f", 2, 0);
+    test_list(23, 64, "\x15\x17", 2, 1); /* 21 writes 64, 23 would inquire into it */
+    test_list(23, 64, "\x16\x17", 2, 0); /* 22 does not have it yet */
 }
 
 /* Lists longer than any loop, the loop at their beginning. */
@@ -269,6 +306,7 @@ int main(void) {
     test_loops();
     test_lists_of_9();
     test_other_gifts();
+    test_inquiry_gifts();
     test_long_lists();
     test_images();
     test_unsound();

@@ -1,14 +1,14 @@
 /*
  * Writes the ENTER line of a program, for whoever makes claim lists; installed as lockboard-enter.
  *
- *     lockboard-enter PROGRAM LABEL [--write FILES] [--read FILES]
+ *     lockboard-enter PROGRAM LABEL [--write FILES] [--read FILES] [--inquire FILES]
  *     lockboard-enter --version
  *
  * FILES are numbers with commas between, and 5-7 for 5 to 7: --write 1,3,5-7. An option may be left
  * out, and given again for more files. What follows -- is no option.
  *
  * The line goes to standard output, ready for a session. What is wrong is told on standard error.
- * A file in both lists is written in both, and told, since the board will refuse the line.
+ * A file in two lists is written in both, and told, since the board will refuse the line.
  *
  * Exit status: 0 if the line was written; 1 if there is no such line, or writing failed; 2 for
  * wrong arguments.
@@ -25,7 +25,7 @@
 
 struct enter {
     const char *program, *label; /* as they were given; NULL: not yet */
-    uint64_t writable, readable;
+    struct file_sets files;
 };
 
 /* ---- what is wrong, in words */
@@ -141,25 +141,33 @@ static int tell_label(const struct enter *enter) {
     return tell(&text);
 }
 
-/* Tells of the files in both lists, if there are any. */
-static void tell_both(const struct enter *enter) {
+/* Tells of the files in more than one list, if there are any. */
+static void tell_twice(const struct file_sets *files) {
     char bytes[1024];
     struct text text = {bytes, sizeof bytes, 0};
-    const uint64_t both = enter->writable & enter->readable;
-    if (!both)
+    const uint64_t twice =
+        (files->write & (files->read | files->inquiry)) | (files->read & files->inquiry);
+    if (!twice)
         return;
-    say(&text, "in both lists: ");
-    say_files(&text, both);
+    say(&text, "in more than one list: ");
+    say_files(&text, twice);
     say(&text, "; the line is written, but the board will refuse it: ");
     say_refusal(&text, LOCK_BOARD_REFUSAL_CLAIMS_MEET);
-    say(&text, "; list each file once, with --write if the program ever writes it, else with"
-               " --read");
+    say(&text, "; list each file once, with --write if the program ever writes the whole file,"
+               " with --inquire if it looks up or corrects single records, else with --read");
     tell(&text);
+}
+
+/* The claims as lock_board_write takes them: three sets of bytes, lowest first. */
+static void put_claims(uint8_t *claims, const struct file_sets *files) {
+    const uint64_t sets[] = {files->write, files->read, files->inquiry};
+    for (int i = 0; i < LOCK_BOARD_CLAIMS_LEN; i++)
+        claims[i] = (uint8_t)(sets[i / LOCK_BOARD_SET_LEN] >> 8 * (i % LOCK_BOARD_SET_LEN));
 }
 
 /* Lets the library write the line into the buffer; answers its length, or -1 after telling. */
 static int make_line(const struct enter *enter, uint8_t *line, size_t line_len) {
-    uint8_t filled[LOCK_BOARD_LABEL_LEN];
+    uint8_t filled[LOCK_BOARD_LABEL_LEN], claims[LOCK_BOARD_CLAIMS_LEN];
     const uint8_t *label = (const uint8_t *)enter->label;
     size_t label_len = strlen(enter->label);
     uint64_t program, answer;
@@ -172,7 +180,8 @@ static int make_line(const struct enter *enter, uint8_t *line, size_t line_len) 
         label = filled;
         label_len = sizeof filled;
     }
-    answer = lock_board_write(LOCK_BOARD_ENTER, program, 0, enter->writable, enter->readable, label,
+    put_claims(claims, &enter->files);
+    answer = lock_board_write(LOCK_BOARD_ENTER, program, 0, 0, claims, sizeof claims, label,
                               label_len, line, line_len);
     if (answer == LOCK_BOARD_BAD_LABEL)
         return tell_label(enter);
@@ -192,7 +201,7 @@ static int write_line(const struct enter *enter) {
         fprintf(stderr, "lockboard-enter: the line cannot be written: %s\n", strerror(errno));
         return 1;
     }
-    tell_both(enter);
+    tell_twice(&enter->files);
     return 0;
 }
 
@@ -201,8 +210,10 @@ static int write_line(const struct enter *enter) {
 /* The set that an option is for; NULL if it is none. */
 static uint64_t *set_of(struct enter *enter, const char *option) {
     if (strcmp(option, "--write") == 0)
-        return &enter->writable;
-    return strcmp(option, "--read") == 0 ? &enter->readable : NULL;
+        return &enter->files.write;
+    if (strcmp(option, "--read") == 0)
+        return &enter->files.read;
+    return strcmp(option, "--inquire") == 0 ? &enter->files.inquiry : NULL;
 }
 
 /* Answers an exit status: 0 to go on, 1 after telling what is wrong, 2 for wrong usage. */
@@ -230,7 +241,7 @@ static int read_arguments(struct enter *enter, char **arguments) {
 }
 
 int main(int argc, char **argv) {
-    struct enter enter = {NULL, NULL, 0, 0};
+    struct enter enter = {NULL, NULL, {0, 0, 0}};
     int status;
     session_begin();
     if (argc == 2 && strcmp(argv[1], "--version") == 0)
@@ -238,7 +249,8 @@ int main(int argc, char **argv) {
     status = read_arguments(&enter, argv + (argc > 0));
     if (status == 2)
         fprintf(stderr,
-                "usage: lockboard-enter PROGRAM LABEL [--write FILES] [--read FILES] | --version\n"
-                "for instance: lockboard-enter 2 ORDERS --write 2 --read 1,3,5-7\n");
+                "usage: lockboard-enter PROGRAM LABEL [--write FILES] [--read FILES]"
+                " [--inquire FILES] | --version\n"
+                "for instance: lockboard-enter 2 ORDERS --write 2 --read 1,3,5-7 --inquire 8\n");
     return status ? status : write_line(&enter);
 }

@@ -61,24 +61,35 @@ static void all_hold(const uint8_t *bytes, size_t len, int fill, const char *wha
             fail(what, (unsigned long)i);
 }
 
-/* A byte of an image's program. */
-static uint8_t byte_of(const uint8_t *image, int program, int at) {
-    return image[LOCK_BOARD_PROGRAM_LEN * (program - 1) + at];
+/* A program's rows in an image. */
+static const uint8_t *first_row(const uint8_t *image, int program) {
+    return image + LOCK_BOARD_PROGRAM_LEN * (program - 1);
 }
 
-/* A set of an image's program: a bit for each file, the lowest byte first. */
-static uint64_t set_of(const uint8_t *image, int program, int at) {
+static const uint8_t *second_row(const uint8_t *image, int program) {
+    return image + LOCK_BOARD_INQUIRY + LOCK_BOARD_INQUIRY_LEN * (program - 1);
+}
+
+/* A set of files: a bit for each, the lowest byte first. */
+static uint64_t set_at(const uint8_t *bytes) {
     uint64_t set = 0;
     for (int i = LOCK_BOARD_FILES / 8 - 1; i >= 0; i--)
-        set = set << 8 | byte_of(image, program, at + i);
+        set = set << 8 | bytes[i];
     return set;
 }
 
+/*
+ * "W of i meets V or Q of j, or R of i meets V of j", "also if I of i meets V or Q of j, or W or R
+ * of i meets J of j".
+ */
 static int holds_back(const uint8_t *image, int i, int j) {
-    const uint64_t v = set_of(image, j, LOCK_BOARD_WRITE_CLAIM);
-    const uint64_t q = set_of(image, j, LOCK_BOARD_READ_CLAIM);
-    return (set_of(image, i, LOCK_BOARD_WRITE_OPEN) & (v | q)) != 0 ||
-           (set_of(image, i, LOCK_BOARD_READ_OPEN) & v) != 0;
+    const uint64_t v = set_at(first_row(image, j) + LOCK_BOARD_WRITE_CLAIM);
+    const uint64_t q = set_at(first_row(image, j) + LOCK_BOARD_READ_CLAIM);
+    const uint64_t claim_j = set_at(second_row(image, j) + LOCK_BOARD_INQUIRY_CLAIM);
+    const uint64_t w = set_at(first_row(image, i) + LOCK_BOARD_WRITE_OPEN);
+    const uint64_t r = set_at(first_row(image, i) + LOCK_BOARD_READ_OPEN);
+    const uint64_t open_i = set_at(second_row(image, i) + LOCK_BOARD_INQUIRY_OPEN);
+    return (w & (v | q)) || (r & v) || (open_i & (v | q)) || ((w | r) & claim_j);
 }
 
 /* Whether no other remaining program holds back p. */
@@ -94,7 +105,7 @@ static size_t worked_order(const uint8_t *image, uint8_t *order) {
     int remains[LOCK_BOARD_PROGRAMS + 1] = {0};
     size_t admitted = 0, count = 0;
     for (int p = 1; p <= LOCK_BOARD_PROGRAMS; p++) {
-        const int standing = byte_of(image, p, LOCK_BOARD_STANDING);
+        const int standing = first_row(image, p)[LOCK_BOARD_STANDING];
         remains[p] = standing == LOCK_BOARD_RUNNING || standing == LOCK_BOARD_WAITING;
         admitted += (size_t)remains[p];
     }
@@ -174,7 +185,7 @@ static void refused(size_t image_len, int at, int byte, size_t journal_len, uint
                     uint64_t answer) {
     static uint8_t image[LOCK_BOARD_IMAGE_LEN + 1], before[LOCK_BOARD_IMAGE_LEN + 1];
     static uint8_t journal[2 * LOCK_BOARD_JOURNAL_ROOM];
-    const uint8_t line[] = "ENTER   1LABEL     0  0";
+    const uint8_t line[] = "ENTER   1LABEL     0  0  0";
     memset(journal, FILL, sizeof journal);
     memset(image, 0, sizeof image);
     image[at] = (uint8_t)byte;
@@ -196,11 +207,17 @@ static int edges(void) {
     const uint64_t highest = LOCK_BOARD_HIGHEST_PLACE;
     const size_t len = LOCK_BOARD_IMAGE_LEN, room = LOCK_BOARD_JOURNAL_ROOM;
     const int first = LOCK_BOARD_PASSED, last = first + LOCK_BOARD_PROGRAMS - 1;
+    const int row = LOCK_BOARD_INQUIRY, last_row = LOCK_BOARD_IMAGE_LEN - LOCK_BOARD_INQUIRY_LEN;
     refused(len, LOCK_BOARD_STANDING, LOCK_BOARD_HELD + 1, room, 0, LOCK_BOARD_UNSOUND);
     refused(len, LOCK_BOARD_STANDING, LOCK_BOARD_HELD, room, 0, LOCK_BOARD_UNSOUND);
     refused(len, first, 1, room, 0, LOCK_BOARD_UNSOUND); /* counts of absent ones */
     refused(len, last, 1, room, 0, LOCK_BOARD_UNSOUND);
-    refused(LOCK_BOARD_PASSED, 0, 0, room, 0, LOCK_BOARD_UNSOUND); /* an image without counts */
+    refused(len, row + LOCK_BOARD_INQUIRY_CLAIM, 1, room, 0, LOCK_BOARD_UNSOUND); /* so too J */
+    refused(len, row + LOCK_BOARD_INQUIRY_OPEN, 1, room, 0, LOCK_BOARD_UNSOUND);
+    refused(len, row + LOCK_BOARD_RECORD_IN_USE, 1, room, 0, LOCK_BOARD_UNSOUND);
+    refused(len, last_row + LOCK_BOARD_AWAITED_RECORD + 1, 1, room, 0, LOCK_BOARD_UNSOUND);
+    refused(LOCK_BOARD_PASSED, 0, 0, room, 0, LOCK_BOARD_UNSOUND);  /* an image without counts */
+    refused(LOCK_BOARD_INQUIRY, 0, 0, room, 0, LOCK_BOARD_UNSOUND); /* one without inquiry */
     refused(len - 1, 0, 0, room, 0, LOCK_BOARD_UNSOUND);
     refused(len + 1, 0, 0, room, 0, LOCK_BOARD_UNSOUND);
     refused(0, 0, 0, 0, UINT64_MAX, LOCK_BOARD_UNSOUND);

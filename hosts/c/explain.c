@@ -6,42 +6,61 @@
 #include <stdio.h>
 #include <string.h>
 
-/* Columns of a request line, counted from 0. */
-enum { PROGRAM_AT = 6, FILE_AT = 9, LABEL_AT = 9, WRITE_COUNT_AT = 17, READ_COUNT_AT = 20 };
-enum { PROGRAM_LEN = 9, FILE_LEN = 12, ENTER_LEN = 23, NUMBER_LEN = 3, VERB_LEN = 6 };
+/* Columns of a request line, counted from 0: where its parts begin, and how many they have. */
+enum { PROGRAM_AT = 6, FILE_AT = 9, RECORD_AT = 12, LABEL_AT = 9, COUNTS_AT = 17, FILES_AT = 26 };
+enum { VERB_LEN = 6, NUMBER_LEN = 3, RECORD_LEN = 5 };
+
+enum { CLAIMS = 3 }; /* of an ENTER: to write, to read and to inquire into */
 
 /* A refused line. */
 struct refused {
     const uint8_t *line;
     size_t len;
-    int program, file; /* as its journal line has them */
+    int program, file, record; /* as its journal line has them */
     const struct board_view *view;
     const uint8_t *labels;
 };
 
-/* A number in form in three columns; -1 if it is not in form. */
-static int number_at(const uint8_t *columns) {
+/* A number in form in so many columns, 5 at most; -1 if it is not in form. */
+static int number_in(const uint8_t *columns, int width) {
     char form[12];
     int number = 0;
-    for (int i = 0; i < NUMBER_LEN; i++) {
+    for (int i = 0; i < width; i++) {
         if (columns[i] >= '0' && columns[i] <= '9')
             number = 10 * number + (columns[i] - '0');
         else if (columns[i] != ' ')
             return -1;
     }
-    snprintf(form, sizeof form, "%3d", number);
-    return memcmp(form, columns, NUMBER_LEN) == 0 ? number : -1;
+    snprintf(form, sizeof form, "%*d", width, number);
+    return memcmp(form, columns, (size_t)width) == 0 ? number : -1;
 }
+
+static int number_at(const uint8_t *columns) { return number_in(columns, NUMBER_LEN); }
 
 /* Whether a line, not refused with 3, is of this verb. */
 static int is_verb(const uint8_t *line, const char *verb) {
     return memcmp(line, verb, strlen(verb)) == 0;
 }
 
-/* LEAVE and CANCEL: the program goes, and the line ends with its number. */
+/* LEAVE and CANCEL: the program goes. */
 static int removes_program(const uint8_t *line) {
     return is_verb(line, "LEAVE") || is_verb(line, "CANCEL");
 }
+
+/* How many files each claim of an ENTER has. */
+struct counts {
+    size_t of[CLAIMS];
+};
+
+static struct counts counts_of(const uint8_t *line) {
+    struct counts counts;
+    for (int i = 0; i < CLAIMS; i++)
+        counts.of[i] = (size_t)number_at(line + COUNTS_AT + NUMBER_LEN * i);
+    return counts;
+}
+
+/* Where the n-th file of an ENTER stands, from 0 on. */
+static size_t file_at(size_t n) { return FILES_AT + NUMBER_LEN * n; }
 
 /* ---- refusals 3 to 7: what is wrong in the line */
 
@@ -52,7 +71,15 @@ static void explain_verb(struct text *text, const struct refused *r) {
     }
     say(text, r->len < VERB_LEN ? "the line has only \"" : "columns 1-6 have \"");
     say_bytes(text, r->line, r->len < VERB_LEN ? r->len : VERB_LEN);
-    say(text, "\", not ENTER, OPEN, CLOSE, DROP, LEAVE or CANCEL, with blanks up to column 6");
+    say(text, "\", not ENTER, OPEN, CLOSE, DROP, LEAVE, CANCEL, FETCH or RETURN, with blanks up to"
+              " column 6");
+}
+
+/* The last column of a line that is no ENTER. */
+static int end_of(const uint8_t *line) {
+    if (is_verb(line, "FETCH"))
+        return RECORD_AT + RECORD_LEN;
+    return removes_program(line) || is_verb(line, "RETURN") ? FILE_AT : FILE_AT + NUMBER_LEN;
 }
 
 static void explain_length(struct text *text, const struct refused *r) {
@@ -67,48 +94,55 @@ static void explain_length(struct text *text, const struct refused *r) {
     say(text, "; ");
     say_bytes(text, r->line, verb_len);
     if (!is_verb(r->line, "ENTER"))
-        say(text, " ends with column %d", removes_program(r->line) ? PROGRAM_LEN : FILE_LEN);
-    else if (r->len < ENTER_LEN)
-        say(text, " goes up to column %d at least", ENTER_LEN);
+        say(text, " ends with column %d", end_of(r->line));
+    else if (r->len < FILES_AT)
+        say(text, " goes up to column %d at least", FILES_AT);
     else {
-        const int w = number_at(r->line + WRITE_COUNT_AT), q = number_at(r->line + READ_COUNT_AT);
-        say(text, " with %d files to write and %d to read ends with column %d", w, q,
-            ENTER_LEN + NUMBER_LEN * (w + q));
+        const struct counts n = counts_of(r->line);
+        say(text, " with %d files to write, %d to read and %d to inquire into ends with column %d",
+            (int)n.of[0], (int)n.of[1], (int)n.of[2], (int)file_at(n.of[0] + n.of[1] + n.of[2]));
     }
 }
 
 struct field {
     size_t at;
+    int width;
     const char *what;
     int lowest, highest;
 };
 
+/* Numbers that a line has at most: an ENTER's program, counts and files. */
+enum { MOST_NUMBERS = 1 + CLAIMS + CLAIMS * LOCK_BOARD_FILES };
+
 /* The n-th number of a line, from 0 on. */
 static struct field field_of(const struct refused *r, size_t n) {
-    const struct field program = {PROGRAM_AT, "program", 1, LOCK_BOARD_PROGRAMS};
-    const struct field write = {WRITE_COUNT_AT, "count", 0, LOCK_BOARD_FILES};
-    const struct field read = {READ_COUNT_AT, "count", 0, LOCK_BOARD_FILES};
-    struct field file = {FILE_AT, "file", 1, LOCK_BOARD_FILES};
+    const struct field program = {PROGRAM_AT, NUMBER_LEN, "program", 1, LOCK_BOARD_PROGRAMS};
+    const struct field record = {RECORD_AT, RECORD_LEN, "record", 1, LOCK_BOARD_RECORDS};
+    struct field count = {COUNTS_AT, NUMBER_LEN, "count", 0, LOCK_BOARD_FILES};
+    struct field file = {FILE_AT, NUMBER_LEN, "file", 1, LOCK_BOARD_FILES};
     if (n == 0)
         return program;
     if (!is_verb(r->line, "ENTER"))
-        file.at += NUMBER_LEN * (n - 1);
-    else if (n < 3)
-        return n == 1 ? write : read;
-    else
-        file.at = ENTER_LEN + NUMBER_LEN * (n - 3);
-    return file;
+        return n == 1 ? file : record;
+    count.at += NUMBER_LEN * (n - 1);
+    if (n > CLAIMS)
+        file.at = file_at(n - 1 - CLAIMS);
+    return n > CLAIMS ? file : count;
 }
 
 /* The first number that is not in form or range. */
 static void explain_number(struct text *text, const struct refused *r) {
-    for (size_t n = 0; field_of(r, n).at + NUMBER_LEN <= r->len; n++) {
+    for (size_t n = 0; n < MOST_NUMBERS; n++) {
         const struct field field = field_of(r, n);
-        const int number = number_at(r->line + field.at);
+        const size_t end = field.at + (size_t)field.width;
+        int number;
+        if (end > r->len)
+            return;
+        number = number_in(r->line + field.at, field.width);
         if (number >= field.lowest && number <= field.highest)
             continue;
-        say(text, "columns %d-%d have \"", (int)field.at + 1, (int)field.at + NUMBER_LEN);
-        say_bytes(text, r->line + field.at, NUMBER_LEN);
+        say(text, "columns %d-%d have \"", (int)field.at + 1, (int)end);
+        say_bytes(text, r->line + field.at, (size_t)field.width);
         say(text, "\", not a %s from %d to %d, right-justified", field.what, field.lowest,
             field.highest);
         return;
@@ -126,11 +160,12 @@ static void explain_label(struct text *text, const struct refused *r) {
 
 /* The first file that is not above the one before it in its claim. */
 static void explain_rising(struct text *text, const struct refused *r) {
-    const size_t written = (size_t)number_at(r->line + WRITE_COUNT_AT);
-    for (size_t n = 1; ENTER_LEN + NUMBER_LEN * (n + 1) <= r->len; n++) {
-        const size_t at = ENTER_LEN + NUMBER_LEN * n;
+    const struct counts counts = counts_of(r->line);
+    const size_t read = counts.of[0], inquiry = read + counts.of[1]; /* where these claims begin */
+    for (size_t n = 1; file_at(n + 1) <= r->len; n++) {
+        const size_t at = file_at(n);
         const int file = number_at(r->line + at), before = number_at(r->line + at - NUMBER_LEN);
-        if (n != written && file <= before) {
+        if (n != read && n != inquiry && file <= before) {
             say(text, "columns %d-%d have file %d after file %d", (int)at + 1, (int)at + NUMBER_LEN,
                 file, before);
             return;
@@ -138,7 +173,14 @@ static void explain_rising(struct text *text, const struct refused *r) {
     }
 }
 
-/* ---- refusals 9 to 16 and 18: what was asked, and what stands */
+/* ---- refusals 9 to 16, 18, 20 and 21: what was asked, and what stands */
+
+/* `file 2`, or `record 17 of file 2`. */
+static void say_named(struct text *text, const struct refused *r) {
+    if (r->record)
+        say(text, "record %d of ", r->record);
+    say(text, "file %d", r->file);
+}
 
 /* `BILLS asked for file 2`, `asked to enter as BILLS`, `asked to cancel BILLS` */
 static void say_asked(struct text *text, const struct refused *r) {
@@ -153,12 +195,17 @@ static void say_asked(struct text *text, const struct refused *r) {
         return;
     }
     say_label(text, "", r->labels, r->program, " ");
-    if (is_verb(r->line, "LEAVE"))
+    if (is_verb(r->line, "LEAVE")) {
         say(text, "asked to leave");
-    else if (is_verb(r->line, "OPEN"))
-        say(text, "asked for file %d", r->file);
-    else
-        say(text, "asked to %s file %d", is_verb(r->line, "CLOSE") ? "close" : "drop", r->file);
+    } else if (is_verb(r->line, "RETURN")) {
+        say(text, "asked to return a record");
+    } else if (is_verb(r->line, "CLOSE") || is_verb(r->line, "DROP")) {
+        say(text, "asked to %s ", is_verb(r->line, "CLOSE") ? "close" : "drop");
+        say_named(text, r);
+    } else {
+        say(text, "asked for ");
+        say_named(text, r);
+    }
 }
 
 /* The advice of docs/REFUSALS.md to whoever would remove a program with the wrong verb. */
@@ -202,19 +249,32 @@ static void explain_not_absent(struct text *text, const struct refused *r) {
         say(text, standing == LOCK_BOARD_HELD ? "is held at entry" : "runs");
 }
 
-/* The set of the files of an ENTER from the n-th on, from 0. */
-static uint64_t files_of(const struct refused *r, size_t n, size_t count) {
-    uint64_t files = 0;
-    for (size_t i = n; i < n + count; i++)
-        files |= file_set(number_at(r->line + ENTER_LEN + NUMBER_LEN * i));
-    return files;
+/* The claims of an ENTER. */
+static void take_claims(const struct refused *r, uint64_t *claims) {
+    const struct counts counts = counts_of(r->line);
+    size_t n = 0;
+    for (int i = 0; i < CLAIMS; i++) {
+        const size_t end = n + counts.of[i];
+        for (claims[i] = 0; n < end; n++)
+            claims[i] |= file_set(number_at(r->line + file_at(n)));
+    }
 }
 
+/* `the write and read claims have file 5; the read and inquiry claims have files 6, 7` */
 static void explain_claims_meet(struct text *text, const struct refused *r) {
-    const size_t written = (size_t)number_at(r->line + WRITE_COUNT_AT);
-    const size_t read = (size_t)number_at(r->line + READ_COUNT_AT);
-    say(text, "both claims have ");
-    say_files(text, files_of(r, 0, written) & files_of(r, written, read));
+    static const char *const names[] = {"write", "read", "inquiry"};
+    uint64_t claims[CLAIMS];
+    const char *before = "";
+    take_claims(r, claims);
+    for (int i = 0; i < CLAIMS; i++) {
+        for (int j = i + 1; j < CLAIMS; j++) {
+            if (!(claims[i] & claims[j]))
+                continue;
+            say(text, "%sthe %s and %s claims have ", before, names[i], names[j]);
+            say_files(text, claims[i] & claims[j]);
+            before = "; ";
+        }
+    }
 }
 
 static void explain_absent(struct text *text, const struct refused *r) {
@@ -247,9 +307,9 @@ static void explain_waiting(struct text *text, const struct refused *r) {
 
 /* The advice of docs/REFUSALS.md. A drop needs none. */
 static void explain_not_claimed(struct text *text, const struct refused *r) {
-    const struct program_view *program = &r->view->programs[r->program];
-    say(text, program->write_claim || program->read_claim ? "may " : "claims no file");
-    say_uses(text, "write", program->write_claim, "read", program->read_claim);
+    const struct file_sets *claims = &r->view->programs[r->program].claims;
+    say(text, files_of_all(claims) ? "may " : "claims no file");
+    say_may(text, claims);
     if (is_verb(r->line, "OPEN"))
         say(text, "; add the file to the claim list; to get it, the program leaves and enters again"
                   " with the longer list");
@@ -261,7 +321,27 @@ static void explain_open(struct text *text, const struct refused *r) {
 
 static void explain_running(struct text *text, const struct refused *r) {
     explain_open(text, r);
+    say_record(text, "; ", &r->view->programs[r->program]);
     say_remedy(text, r, "running", "LEAVE");
+}
+
+/* Of a FETCH what the program has open for inquiry, of a RETURN that it has no record. */
+static void explain_no_record(struct text *text, const struct refused *r) {
+    const uint64_t files = r->view->programs[r->program].open.inquiry;
+    if (is_verb(r->line, "RETURN")) {
+        say(text, "has no record in use");
+    } else if (files) {
+        say(text, "inquires into ");
+        say_files(text, files);
+    } else {
+        say(text, "has nothing open for inquiry");
+    }
+}
+
+/* The advice of docs/REFUSALS.md. */
+static void explain_has_record(struct text *text, const struct refused *r) {
+    say_record(text, "", &r->view->programs[r->program]);
+    say(text, "; it may only return the record or leave");
 }
 
 /* ---- all refusals */
@@ -283,6 +363,8 @@ static explanation *const explanations[] = {
     [LOCK_BOARD_REFUSAL_IS_OPEN] = explain_open,
     [LOCK_BOARD_REFUSAL_NOT_OPEN] = explain_open,
     [LOCK_BOARD_REFUSAL_IS_RUNNING] = explain_running,
+    [LOCK_BOARD_REFUSAL_NO_RECORD] = explain_no_record,
+    [LOCK_BOARD_REFUSAL_HAS_RECORD] = explain_has_record,
 };
 
 /* Keeps the label of a program that has entered, and forgets that of one that is gone. */
@@ -294,21 +376,35 @@ static void keep_label(uint8_t *labels, const uint8_t *line, int program) {
         memset(label, 0, LOCK_BOARD_LABEL_LEN);
 }
 
+/* ` (program 2, file 1, record 17)`: what the journal line names. */
+static void say_about(struct text *text, const struct refused *r) {
+    if (!r->program)
+        return;
+    say(text, " (program %d", r->program);
+    if (r->file)
+        say(text, ", file %d", r->file);
+    if (r->record)
+        say(text, ", record %d", r->record);
+    say(text, ")");
+}
+
 size_t explain_answer(char *text, size_t text_len, unsigned long number, const uint8_t *image,
                       uint8_t *labels, const uint8_t *line, size_t line_len,
                       const uint8_t *journal) {
     const int program = number_at(journal + LOCK_BOARD_JOURNAL_PROGRAM);
     const int file = number_at(journal + LOCK_BOARD_JOURNAL_FILE);
     const int refusal = number_at(journal + LOCK_BOARD_JOURNAL_REFUSAL);
+    const int record = number_in(journal + LOCK_BOARD_JOURNAL_RECORD, RECORD_LEN);
     struct text all = {text, text_len, 0};
     struct board_view view;
-    struct refused refused = {line, line_len, program, file, &view, labels};
+    struct refused refused = {line, line_len, program, file, record, &view, labels};
     if (refusal == 0) {
         keep_label(labels, line, program);
         return 0;
     }
     board_view_read(&view, image);
-    all.len = refusal_text(text, text_len, number, refusal, program, file);
+    all.len = refusal_text(text, text_len, number, refusal);
+    say_about(&all, &refused);
     say(&all, ": ");
     if (refusal >= LOCK_BOARD_REFUSAL_NOT_ABSENT) {
         say_asked(&all, &refused);

@@ -12,10 +12,10 @@
  * the image after it, the line and its journal.
  *
  * If the journal has a refusal, writes what the operator is to see into the
- * text, one line without its byte 10: `line N: refusal R: WORDS (program P, file
- * F)`, as refusal_text does, and then what helps. Answers its length. Bytes of
- * the request outside 32 to 126 are shown as `?`. If the line was not refused,
- * the answer is 0.
+ * text, one line without its byte 10: `line N: refusal R: WORDS (program P, file F,
+ * record R)`, without those that the journal line has not, and then what helps.
+ * Answers its length. Bytes of the request outside 32 to 126 are shown as `?`. If
+ * the line was not refused, the answer is 0.
  *
  * Keeps the labels, EXPLAIN_LABELS_LEN bytes, which begin as zeros: that of a
  * program whose ENTER was served, until it has left or was cancelled.

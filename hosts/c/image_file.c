@@ -16,11 +16,12 @@
 
 #define NO_FILE "this is no plain file; name that of an image, or a new one"
 
-/* Images of versions 1.0 to 1.4 had no counts. */
-#define OLD_IMAGE_LEN 1155
-static const char old_image[] =
-    ": it has the length of images of version 1.4 and before; empty its board with that version,"
-    " then begin with a new file (docs/OPERATING.md, \"From 1.4 to 1.5\")";
+/* Images of versions 1.0 to 1.4 had no counts, those of 1.5 and 1.6 no inquiry. */
+static const struct {
+    int len;
+    const char *versions, *section; /* of docs/OPERATING.md */
+} old_images[] = {{1155, "version 1.4 and before", "From 1.4 to 1.5"},
+                  {1187, "versions 1.5 and 1.6", "From 1.6 to 1.7"}};
 
 /* The file that this process has taken. */
 static struct {
@@ -75,6 +76,20 @@ static int read_bytes(int fd, const char *path, uint8_t *bytes, size_t max) {
     return (int)len;
 }
 
+/* Tells refusal 1, and of an old version's image what to do; answers -1. */
+static int not_sound(const char *path, int len) {
+    fprintf(stderr, "%s: refusal %d: %s", path, LOCK_BOARD_REFUSAL_NOT_SOUND,
+            refusal_words(LOCK_BOARD_REFUSAL_NOT_SOUND));
+    for (size_t i = 0; i < sizeof old_images / sizeof *old_images; i++)
+        if (len == old_images[i].len)
+            fprintf(stderr,
+                    ": it has the length of images of %s; empty its board with such a version,"
+                    " then begin with a new file (docs/OPERATING.md, \"%s\")",
+                    old_images[i].versions, old_images[i].section);
+    fputc('\n', stderr);
+    return -1;
+}
+
 /* Reads the image of a file that was named from a folder. */
 static int read_image(int folder, const char *name, const char *path, uint8_t *image) {
     uint8_t bytes[LOCK_BOARD_IMAGE_LEN + 1]; /* one more, to notice a longer file */
@@ -84,11 +99,8 @@ static int read_image(int folder, const char *name, const char *path, uint8_t *i
         close(fd);
     if (len < 0)
         return -1;
-    if (!is_sound(bytes, (size_t)len)) {
-        fprintf(stderr, "%s: refusal %d: %s%s\n", path, LOCK_BOARD_REFUSAL_NOT_SOUND,
-                refusal_words(LOCK_BOARD_REFUSAL_NOT_SOUND), len == OLD_IMAGE_LEN ? old_image : "");
-        return -1;
-    }
+    if (!is_sound(bytes, (size_t)len))
+        return not_sound(path, len);
     memcpy(image, bytes, LOCK_BOARD_IMAGE_LEN);
     return 0;
 }

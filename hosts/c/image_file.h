@@ -20,7 +20,7 @@
 
 /*
  * Reads an image of LOCK_BOARD_IMAGE_LEN bytes from a file. If it holds no sound
- * board, refusal 1 is shown, and of an image of version 1.4 or before that it is one.
+ * board, refusal 1 is shown, and of an image of version 1.6 or before which one it is.
  */
 int image_file_read(const char *path, uint8_t *image);
 

@@ -52,22 +52,46 @@ void say_files(struct text *text, uint64_t files) {
     }
 }
 
-void say_uses(struct text *text, const char *write, uint64_t written, const char *read,
-              uint64_t only_read) {
-    if (written) {
-        say(text, "%s ", write);
-        say_files(text, written);
-    }
-    if (only_read) {
-        say(text, "%s%s ", written ? " and " : "", read);
-        say_files(text, only_read);
+/* The verbs of the three ways of use: of one program that does so, and else. */
+struct verbs {
+    const char *write, *read, *inquire;
+};
+static const struct verbs of_one = {"writes", "reads", "inquires into"};
+static const struct verbs plain = {"write", "read", "inquire into"};
+
+/* `WRITE files 2, 3, READ file 4 and INQUIRE file 5`, with these verbs. */
+static void say_uses(struct text *text, const struct verbs *verbs, const struct file_sets *files) {
+    const char *const verb[] = {verbs->write, verbs->read, verbs->inquire};
+    const uint64_t set[] = {files->write, files->read, files->inquiry};
+    int left = (set[0] != 0) + (set[1] != 0) + (set[2] != 0);
+    const char *before = "";
+    for (int i = 0; i < 3; i++) {
+        if (!set[i])
+            continue;
+        say(text, "%s%s ", before, verb[i]);
+        say_files(text, set[i]);
+        left--;
+        before = left == 1 ? " and " : ", ";
     }
 }
 
+void say_may(struct text *text, const struct file_sets *files) { say_uses(text, &plain, files); }
+
 void say_open(struct text *text, const struct program_view *program) {
-    if (!program->write_open && !program->read_open)
+    if (!files_of_all(&program->open))
         say(text, "has nothing open");
-    say_uses(text, "writes", program->write_open, "reads", program->read_open);
+    say_uses(text, &of_one, &program->open);
+}
+
+void say_record(struct text *text, const char *before, const struct program_view *program) {
+    if (program->record_in_use)
+        say(text, "%shas record %d of file %d", before, program->record_in_use, program->file);
+}
+
+void say_awaited(struct text *text, const struct program_view *program) {
+    if (waits_for_record(program))
+        say(text, "record %d of ", program->awaited_record);
+    say(text, "file %d", program->file);
 }
 
 /* The programs that have the awaited file in conflicting use, a 0 after them; answers how many. */
@@ -80,21 +104,35 @@ static int conflicting_users(const struct board_view *view, int program, uint8_t
     return count;
 }
 
+/* ` writes`: how users of a file, all in the same way, use it. */
+static void say_use(struct text *text, const struct file_sets *open, int file, int users) {
+    const struct verbs *verbs = users == 1 ? &of_one : &plain;
+    const char *verb = verbs->write;
+    if (open->read & file_set(file))
+        verb = verbs->read;
+    if (open->inquiry & file_set(file))
+        verb = verbs->inquire;
+    say(text, " %s", verb);
+}
+
 int say_wait(struct text *text, const uint8_t *labels, const struct board_view *view, int program) {
-    uint8_t users[LOCK_BOARD_PROGRAMS + 1];
-    const int file = view->programs[program].awaited;
-    const int count = conflicting_users(view, program, users);
-    say(text, "waits for file %d, which ", file);
-    if (count == 0) {
+    const struct program_view *waiter = &view->programs[program];
+    uint8_t users[LOCK_BOARD_PROGRAMS + 1] = {0};
+    int count = 1;
+    if (waits_for_record(waiter))
+        users[0] = (uint8_t)user_of_awaited_record(view, program);
+    else
+        count = conflicting_users(view, program, users);
+    say(text, "waits for ");
+    say_awaited(text, waiter);
+    say(text, ", which ");
+    say_programs(text, labels, users);
+    if (count == 0)
         say(text,
             "nobody has in conflicting use, but with it given no completion order would be left");
-        return 0;
-    }
-    /* Only readers can be several. */
-    say_programs(text, labels, users);
-    if (count > 1)
-        say(text, " read");
+    else if (waits_for_record(waiter))
+        say(text, " has in use");
     else
-        say(text, view->programs[users[0]].write_open & file_set(file) ? " writes" : " reads");
+        say_use(text, &view->programs[users[0]].open, waiter->file, count);
     return count;
 }

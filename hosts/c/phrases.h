@@ -31,16 +31,22 @@ void say_programs(struct text *text, const uint8_t *labels, const uint8_t *progr
 /* `file 2`, or `files 2, 3`. */
 void say_files(struct text *text, uint64_t files);
 
-/* `WRITE files 2, 3 and READ file 4`, with the caller's words; what has no file is left out. */
-void say_uses(struct text *text, const char *write, uint64_t written, const char *read,
-              uint64_t only_read);
+/* `write files 2, 3, read file 4 and inquire into file 5`; a set without files is left out. */
+void say_may(struct text *text, const struct file_sets *files);
 
-/* What a program has open: `writes file 2`, or `has nothing open`. */
+/* What a program has open: `writes file 2 and inquires into file 5`, or `has nothing open`. */
 void say_open(struct text *text, const struct program_view *program);
 
+/* The record that a program has in use: `, has record 17 of file 2`; nothing if it has none. */
+void say_record(struct text *text, const char *before, const struct program_view *program);
+
+/* What a waiting program waits for: `file 2`, or `record 17 of file 2`. */
+void say_awaited(struct text *text, const struct program_view *program);
+
 /*
- * Why a waiting program waits: `waits for file 2, which program 3 writes`. Answers
- * how many have the file in conflicting use; if none, it waits for want of an order.
+ * Why a waiting program waits: `waits for file 2, which program 3 writes`. Answers how
+ * many have the record in use or the file in conflicting use; if none, it waits for want
+ * of an order.
  */
 int say_wait(struct text *text, const uint8_t *labels, const struct board_view *view, int program);
 

@@ -44,7 +44,7 @@ static void show_text(const char *text, size_t len) {
 /* Shows the refusal that an answer tells, one that has no journal line; answers -1. */
 static int show_refusal(const struct session *s, uint64_t answer) {
     char text[EXPLAIN_TEXT_LEN];
-    show_text(text, refusal_text(text, sizeof text, s->number, (int)(0 - answer), 0, 0));
+    show_text(text, refusal_text(text, sizeof text, s->number, (int)(0 - answer)));
     return -1;
 }
 

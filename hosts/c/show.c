@@ -32,13 +32,21 @@ static void write_paragraph(const char *text) {
     putchar('\n');
 }
 
-/* `program 1 runs: writes file 1; may still write files 2, 3` */
+/* The files that a program claims and has not open. */
+static struct file_sets not_open(const struct program_view *program) {
+    struct file_sets left = program->claims;
+    left.write &= ~program->open.write;
+    left.read &= ~program->open.read;
+    left.inquiry &= ~program->open.inquiry;
+    return left;
+}
+
+/* `program 1 runs: inquires into file 1; has record 17 of file 1; may still write files 2, 3` */
 static void show_admitted(const struct board_view *view) {
     int any = 0;
     for (int p = 1; p <= LOCK_BOARD_PROGRAMS; p++) {
         const struct program_view *program = &view->programs[p];
-        const uint64_t write = program->write_claim & ~program->write_open;
-        const uint64_t read = program->read_claim & ~program->read_open;
+        const struct file_sets left = not_open(program);
         const char *standing = program->standing == LOCK_BOARD_RUNNING ? "runs" : "waits";
         char bytes[PARAGRAPH_LEN];
         struct text text = {bytes, sizeof bytes, 0};
@@ -49,8 +57,9 @@ static void show_admitted(const struct board_view *view) {
         any = 1;
         say(&text, "  program %d %s: ", p, standing);
         say_open(&text, program);
-        say(&text, write || read ? "; may still " : "; may open nothing more");
-        say_uses(&text, "write", write, "read", read);
+        say_record(&text, "; ", program);
+        say(&text, files_of_all(&left) ? "; may still " : "; may open nothing more");
+        say_may(&text, &left);
         write_paragraph(bytes);
     }
     if (!any)
@@ -77,7 +86,7 @@ static void say_loop(struct text *text, const struct board_view *view, const str
     const char *before = "";
     struct board_view given = *view;
     given.programs[p] = with_file_given(&view->programs[p]);
-    say(text, "; with file %d given: ", view->programs[p].awaited);
+    say(text, "; with file %d given: ", view->programs[p].file);
     for (size_t n = 0; n < loop->count; n++) {
         const int i = loop->programs[n], j = loop_next(loop, n);
         const uint64_t files = holds_back_in(&given.programs[i], &given.programs[j]);
@@ -108,12 +117,18 @@ static void show_waiting(const struct board_view *view, const uint8_t *image) {
 /* `Favoured: program 2 (gets file 1 after at most 3 leaves or waiters' cancels)` */
 static void show_favoured(const struct board_view *view) {
     const int leaves = leaves_to_come(view);
-    if (!view->favoured)
-        puts("Favoured: nobody");
-    else
-        printf("Favoured: program %d (gets file %d after at most %d %s)\n", view->favoured,
-               view->programs[view->favoured].awaited, leaves,
-               leaves == 1 ? "leave or waiter's cancel" : "leaves or waiters' cancels");
+    char bytes[PARAGRAPH_LEN];
+    struct text text = {bytes, sizeof bytes, 0};
+    say(&text, "Favoured: ");
+    if (view->favoured) {
+        say(&text, "program %d (gets ", view->favoured);
+        say_awaited(&text, &view->programs[view->favoured]);
+        say(&text, " after at most %d %s)", leaves,
+            leaves == 1 ? "leave or waiter's cancel" : "leaves or waiters' cancels");
+    } else {
+        say(&text, "nobody");
+    }
+    write_paragraph(bytes);
 }
 
 /* `NAME: programs 1, 2`: the programs of a list that ends with 0. */
@@ -173,7 +188,7 @@ static void show_edge(const struct board_view *view, int i, int j, int in_loop) 
     struct text text = {bytes, sizeof bytes, 0};
     if (!files && !in_loop)
         return;
-    say_files(&text, files ? files : file_set(view->programs[i].awaited));
+    say_files(&text, files ? files : file_set(view->programs[i].file));
     printf("    %d -> %d [label=\"%s%s\"%s%s];\n", i, j, bytes, files ? "" : " if given",
            in_loop ? ", color=red" : "", files ? "" : ", style=dashed");
 }
@@ -187,14 +202,35 @@ static void show_edges(const struct board_view *view, const uint8_t *image) {
                 show_edge(view, i, j, steps[i][j]);
 }
 
+/* From a record's user to each who waits for it: `3 -> 2 [label="record 17 of file 2", ..];` */
+static void show_record_waits(const struct board_view *view) {
+    for (int p = 1; p <= LOCK_BOARD_PROGRAMS; p++) {
+        char bytes[PARAGRAPH_LEN];
+        struct text text = {bytes, sizeof bytes, 0};
+        if (!waits_for_record(&view->programs[p]))
+            continue;
+        say_awaited(&text, &view->programs[p]);
+        printf("    %d -> %d [label=\"%s\", style=dotted];\n", user_of_awaited_record(view, p), p,
+               bytes);
+    }
+}
+
 /* The programs: `1 [label="program 1\nruns"];` */
 static void show_nodes(const struct board_view *view) {
     for (int p = 1; p <= LOCK_BOARD_PROGRAMS; p++) {
         const struct program_view *program = &view->programs[p];
-        if (program->standing == LOCK_BOARD_RUNNING)
-            printf("    %d [label=\"program %d\\nruns\"];\n", p, p);
-        else if (program->standing == LOCK_BOARD_WAITING)
-            printf("    %d [label=\"program %d\\nwaits for file %d\"];\n", p, p, program->awaited);
+        char bytes[PARAGRAPH_LEN];
+        struct text text = {bytes, sizeof bytes, 0};
+        if (!is_admitted(program))
+            continue;
+        if (program->standing == LOCK_BOARD_WAITING) {
+            say(&text, "waits for ");
+            say_awaited(&text, program);
+        } else {
+            say(&text, "runs");
+            say_record(&text, ", ", program);
+        }
+        printf("    %d [label=\"program %d\\n%s\"];\n", p, p, bytes);
     }
 }
 
@@ -207,6 +243,7 @@ int show_digraph(const char *path) {
     puts("digraph lock_board {");
     show_nodes(&view);
     show_edges(&view, image);
+    show_record_waits(&view);
     puts("}");
     return shown(not_shown);
 }

@@ -15,7 +15,7 @@ int show_board(const char *path);
 /*
  * Who holds back whom among the admitted programs, and in which files, for Graphviz. Red is a
  * loop of somebody who waits for want of an order, dashed its step that only the awaited file
- * makes.
+ * makes; dotted leads from a record's user to who waits for the record.
  */
 int show_digraph(const char *path);
 

@@ -15,15 +15,18 @@ static const char *const words[] = {
     [LOCK_BOARD_REFUSAL_NOT_RISING] = "The files of a claim do not rise",
     [LOCK_BOARD_REFUSAL_OUT_OF_RANGE] = "The program or file number is out of range",
     [LOCK_BOARD_REFUSAL_NOT_ABSENT] = "The program has already entered",
-    [LOCK_BOARD_REFUSAL_CLAIMS_MEET] = "A file is in both claims",
+    [LOCK_BOARD_REFUSAL_CLAIMS_MEET] = "A file is in two claims",
     [LOCK_BOARD_REFUSAL_IS_ABSENT] = "The program has not entered",
     [LOCK_BOARD_REFUSAL_IS_HELD] = "The program is held at entry",
-    [LOCK_BOARD_REFUSAL_IS_WAITING] = "The program is waiting for a file",
-    [LOCK_BOARD_REFUSAL_NOT_CLAIMED] = "The file is in neither claim",
+    [LOCK_BOARD_REFUSAL_IS_WAITING] = "The program is waiting for a file or a record",
+    [LOCK_BOARD_REFUSAL_NOT_CLAIMED] = "The file is in none of the claims",
     [LOCK_BOARD_REFUSAL_IS_OPEN] = "The program has the file open",
     [LOCK_BOARD_REFUSAL_NOT_OPEN] = "The program does not have the file open",
     [LOCK_BOARD_REFUSAL_BUFFER_SHORT] = "The buffer is shorter than the result",
     [LOCK_BOARD_REFUSAL_IS_RUNNING] = "The program is running",
+    [LOCK_BOARD_REFUSAL_BAD_RECORD] = "The record number is out of range",
+    [LOCK_BOARD_REFUSAL_NO_RECORD] = "The file is not open for inquiry, or no record is in use",
+    [LOCK_BOARD_REFUSAL_HAS_RECORD] = "The program has a record in use",
 };
 
 const char *refusal_words(int refusal) {
@@ -32,16 +35,11 @@ const char *refusal_words(int refusal) {
     return words[refusal];
 }
 
-size_t refusal_text(char *text, size_t text_len, unsigned long line, int refusal, int program,
-                    int file) {
-    char whole[200], about[40] = "";
+size_t refusal_text(char *text, size_t text_len, unsigned long line, int refusal) {
+    char whole[200];
     size_t len;
-    if (file)
-        snprintf(about, sizeof about, " (program %d, file %d)", program, file);
-    else if (program)
-        snprintf(about, sizeof about, " (program %d)", program);
-    snprintf(whole, sizeof whole, "line %lu: refusal %d: %s%s", line, refusal,
-             refusal_words(refusal), about);
+    snprintf(whole, sizeof whole, "line %lu: refusal %d: %s", line, refusal,
+             refusal_words(refusal));
     len = strlen(whole) < text_len ? strlen(whole) : text_len;
     memcpy(text, whole, len);
     return len;

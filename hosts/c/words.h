@@ -8,12 +8,10 @@
 const char *refusal_words(int refusal);
 
 /*
- * What the operator sees of a refused line: writes `line N: refusal R: WORDS
- * (program P, file F)` into the text, cut to text_len bytes, without a byte 0 or
- * 10 at its end, and answers its length. Program and file are left out where 0.
+ * What the operator sees of a refused line: writes `line N: refusal R: WORDS` into the
+ * text, cut to text_len bytes, without a byte 0 or 10 at its end, and answers its length.
  */
-size_t refusal_text(char *text, size_t text_len, unsigned long line, int refusal, int program,
-                    int file);
+size_t refusal_text(char *text, size_t text_len, unsigned long line, int refusal);
 
 /* Lists the refusals on standard output; answers 0, or 1 if that fails. */
 int list_refusals(void);

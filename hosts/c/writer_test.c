@@ -20,7 +20,9 @@
 #define TEXT   4096 /* longer than any line of the files */
 
 struct call {
-    uint64_t verb, program, file, writable, readable;
+    uint64_t verb, program, file, record;
+    uint8_t claims[LOCK_BOARD_CLAIMS_LEN + 1];
+    size_t claims_len;
     uint8_t label[LOCK_BOARD_LABEL_LEN + 1];
     size_t label_len;
 };
@@ -84,16 +86,16 @@ static size_t read_bytes(const char *text, uint8_t *bytes, size_t room) {
     return len;
 }
 
-static uint64_t read_set(char *text) {
-    uint64_t set = 0;
+/* Reads a set of files into bytes that hold 0. */
+static void read_set(char *text, uint8_t *set) {
     if (strcmp(text, "-") == 0)
-        return 0;
+        return;
     for (char *file = strtok(text, ","); file; file = strtok(NULL, ",")) {
-        if (number(file) < 1 || number(file) > LOCK_BOARD_FILES)
+        const uint64_t bit = number(file) - 1;
+        if (bit >= LOCK_BOARD_FILES)
             fail("no file", file);
-        set |= (uint64_t)1 << (number(file) - 1);
+        set[bit / 8] |= (uint8_t)(1 << bit % 8);
     }
-    return set;
 }
 
 static uint64_t read_verb(const char *text) {
@@ -102,7 +104,8 @@ static uint64_t read_verb(const char *text) {
         enum lock_board_verb verb;
     } verbs[] = {{"ENTER", LOCK_BOARD_ENTER}, {"OPEN", LOCK_BOARD_OPEN},
                  {"CLOSE", LOCK_BOARD_CLOSE}, {"DROP", LOCK_BOARD_DROP},
-                 {"LEAVE", LOCK_BOARD_LEAVE}, {"CANCEL", LOCK_BOARD_CANCEL}};
+                 {"LEAVE", LOCK_BOARD_LEAVE}, {"CANCEL", LOCK_BOARD_CANCEL},
+                 {"FETCH", LOCK_BOARD_FETCH}, {"RETURN", LOCK_BOARD_RETURN}};
     for (size_t i = 0; i < sizeof verbs / sizeof *verbs; i++)
         if (strcmp(text, verbs[i].text) == 0)
             return verbs[i].verb;
@@ -110,17 +113,16 @@ static uint64_t read_verb(const char *text) {
     return 0;
 }
 
-/* VERB program file record label V Q J; record and J are not used. */
+/* VERB program file record label V Q J */
 static struct call read_call(char **rest) {
-    struct call call;
+    struct call call = {.claims_len = LOCK_BOARD_CLAIMS_LEN};
     call.verb = read_verb(word(rest));
     call.program = number(word(rest));
     call.file = number(word(rest));
-    word(rest);
+    call.record = number(word(rest));
     call.label_len = read_bytes(word(rest), call.label, sizeof call.label);
-    call.writable = read_set(word(rest));
-    call.readable = read_set(word(rest));
-    word(rest);
+    for (size_t at = 0; at < LOCK_BOARD_CLAIMS_LEN; at += LOCK_BOARD_SET_LEN)
+        read_set(word(rest), call.claims + at);
     return call;
 }
 
@@ -134,8 +136,8 @@ static void compare(const struct call *call, size_t room, uint64_t answer, const
     memset(expected, FILL, sizeof expected);
     memcpy(expected + GUARDS, line, len);
     const uint64_t given =
-        lock_board_write(call->verb, call->program, call->file, call->writable, call->readable,
-                         call->label, call->label_len, found + GUARDS, room);
+        lock_board_write(call->verb, call->program, call->file, call->record, call->claims,
+                         call->claims_len, call->label, call->label_len, found + GUARDS, room);
     if (given != answer) {
         fprintf(stderr, "answer %" PRIu64 ", expected %" PRIu64 "\n", given, answer);
         fail("another answer for the line", (const char *)line);
@@ -180,18 +182,35 @@ static void back_case(char *in, char *out) {
         fail("words are left", out);
 }
 
-/* A call that is refused, by the names of the header. */
-static void refused(uint64_t verb, uint64_t program, uint64_t file, size_t label_len, size_t room,
-                    uint64_t answer) {
-    struct call call = {verb, program, file, 1, 1, "STOCK    ", label_len};
+/* A call that is refused, by the names of the header; its claims meet. */
+static void refused_call(uint64_t verb, uint64_t program, uint64_t file, uint64_t record,
+                         size_t claims_len, size_t label_len, size_t room, uint64_t answer) {
+    struct call call = {verb,       program,     file,     record, {1, [8] = 1, [16] = 1},
+                        claims_len, "STOCK    ", label_len};
     case_number++;
     compare(&call, room, answer, "", 0);
 }
 
-/* What is no verb, labels of other lengths, and several things wrong at once. */
+static void refused(uint64_t verb, uint64_t program, uint64_t file, size_t label_len, size_t room,
+                    uint64_t answer) {
+    refused_call(verb, program, file, 0, LOCK_BOARD_CLAIMS_LEN, label_len, room, answer);
+}
+
+/* A FETCH that is refused; a claims' length is not looked at. */
+static void refused_fetch(uint64_t program, uint64_t file, uint64_t record, size_t room,
+                          uint64_t answer) {
+    refused_call(LOCK_BOARD_FETCH, program, file, record, 0, 0, room, answer);
+}
+
+/* An ENTER with claims of another length. */
+static void refused_claims(size_t claims_len) {
+    refused_call(LOCK_BOARD_ENTER, 1, 0, 0, claims_len, 0, 0, LOCK_BOARD_OUT_OF_RANGE);
+}
+
+/* What is no verb, labels and claims of other lengths, and several things wrong at once. */
 static void edges(void) {
     refused(0, 0, 0, 0, 0, LOCK_BOARD_NO_VERB);
-    refused(LOCK_BOARD_CANCEL + 1, 33, 65, 0, 0, LOCK_BOARD_NO_VERB);
+    refused(LOCK_BOARD_RETURN + 1, 33, 65, 0, 0, LOCK_BOARD_NO_VERB);
     refused(UINT64_MAX, 1, 1, LOCK_BOARD_LABEL_LEN, TEXT, LOCK_BOARD_NO_VERB);
     refused(LOCK_BOARD_ENTER, 0, 1, 0, 0, LOCK_BOARD_OUT_OF_RANGE);
     refused(LOCK_BOARD_DROP, LOCK_BOARD_PROGRAMS, LOCK_BOARD_FILES + 1, 0, 0,
@@ -200,9 +219,20 @@ static void edges(void) {
     refused(LOCK_BOARD_ENTER, 1, 0, 0, TEXT, LOCK_BOARD_BAD_LABEL);
     refused(LOCK_BOARD_ENTER, 1, 0, LOCK_BOARD_LABEL_LEN - 1, TEXT, LOCK_BOARD_BAD_LABEL);
     refused(LOCK_BOARD_ENTER, 1, 0, LOCK_BOARD_LABEL_LEN + 1, 0, LOCK_BOARD_BAD_LABEL);
-    refused(LOCK_BOARD_ENTER, 1, 0, LOCK_BOARD_LABEL_LEN, 28, LOCK_BOARD_BUFFER_SHORT);
+    refused(LOCK_BOARD_ENTER, 1, 0, LOCK_BOARD_LABEL_LEN, 34, LOCK_BOARD_BUFFER_SHORT);
     refused(LOCK_BOARD_LEAVE, 1, 0, 0, 8, LOCK_BOARD_BUFFER_SHORT);
     refused(LOCK_BOARD_CANCEL, 1, 0, 0, 8, LOCK_BOARD_BUFFER_SHORT);
+    refused(LOCK_BOARD_RETURN, 0, 0, 0, 0, LOCK_BOARD_OUT_OF_RANGE);
+    refused(LOCK_BOARD_RETURN, 1, 0, 0, 8, LOCK_BOARD_BUFFER_SHORT);
+    refused_claims(0);
+    refused_claims(LOCK_BOARD_CLAIMS_LEN - 1);
+    refused_claims(LOCK_BOARD_CLAIMS_LEN + 1);
+    refused_fetch(LOCK_BOARD_PROGRAMS + 1, 1, 0, 0, LOCK_BOARD_OUT_OF_RANGE);
+    refused_fetch(1, LOCK_BOARD_FILES + 1, 0, 0, LOCK_BOARD_OUT_OF_RANGE);
+    refused_fetch(1, 1, 0, 0, LOCK_BOARD_BAD_RECORD);
+    refused_fetch(1, 1, LOCK_BOARD_RECORDS + 1, 0, LOCK_BOARD_BAD_RECORD);
+    refused_fetch(1, 1, (uint64_t)1 << 32 | 1, 0, LOCK_BOARD_BAD_RECORD);
+    refused_fetch(1, 1, LOCK_BOARD_RECORDS, 16, LOCK_BOARD_BUFFER_SHORT);
 }
 
 /* The cases of two files. */

@@ -12,6 +12,7 @@
        01  EXPECTED-LINE           PIC X(40).
        01  EXPECTED-LEN            PIC 9(4) COMP-5.
        01  EXPECTED-REACH          PIC 9(10).
+       01  JOURNAL-RECORD          PIC 9(5).
 
        PROCEDURE DIVISION.
        MAIN-PART.
@@ -28,6 +29,9 @@
            PERFORM TEST-LOOP
            PERFORM TEST-IS-LOOP
            PERFORM TEST-PASSED
+           PERFORM TEST-INQUIRY
+           PERFORM TEST-RECORD
+           PERFORM TEST-RETURN
            PERFORM TEST-REFUSALS
            STOP RUN.
 
@@ -51,10 +55,11 @@
            MOVE "STOCK" TO LB-LABEL
            MOVE 3 TO LB-WRITE-COUNT
            MOVE 0 TO LB-READ-COUNT
+           MOVE 0 TO LB-INQUIRY-COUNT
            MOVE 1 TO LB-CLAIMED-FILE (1)
            MOVE 2 TO LB-CLAIMED-FILE (2)
            MOVE 3 TO LB-CLAIMED-FILE (3)
-           MOVE 32 TO LB-REQUEST-LEN
+           MOVE 35 TO LB-REQUEST-LEN
            PERFORM ASK
            IF NOT LB-ADMIT (1) OR NOT LB-RUNNING (1)
                    OR LB-WRITE-CLAIM (1) NOT = 7
@@ -62,13 +67,13 @@
            END-IF
            MOVE 2 TO LB-REQ-PROGRAM
            MOVE 2 TO LB-WRITE-COUNT
-           MOVE 29 TO LB-REQUEST-LEN
+           MOVE 32 TO LB-REQUEST-LEN
            PERFORM ASK
            MOVE 4 TO LB-REQ-PROGRAM
            MOVE 0 TO LB-WRITE-COUNT
            MOVE 1 TO LB-READ-COUNT
            MOVE 32 TO LB-CLAIMED-FILE (1)
-           MOVE 26 TO LB-REQUEST-LEN
+           MOVE 29 TO LB-REQUEST-LEN
            PERFORM ASK
            IF NOT LB-ADMIT (1) OR LB-READ-CLAIM (4) NOT = 2147483648
                PERFORM FAIL
@@ -115,7 +120,8 @@
            MOVE "LISTS" TO LB-LABEL
            MOVE 0 TO LB-WRITE-COUNT
            MOVE 0 TO LB-READ-COUNT
-           MOVE 23 TO LB-REQUEST-LEN
+           MOVE 0 TO LB-INQUIRY-COUNT
+           MOVE 26 TO LB-REQUEST-LEN
            PERFORM ASK
            IF NOT LB-HELD-AT-ENTRY (1) OR NOT LB-HELD (3)
                    OR LB-ENTRY-LINE (1) NOT = 3
@@ -125,7 +131,7 @@
            MOVE 4 TO LB-REQ-PROGRAM
            MOVE 9 TO LB-REQUEST-LEN
            PERFORM ASK
-           IF LB-ANSWER NOT = 16 OR LB-LEAVES NOT = 1
+           IF LB-ANSWER NOT = 21 OR LB-LEAVES NOT = 1
                PERFORM FAIL
            END-IF.
 
@@ -185,17 +191,19 @@
        TEST-WRITE.
            MOVE "written lines" TO TESTED
            IF LENGTH OF LB-REQUEST NOT = LB-REQUEST-ROOM
+                   OR LENGTH OF LB-CALL-CLAIMS NOT = LB-CLAIMS-LEN
                    OR LENGTH OF LB-CALL-LABEL NOT = LB-LABEL-LEN
                PERFORM FAIL
            END-IF
            SET LB-CALL-ENTER TO TRUE
            MOVE 12 TO LB-CALL-PROGRAM
            MOVE "ORDERS" TO LB-CALL-LABEL
-           MOVE 0 TO LB-CALL-WRITABLE LB-CALL-READABLE
-           ADD LB-FILE-BIT (2) LB-FILE-BIT (64) TO LB-CALL-WRITABLE
-           ADD LB-FILE-BIT (1) TO LB-CALL-READABLE
-           MOVE "ENTER  12ORDERS    2  1  2 64  1" TO EXPECTED-LINE
-           MOVE 32 TO EXPECTED-LEN
+           ADD LB-FILE-BIT (2) LB-FILE-BIT (64) GIVING LB-CALL-WRITABLE
+           MOVE LB-FILE-BIT (1) TO LB-CALL-READABLE
+           MOVE LB-FILE-BIT (33) TO LB-CALL-INQUIRABLE
+           MOVE "ENTER  12ORDERS    2  1  1  2 64  1 33"
+               TO EXPECTED-LINE
+           MOVE 38 TO EXPECTED-LEN
            PERFORM WRITE-AND-COMPARE
            SET LB-CALL-OPEN TO TRUE
            MOVE 64 TO LB-CALL-FILE
@@ -208,9 +216,20 @@
            SET LB-CALL-DROP TO TRUE
            MOVE "DROP   12 64" TO EXPECTED-LINE
            PERFORM WRITE-AND-COMPARE
+           SET LB-CALL-FETCH TO TRUE
+           MOVE LB-RECORDS TO LB-CALL-RECORD
+           MOVE "FETCH  12 6465535" TO EXPECTED-LINE
+           MOVE 17 TO EXPECTED-LEN
+           PERFORM WRITE-AND-COMPARE
+           MOVE 1 TO LB-CALL-RECORD
+           MOVE "FETCH  12 64    1" TO EXPECTED-LINE
+           PERFORM WRITE-AND-COMPARE
            SET LB-CALL-LEAVE TO TRUE
            MOVE "LEAVE  12" TO EXPECTED-LINE
            MOVE 9 TO EXPECTED-LEN
+           PERFORM WRITE-AND-COMPARE
+           SET LB-CALL-RETURN TO TRUE
+           MOVE "RETURN 12" TO EXPECTED-LINE
            PERFORM WRITE-AND-COMPARE
            SET LB-CALL-CANCEL TO TRUE
            MOVE "CANCEL 12" TO EXPECTED-LINE
@@ -237,13 +256,39 @@
            IF NOT LB-WRITE-BAD-LABEL
                PERFORM FAIL
            END-IF
-           MOVE 7 TO LB-CALL-VERB
+           MOVE 23 TO LB-CLAIMS-LEN
+           PERFORM ASK-WRITE
+           IF NOT LB-WRITE-OUT-OF-RANGE
+               PERFORM FAIL
+           END-IF
+           MOVE 24 TO LB-CLAIMS-LEN
+           PERFORM TEST-WRITE-RECORD
+           MOVE 9 TO LB-CALL-VERB
            PERFORM ASK-WRITE
            IF NOT LB-WRITE-NO-VERB
                PERFORM FAIL
            END-IF
            COMPUTE LB-REFUSAL = 0 - LB-ANSWER
            IF NOT LB-NO-VERB OR LB-REQUEST NOT = ALL X"FF"
+               PERFORM FAIL
+           END-IF.
+
+      * A FETCH of record 0 and of two whose lower halves are in
+      * range: no half of a number is lost.
+       TEST-WRITE-RECORD.
+           SET LB-CALL-FETCH TO TRUE
+           MOVE 0 TO LB-CALL-RECORD
+           PERFORM FAIL-UNLESS-BAD-RECORD
+           MOVE 65537 TO LB-CALL-RECORD
+           PERFORM FAIL-UNLESS-BAD-RECORD
+           MOVE 4294967297 TO LB-CALL-RECORD
+           PERFORM FAIL-UNLESS-BAD-RECORD.
+
+       FAIL-UNLESS-BAD-RECORD.
+           PERFORM ASK-WRITE
+           COMPUTE LB-REFUSAL = 0 - LB-ANSWER
+           IF NOT LB-WRITE-BAD-RECORD OR NOT LB-BAD-RECORD
+                   OR LB-REQUEST NOT = ALL X"FF"
                PERFORM FAIL
            END-IF.
 
@@ -254,9 +299,9 @@
            SET LB-CALL-CANCEL TO TRUE
            MOVE 2 TO LB-CALL-PROGRAM
            PERFORM ASK-CALL
-           IF LB-ANSWER NOT = 32
-                   OR LB-COLUMNS (1) NOT = "DONE    2  0  0"
-                   OR LB-COLUMNS (2) NOT = "ADMIT   3  0  0"
+           IF LB-ANSWER NOT = 42
+                   OR LB-COLUMNS (1) NOT = "DONE    2  0  0    0"
+                   OR LB-COLUMNS (2) NOT = "ADMIT   3  0  0    0"
                    OR NOT LB-ABSENT (2) OR LB-WRITE-CLAIM (2) NOT = 0
                    OR NOT LB-RUNNING (3) OR LB-FAVOURED NOT = 0
                    OR LB-AT-FAVOURING NOT = 0 OR LB-LEAVES NOT = 0
@@ -282,6 +327,7 @@
            END-IF
            PERFORM ASK-EMPTY
            MOVE "REACH" TO LB-CALL-LABEL
+           MOVE 0 TO LB-CALL-INQUIRABLE
            MOVE 32 TO LB-CALL-PROGRAM
            MOVE LB-FILE-BIT (1) TO LB-CALL-WRITABLE
            MOVE LB-FILE-BIT (64) TO LB-CALL-READABLE
@@ -414,9 +460,9 @@
            END-PERFORM
            MOVE 32 TO LB-CALL-PROGRAM
            PERFORM ASK-CALL
-           IF LB-ANSWER NOT = 32
-                   OR LB-COLUMNS (1) NOT = "HELD   32  0  0"
-                   OR LB-COLUMNS (2) NOT = "FAVOUR  1  1  0"
+           IF LB-ANSWER NOT = 42
+                   OR LB-COLUMNS (1) NOT = "HELD   32  0  0    0"
+                   OR LB-COLUMNS (2) NOT = "FAVOUR  1  1  0    0"
                    OR LB-FAVOURED NOT = 1 OR LB-AT-FAVOURING NOT = 10
                    OR LB-PASSED (1) NOT = 8 OR LB-PASSED (32) NOT = 0
                PERFORM FAIL
@@ -441,17 +487,121 @@
            MOVE 2 TO LB-CALL-PROGRAM
            SET LB-CALL-LEAVE TO TRUE
            PERFORM ASK-CALL
-           IF LB-ANSWER NOT = 48
-                   OR LB-COLUMNS (2) NOT = "GIVEN   1  1  0"
-                   OR LB-COLUMNS (3) NOT = "ADMIT  32  0  0"
+           IF LB-ANSWER NOT = 63
+                   OR LB-COLUMNS (2) NOT = "GIVEN   1  1  0    0"
+                   OR LB-COLUMNS (3) NOT = "ADMIT  32  0  0    0"
                    OR LB-PASSED (1) NOT = 0
+               PERFORM FAIL
+           END-IF.
+
+      * On an empty board 1 and 32 inquire into 64, at the same time.
+       TEST-INQUIRY.
+           MOVE "inquiry" TO TESTED
+           PERFORM ASK-EMPTY
+           SET LB-VERB-ENTER TO TRUE
+           MOVE 1 TO LB-REQ-PROGRAM
+           MOVE "CLERK" TO LB-LABEL
+           MOVE 0 TO LB-WRITE-COUNT
+           MOVE 0 TO LB-READ-COUNT
+           MOVE 1 TO LB-INQUIRY-COUNT
+           MOVE 64 TO LB-CLAIMED-FILE (1)
+           MOVE 29 TO LB-REQUEST-LEN
+           PERFORM ASK
+           IF NOT LB-ADMIT (1) OR LB-INQUIRY-OPEN (1) NOT = 0
+                   OR LB-INQUIRY-CLAIM (1) NOT = LB-FILE-BIT (64)
+               PERFORM FAIL
+           END-IF
+           MOVE "CLERK" TO LB-CALL-LABEL
+           MOVE 0 TO LB-CALL-WRITABLE
+           MOVE LB-FILE-BIT (64) TO LB-CALL-INQUIRABLE
+           MOVE 32 TO LB-CALL-PROGRAM
+           MOVE 64 TO LB-CALL-FILE
+           PERFORM ENTER-AND-OPEN
+           MOVE 1 TO LB-CALL-PROGRAM
+           PERFORM ASK-CALL
+           IF NOT LB-GIVEN (1)
+                   OR LB-INQUIRY-CLAIM (32) NOT = LB-FILE-BIT (64)
+                   OR LB-INQUIRY-OPEN (1) NOT = LB-FILE-BIT (64)
+                   OR LB-INQUIRY-OPEN (32) NOT = LB-FILE-BIT (64)
+                   OR LB-INQUIRY-CLAIM (2) NOT = 0
+               PERFORM FAIL
+           END-IF.
+
+      * 32 has the highest record of 64, and 1 waits for it. The line
+      * for 32 is a written one, that for 1 is made with the items.
+       TEST-RECORD.
+           MOVE "FETCH" TO TESTED
+           SET LB-CALL-FETCH TO TRUE
+           MOVE 32 TO LB-CALL-PROGRAM
+           MOVE LB-RECORDS TO LB-CALL-RECORD
+           PERFORM ASK-CALL
+           IF LB-COLUMNS (1) NOT = "GIVEN  32 64  065535"
+                   OR NOT LB-RUNNING (32)
+                   OR LB-RECORD-IN-USE (32) NOT = 65535
+                   OR LB-AWAITED-RECORD (32) NOT = 0
+                   OR LB-AWAITED-FILE (32) NOT = 64
+               PERFORM FAIL
+           END-IF
+           SET LB-VERB-FETCH TO TRUE
+           MOVE 1 TO LB-REQ-PROGRAM
+           MOVE 64 TO LB-REQ-FILE
+           MOVE 65535 TO LB-REQ-RECORD
+           MOVE 17 TO LB-REQUEST-LEN
+           PERFORM ASK
+           MOVE LB-JNL-RECORD (1) TO JOURNAL-RECORD
+           IF NOT LB-WAIT (1) OR JOURNAL-RECORD NOT = 65535
+                   OR NOT LB-WAITING (1)
+                   OR LB-RECORD-IN-USE (1) NOT = 0
+                   OR LB-AWAITED-RECORD (1) NOT = 65535
+                   OR LB-AWAITED-FILE (1) NOT = 64
+               PERFORM FAIL
+           END-IF
+           MOVE 1 TO LB-CALL-PROGRAM
+           PERFORM ASK-LOOP
+           IF LB-ANSWER NOT = 0 OR LB-LOOP-PROGRAM (1) NOT = 255
+               PERFORM FAIL
+           END-IF
+           MOVE 65534 TO LB-AWAITED-RECORD (1)
+           PERFORM ASK-ORDER
+           IF NOT LB-UNSOUND
+               PERFORM FAIL
+           END-IF
+           MOVE 65535 TO LB-AWAITED-RECORD (1).
+
+      * The record goes from 32 to 1, which may then only return it
+      * or leave; 32 has none to return.
+       TEST-RETURN.
+           MOVE "RETURN" TO TESTED
+           SET LB-VERB-RETURN TO TRUE
+           MOVE 32 TO LB-REQ-PROGRAM
+           MOVE 9 TO LB-REQUEST-LEN
+           PERFORM ASK
+           IF LB-ANSWER NOT = 42
+                   OR LB-COLUMNS (1) NOT = "DONE   32  0  0    0"
+                   OR LB-COLUMNS (2) NOT = "GIVEN   1 64  065535"
+                   OR LB-RECORD-IN-USE (32) NOT = 0
+                   OR LB-AWAITED-FILE (32) NOT = 0
+                   OR LB-RECORD-IN-USE (1) NOT = 65535
+                   OR LB-AWAITED-RECORD (1) NOT = 0
+                   OR NOT LB-RUNNING (1) OR LB-WAITING-LINE (1) NOT = 0
+               PERFORM FAIL
+           END-IF
+           PERFORM ASK
+           MOVE LB-JNL-REFUSAL (1) TO LB-REFUSAL
+           IF NOT LB-REFUSE (1) OR NOT LB-NO-RECORD
+               PERFORM FAIL
+           END-IF
+           SET LB-CALL-CLOSE TO TRUE
+           PERFORM ASK-CALL
+           MOVE LB-JNL-REFUSAL (1) TO LB-REFUSAL
+           IF NOT LB-REFUSE (1) OR NOT LB-HAS-RECORD
                PERFORM FAIL
            END-IF.
 
        TEST-REFUSALS.
            MOVE "refusals" TO TESTED
            SET LB-VERB-DROP TO TRUE
-           MOVE 1 TO LB-REQ-PROGRAM
+           MOVE 32 TO LB-REQ-PROGRAM
            MOVE 32 TO LB-REQ-FILE
            MOVE 12 TO LB-REQUEST-LEN
            PERFORM ASK
@@ -527,8 +677,9 @@
                BY VALUE SIZE AUTO LB-CALL-VERB
                BY VALUE SIZE AUTO LB-CALL-PROGRAM
                BY VALUE SIZE AUTO LB-CALL-FILE
-               BY VALUE SIZE AUTO LB-CALL-WRITABLE
-               BY VALUE SIZE AUTO LB-CALL-READABLE
+               BY VALUE SIZE AUTO LB-CALL-RECORD
+               BY REFERENCE LB-CALL-CLAIMS
+               BY VALUE SIZE AUTO LB-CLAIMS-LEN
                BY REFERENCE LB-CALL-LABEL
                BY VALUE SIZE AUTO LB-LABEL-LEN
                BY REFERENCE LB-REQUEST

@@ -21,11 +21,11 @@ pub struct Reply {
 #[derive(Clone, Copy, Debug, PartialEq, Eq)]
 #[non_exhaustive]
 pub enum Error {
-    /// The image has this many bytes and not [`IMAGE_LEN`]; 1,155 are those of an image of version
-    /// 1.4 or before, whose board is to be emptied with that version.
+    /// The image has this many bytes and not [`IMAGE_LEN`]; 1,187 are those of an image of version
+    /// 1.5 or 1.6, 1,155 of one before: its board is to be emptied with that version.
     ImageLength(usize),
     /// Refused with 1 or 2: the board is as it was and nothing was written. Or a
-    /// [`Request`](crate::Request) with 8 or 6: there is no such line. Or
+    /// [`Request`](crate::Request) with 8, 19 or 6: there is no such line. Or
     /// [`loop_for`](Board::loop_for) with 8: there is no such program.
     Refused(Refusal),
     /// The label of an ENTER has this many bytes, more than [`LABEL_LEN`].
@@ -78,8 +78,8 @@ impl Board {
     ///
     /// let mut board = Board::new();
     /// assert_eq!(board.order(), []);
-    /// board.serve(b"ENTER   1STOCK     1  0  3")?;
-    /// board.serve(b"ENTER   2BILLS     1  0  3")?;
+    /// board.serve(b"ENTER   1STOCK     1  0  0  3")?;
+    /// board.serve(b"ENTER   2BILLS     1  0  0  3")?;
     /// board.serve(b"OPEN    2  3")?;
     /// assert_eq!(board.order(), [2, 1]);
     /// # Ok::<(), lock_board::Error>(())
@@ -94,8 +94,9 @@ impl Board {
 
     /// Serves one request line, given without its byte 10.
     ///
-    /// A refusal with 3 to 16 or 18 is a reply too, with one REFUSE line. An error never comes from
-    /// a board that was made by [`new`](Board::new) or [`from_image`](Board::from_image).
+    /// A refusal with 3 to 7, 9 to 16, 18, 20 or 21 is a reply too, with one REFUSE line. An error
+    /// never comes from a board that was made by [`new`](Board::new) or
+    /// [`from_image`](Board::from_image).
     pub fn serve(&mut self, line: &[u8]) -> Result<Reply, Error> {
         let mut journal = vec![0; JOURNAL_ROOM];
         match entry::line(&mut self.image, line, &mut journal, 0) {
@@ -128,15 +129,16 @@ impl Reply {
         self.answer
     }
 
-    /// The lines after the answer: what settling did or, after the HELD of an ENTER, the FAVOUR line
-    /// of a waiter that [`MOST_PASSED`](crate::MOST_PASSED) programs have passed.
+    /// The lines after the answer: who got a record that was returned, and what settling did; or,
+    /// after the HELD of an ENTER, the FAVOUR line of a waiter that
+    /// [`MOST_PASSED`](crate::MOST_PASSED) programs have passed.
     ///
     /// ```
     /// use lock_board::{Board, Word};
     ///
     /// let mut board = Board::new();
-    /// board.serve(b"ENTER   1STOCK     1  0  3")?;
-    /// board.serve(b"ENTER   2BILLS     1  0  3")?;
+    /// board.serve(b"ENTER   1STOCK     1  0  0  3")?;
+    /// board.serve(b"ENTER   2BILLS     1  0  0  3")?;
     /// board.serve(b"OPEN    1  3")?;
     /// assert_eq!(board.serve(b"OPEN    2  3")?.answer().word, Word::Wait);
     /// let reply = board.serve(b"LEAVE   1")?;
@@ -159,7 +161,7 @@ impl Reply {
         self.answer.refusal
     }
 
-    /// Whether the program of an OPEN has to wait.
+    /// Whether the program of an OPEN or a FETCH has to wait.
     pub fn waits(&self) -> bool {
         matches!(self.answer.word, Word::Wait | Word::Unsafe)
     }

@@ -1,5 +1,6 @@
 //! Who holds back whom over paths, and the loops for which files are not given.
 
+use crate::view::low_first;
 use crate::{entry, Board, Error, Refusal, LOOP_ROOM, PROGRAMS, REACH_LEN};
 
 /// Which admitted program reaches which: the matrix of who holds back whom, closed over paths.
@@ -38,9 +39,9 @@ impl Board {
     /// use lock_board::Board;
     ///
     /// let mut board = Board::new();
-    /// board.serve(b"ENTER   1STOCK     2  0  1  2")?;
-    /// board.serve(b"ENTER   2BILLS     2  0  2  3")?;
-    /// board.serve(b"ENTER   3LISTS     0  1  3")?;
+    /// board.serve(b"ENTER   1STOCK     2  0  0  1  2")?;
+    /// board.serve(b"ENTER   2BILLS     2  0  0  2  3")?;
+    /// board.serve(b"ENTER   3LISTS     0  1  0  3")?;
     /// board.serve(b"OPEN    1  2")?;
     /// board.serve(b"OPEN    2  3")?;
     /// let reach = board.reach();
@@ -56,7 +57,7 @@ impl Board {
         assert_eq!(answer, REACH_LEN as u64, "a sound board has a matrix");
         let mut rows = [0; PROGRAMS];
         for (row, four) in rows.iter_mut().zip(bytes.chunks_exact(4)) {
-            *row = four.iter().rfold(0, |row, &b| row << 8 | u32::from(b));
+            *row = low_first(four) as u32;
         }
         Reach { rows }
     }
@@ -64,14 +65,14 @@ impl Board {
     /// A loop for which a waiting program does not get its file: two or more different programs, of
     /// which with the file given each would hold back the next, and the last the first. After an
     /// UNSAFE it says why. Which loop it is, and where it begins, is free. Empty if the program does
-    /// not wait; refused with 8 if the number is not 1 to 32.
+    /// not wait for a file; refused with 8 if the number is not 1 to 32.
     ///
     /// ```
     /// use lock_board::{Board, Word};
     ///
     /// let mut board = Board::new();
-    /// board.serve(b"ENTER   1STOCK     2  0  1  2")?;
-    /// board.serve(b"ENTER   2BILLS     2  0  1  2")?;
+    /// board.serve(b"ENTER   1STOCK     2  0  0  1  2")?;
+    /// board.serve(b"ENTER   2BILLS     2  0  0  1  2")?;
     /// board.serve(b"OPEN    1  1")?;
     /// assert_eq!(board.serve(b"OPEN    2  2")?.answer().word, Word::Unsafe);
     /// let mut list = board.loop_for(2)?;
@@ -97,14 +98,14 @@ impl Board {
     }
 
     /// Whether a list is such a loop, if this file is given to this program. No list is one if the
-    /// program is not admitted or the file is in neither claim of it.
+    /// program is not admitted or the file is in no claim of it.
     ///
     /// ```
     /// use lock_board::Board;
     ///
     /// let mut board = Board::new();
-    /// board.serve(b"ENTER   1STOCK     2  0  1  2")?;
-    /// board.serve(b"ENTER   2BILLS     2  0  1  2")?;
+    /// board.serve(b"ENTER   1STOCK     2  0  0  1  2")?;
+    /// board.serve(b"ENTER   2BILLS     2  0  0  1  2")?;
     /// board.serve(b"OPEN    1  1")?;
     /// assert!(board.is_loop(2, 2, &[1, 2]) && board.is_loop(2, 2, &[2, 1]));
     /// assert!(!board.is_loop(2, 2, &[2]) && !board.is_loop(1, 2, &[1, 2]));

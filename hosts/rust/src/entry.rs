@@ -21,6 +21,9 @@ pub const OUT_OF_RANGE: u64 = u64::MAX - 7;
 /// The answer for refusal 17.
 pub const BUFFER_SHORT: u64 = u64::MAX - 16;
 
+/// The answer for refusal 19.
+pub const BAD_RECORD: u64 = u64::MAX - 18;
+
 mod c {
     extern "C" {
         pub fn lock_board_empty(image: *mut u8, image_len: usize) -> u64;
@@ -43,8 +46,9 @@ mod c {
             verb: u64,
             program: u64,
             file: u64,
-            writable: u64,
-            readable: u64,
+            record: u64,
+            claims: *const u8,
+            claims_len: usize,
             label: *const u8,
             label_len: usize,
             line: *mut u8,
@@ -95,8 +99,8 @@ pub fn empty(image: &mut [u8]) -> u64 {
 ///
 /// let (mut image, mut journal) = ([0; IMAGE_LEN], [0; JOURNAL_ROOM]);
 /// entry::empty(&mut image);
-/// assert_eq!(entry::line(&mut image, b"LEAVE   1", &mut journal, 0), 16);
-/// assert_eq!(&journal[..16], b"REFUSE  1  0 11\n");
+/// assert_eq!(entry::line(&mut image, b"LEAVE   1", &mut journal, 0), 21);
+/// assert_eq!(&journal[..21], b"REFUSE  1  0 11    0\n");
 /// assert_eq!(entry::line(&mut image, b"LEAVE   1", &mut journal, 1), entry::JOURNAL_FULL);
 /// ```
 pub fn line(image: &mut [u8], line: &[u8], journal: &mut [u8], place: u64) -> u64 {
@@ -123,7 +127,7 @@ pub fn line(image: &mut [u8], line: &[u8], journal: &mut [u8], place: u64) -> u6
 ///
 /// let (mut image, mut journal) = ([0; IMAGE_LEN], [0; JOURNAL_ROOM]);
 /// entry::empty(&mut image);
-/// entry::line(&mut image, b"ENTER   7LISTS     0  0", &mut journal, 0);
+/// entry::line(&mut image, b"ENTER   7LISTS     0  0  0", &mut journal, 0);
 /// let mut order = [0; PROGRAMS];
 /// assert_eq!(entry::order(&image, &mut order), 1);
 /// assert_eq!(order[..2], [7, 0]);
@@ -136,37 +140,44 @@ pub fn order(image: &[u8], order: &mut [u8]) -> u64 {
 }
 
 /// Writes the request line of a call, from the buffer's start on and without a byte 10, and answers
-/// its length, [`NO_VERB`], [`OUT_OF_RANGE`], [`BAD_LABEL`] or [`BUFFER_SHORT`]. The verbs are
-/// those of [`Verb::number`](crate::Verb::number); in the two sets file 1 is the lowest bit. What a
-/// verb does not use is not looked at. [`Request`](crate::Request) is easier to use.
+/// its length, [`NO_VERB`], [`OUT_OF_RANGE`], [`BAD_RECORD`], [`BAD_LABEL`] or [`BUFFER_SHORT`].
+/// The verbs are those of [`Verb::number`](crate::Verb::number). The claims have
+/// [`CLAIMS_LEN`](crate::CLAIMS_LEN) bytes: the sets of files to write, to read and to inquire into,
+/// each with its lowest byte first and file 1 the lowest bit; of another length they are out of
+/// range. What a verb does not use is not looked at. [`Request`](crate::Request) is easier to use.
 ///
 /// ```
-/// use lock_board::{entry, Verb, LONGEST_LINE};
+/// use lock_board::{entry, Verb, CLAIMS_LEN, LONGEST_LINE, SET_LEN};
 ///
 /// let mut line = [0; LONGEST_LINE];
-/// assert_eq!(entry::write(Verb::Enter.number(), 2, 0, 2, 1, b"ORDERS  ", &mut line), 29);
-/// assert_eq!(&line[..30], b"ENTER   2ORDERS    1  1  2  1\0");
-/// assert_eq!(entry::write(Verb::Leave.number(), 2, 0, 0, 0, b"", &mut line[..8]), entry::BUFFER_SHORT);
-/// assert_eq!(entry::write(7, 2, 0, 0, 0, b"", &mut line), entry::NO_VERB);
+/// let mut claims = [0; CLAIMS_LEN];
+/// claims[0] = 0b10; // file 2, to write
+/// claims[SET_LEN] = 0b1; // file 1, to read
+/// assert_eq!(entry::write(Verb::Enter.number(), 2, 0, 0, &claims, b"ORDERS  ", &mut line), 32);
+/// assert_eq!(&line[..33], b"ENTER   2ORDERS    1  1  0  2  1\0");
+/// let leave = Verb::Leave.number();
+/// assert_eq!(entry::write(leave, 2, 0, 0, b"", b"", &mut line[..8]), entry::BUFFER_SHORT);
+/// assert_eq!(entry::write(9, 2, 0, 0, b"", b"", &mut line), entry::NO_VERB);
 /// ```
 pub fn write(
     verb: u64,
     program: u64,
     file: u64,
-    writable: u64,
-    readable: u64,
+    record: u64,
+    claims: &[u8],
     label: &[u8],
     line: &mut [u8],
 ) -> u64 {
     // SAFETY: the slices give pointers that are not null and their own lengths; `line` is
-    // borrowed for this call alone, so the two do not overlap.
+    // borrowed for this call alone, so it overlaps neither of the others, which are only read.
     unsafe {
         c::lock_board_write(
             verb,
             program,
             file,
-            writable,
-            readable,
+            record,
+            claims.as_ptr(),
+            claims.len(),
             label.as_ptr(),
             label.len(),
             line.as_mut_ptr(),
@@ -185,8 +196,8 @@ pub fn write(
 /// use lock_board::{entry, Board, REACH_LEN};
 ///
 /// let mut board = Board::new();
-/// board.serve(b"ENTER   1STOCK     1  0  3")?;
-/// board.serve(b"ENTER   2BILLS     1  0  3")?;
+/// board.serve(b"ENTER   1STOCK     1  0  0  3")?;
+/// board.serve(b"ENTER   2BILLS     1  0  0  3")?;
 /// board.serve(b"OPEN    2  3")?;
 /// let mut rows = [0; REACH_LEN];
 /// assert_eq!(entry::reach(board.image(), &mut rows), 128);
@@ -201,7 +212,7 @@ pub fn reach(image: &[u8], rows: &mut [u8]) -> u64 {
 }
 
 /// Writes a loop of a waiting program, a byte for each program in it, from the buffer's start on
-/// and answers how many; 0 if the program does not wait; [`UNSOUND`], [`OUT_OF_RANGE`] or
+/// and answers how many; 0 if the program does not wait for a file; [`UNSOUND`], [`OUT_OF_RANGE`] or
 /// [`BUFFER_SHORT`], if the buffer has not [`LOOP_ROOM`](crate::LOOP_ROOM) bytes.
 /// [`Board::loop_for`](crate::Board::loop_for) says what a loop is.
 ///

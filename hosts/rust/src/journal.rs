@@ -1,4 +1,14 @@
 use crate::{Refusal, JOURNAL_LINE};
+use std::str::FromStr;
+
+/// Where the numbers of a line begin, after its word, and where it ends with byte 10.
+const JOURNAL_PROGRAM: usize = 6;
+const JOURNAL_FILE: usize = JOURNAL_PROGRAM + 3;
+const JOURNAL_REFUSAL: usize = JOURNAL_FILE + 3;
+const JOURNAL_RECORD: usize = JOURNAL_REFUSAL + 3;
+const JOURNAL_END: usize = JOURNAL_RECORD + 5;
+
+const _: () = assert!(JOURNAL_END + 1 == JOURNAL_LINE);
 
 /// The word of a journal line. `docs/REFUSALS.md` says what comes after each.
 #[derive(Clone, Copy, Debug, PartialEq, Eq, Hash)]
@@ -7,13 +17,13 @@ pub enum Word {
     Admit,
     /// The program is held at entry.
     Held,
-    /// The program has the file open.
+    /// The program has the file open, or the record in use.
     Given,
-    /// The program waits: another has the file in conflicting use.
+    /// The program waits: another has the file in conflicting use, or the record in use.
     Wait,
     /// The program waits: with the file given there would be no completion order.
     Unsafe,
-    /// The close, drop, leave or cancel is done.
+    /// The close, drop, return, leave or cancel is done.
     Done,
     /// The waiting program is favoured.
     Favour,
@@ -23,7 +33,7 @@ pub enum Word {
 
 impl Word {
     /// The word in its six columns.
-    pub const fn columns(self) -> &'static [u8; 6] {
+    pub const fn columns(self) -> &'static [u8; JOURNAL_PROGRAM] {
         match self {
             Word::Admit => b"ADMIT ",
             Word::Held => b"HELD  ",
@@ -54,6 +64,8 @@ pub struct Line {
     pub file: u8,
     /// Why the request was refused; none for other words than REFUSE.
     pub refusal: Option<Refusal>,
+    /// The record, 1 to 65,535, or 0 where there is none.
+    pub record: u16,
 }
 
 impl Line {
@@ -62,32 +74,33 @@ impl Line {
     /// ```
     /// use lock_board::{Line, Refusal, Word};
     ///
-    /// let line = Line::read(b"REFUSE  2  0 13\n").unwrap();
-    /// assert_eq!((line.word, line.program, line.file), (Word::Refuse, 2, 0));
-    /// assert_eq!(line.refusal, Some(Refusal::IsWaiting));
-    /// assert_eq!(Line::read(b"REFUSE  2  0 17\n"), None);
+    /// let line = Line::read(b"REFUSE  2  4 13  365\n").unwrap();
+    /// assert_eq!((line.word, line.program, line.file), (Word::Refuse, 2, 4));
+    /// assert_eq!((line.refusal, line.record), (Some(Refusal::IsWaiting), 365));
+    /// assert_eq!(Line::read(b"REFUSE  2  0 17    0\n"), None);
     /// ```
     pub fn read(bytes: &[u8; JOURNAL_LINE]) -> Option<Line> {
-        let refusal = match number(&bytes[12..15])? {
+        let refusal = match number(&bytes[JOURNAL_REFUSAL..JOURNAL_RECORD])? {
             0 => None,
-            n @ (3..=16 | 18) => Some(Refusal::from_number(n)?),
+            n @ (3..=7 | 9..=16 | 18 | 20 | 21) => Some(Refusal::from_number(n)?),
             _ => return None, // the others come in no line
         };
-        let word = Word::read(&bytes[..6])?;
-        if bytes[15] != b'\n' || (word == Word::Refuse) != refusal.is_some() {
+        let word = Word::read(&bytes[..JOURNAL_PROGRAM])?;
+        if bytes[JOURNAL_END] != b'\n' || (word == Word::Refuse) != refusal.is_some() {
             return None;
         }
         Some(Line {
             word,
-            program: number(&bytes[6..9])?,
-            file: number(&bytes[9..12])?,
+            program: number(&bytes[JOURNAL_PROGRAM..JOURNAL_FILE])?,
+            file: number(&bytes[JOURNAL_FILE..JOURNAL_REFUSAL])?,
             refusal,
+            record: number(&bytes[JOURNAL_RECORD..JOURNAL_END])?,
         })
     }
 }
 
 /// A decimal number, right-justified in its columns, blanks before and no leading zero.
-fn number(columns: &[u8]) -> Option<u8> {
+fn number<T: FromStr>(columns: &[u8]) -> Option<T> {
     let text = std::str::from_utf8(columns).ok()?.trim_start_matches(' ');
     let in_form =
         text.bytes().all(|b| b.is_ascii_digit()) && (text == "0" || !text.starts_with('0'));

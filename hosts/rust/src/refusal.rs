@@ -6,9 +6,9 @@ use std::fmt;
 #[repr(u8)]
 #[non_exhaustive]
 pub enum Refusal {
-    /// The board is not sound, or the image is not 1,187 bytes or not of its layout.
+    /// The board is not sound, or the image is not 1,827 bytes or not of its layout.
     NotSound = 1,
-    /// The place is above 1,000,000,000, or place + 512 is above the journal's length.
+    /// The place is above 1,000,000,000, or place + 672 is above the journal's length.
     JournalFull,
     /// The line has under 6 bytes, or columns 1–6 are no verb; or a line of no verb is to be written.
     NoVerb,
@@ -24,7 +24,7 @@ pub enum Refusal {
     OutOfRange,
     /// The program that asks to enter is not absent.
     NotAbsent,
-    /// The write claim and the read claim have a file in common.
+    /// Two of the claims have a file in common.
     ClaimsMeet,
     /// The program is absent.
     IsAbsent,
@@ -32,7 +32,7 @@ pub enum Refusal {
     IsHeld,
     /// The program is waiting.
     IsWaiting,
-    /// The file is in neither claim.
+    /// The file is in none of the claims.
     NotClaimed,
     /// The file is open by the program.
     IsOpen,
@@ -43,11 +43,17 @@ pub enum Refusal {
     BufferShort,
     /// The program that is to be cancelled is running.
     IsRunning,
+    /// The record is not 1 to 65,535. No request line meets this.
+    BadRecord,
+    /// The file is not open for inquiry by the program, or no record is in use by it.
+    NoRecord,
+    /// The program has a record in use, and asks for something else than to return it or to leave.
+    HasRecord,
 }
 
 impl Refusal {
     /// All refusals, by number.
-    pub const ALL: [Refusal; 18] = [
+    pub const ALL: [Refusal; 21] = [
         Refusal::NotSound,
         Refusal::JournalFull,
         Refusal::NoVerb,
@@ -66,15 +72,18 @@ impl Refusal {
         Refusal::NotOpen,
         Refusal::BufferShort,
         Refusal::IsRunning,
+        Refusal::BadRecord,
+        Refusal::NoRecord,
+        Refusal::HasRecord,
     ];
 
-    /// The refusal with this number, 1 to 18.
+    /// The refusal with this number, 1 to 21.
     pub fn from_number(number: u8) -> Option<Refusal> {
         let place = usize::from(number).checked_sub(1)?;
         Self::ALL.get(place).copied()
     }
 
-    /// The refusal's number, 1 to 18.
+    /// The refusal's number, 1 to 21.
     pub const fn number(self) -> u8 {
         self as u8
     }
@@ -91,15 +100,18 @@ impl Refusal {
             Refusal::NotRising => "The files of a claim do not rise",
             Refusal::OutOfRange => "The program or file number is out of range",
             Refusal::NotAbsent => "The program has already entered",
-            Refusal::ClaimsMeet => "A file is in both claims",
+            Refusal::ClaimsMeet => "A file is in two claims",
             Refusal::IsAbsent => "The program has not entered",
             Refusal::IsHeld => "The program is held at entry",
-            Refusal::IsWaiting => "The program is waiting for a file",
-            Refusal::NotClaimed => "The file is in neither claim",
+            Refusal::IsWaiting => "The program is waiting for a file or a record",
+            Refusal::NotClaimed => "The file is in none of the claims",
             Refusal::IsOpen => "The program has the file open",
             Refusal::NotOpen => "The program does not have the file open",
             Refusal::BufferShort => "The buffer is shorter than the result",
             Refusal::IsRunning => "The program is running",
+            Refusal::BadRecord => "The record number is out of range",
+            Refusal::NoRecord => "The file is not open for inquiry, or no record is in use",
+            Refusal::HasRecord => "The program has a record in use",
         }
     }
 }

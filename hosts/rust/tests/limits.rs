@@ -533,7 +533,7 @@ fn every_question_has_its_answer() {
 
 /// The messages for a line, which is asked about a board on which program 1 runs.
 fn messages_for(line: &str) -> Vec<String> {
-    let text = format!("After |ENTER   1LABEL     0  0|:\n{line}\n");
+    let text = format!("After |ENTER   1LABEL     0  0  0|:\n{line}\n");
     let mut messages = failures(&text);
     messages.retain(|message| message.starts_with(&format!("limits.txt:2: {line}\n")));
     messages
@@ -544,27 +544,30 @@ fn messages_for(line: &str) -> Vec<String> {
 fn a_wrong_line_fails() {
     let (less, more, room) = (IMAGE - 1, IMAGE + 1, ROOM - 1);
     let wrong = [
-        "|LEAVE   1| 9 bytes: DONE    1  0  0; place 32; standing of 1 = absent",
-        "|LEAVE   1| 9 bytes: DONE    1  1  0; place 16; standing of 1 = absent",
-        "|LEAVE   1| 9 bytes: DONE    1  0  0; place 16; awaited file of 1 = 1",
-        "|LEAVE   1| 9 bytes: DONE    1  0  0; place 16; standing of 1 = absent, leaves = 1",
-        "|LEAVE   1| 9 bytes: DONE    1  0  0; place 16; standing of 2 = absent",
-        "|LEAVE   1| 9 bytes: DONE    1  0  0; place 16; standing of 1 = held",
-        "|LEAVE   1| 9 bytes: DONE    1  0  0; place 16; standing of 1 = running",
-        "|LEAVE   1| 9 bytes: DONE    1  0  0; place 16; V of 1 = {}, standing of 1 = absent",
-        "|LEAVE   1| 9 bytes: DONE    1  0  0; place 16",
-        "|LEAVE   1| 9 bytes: REFUSE  1  0 11; place 16",
-        "|LEAVE   1| 9 bytes: nothing; place 16",
-        "|LEAVE   1| 9 bytes: DONE    1  0  0; standing of 1 = absent",
-        "|LEAVE   1| 9 bytes: DONE  1  0  0; place 16; standing of 1 = absent",
-        "|LEAVE   1| 10 bytes: DONE    1  0  0; place 16; standing of 1 = absent",
-        "LEAVE   1: DONE    1  0  0; place 16; standing of 1 = absent",
-        "|LEAVE   2| 9 bytes: REFUSE  2  0 11; place 16; standing of 1 = absent",
+        "|LEAVE   1| 9 bytes: DONE    1  0  0    0; place 42; standing of 1 = absent",
+        "|LEAVE   1| 9 bytes: DONE    1  1  0    0; place 21; standing of 1 = absent",
+        "|LEAVE   1| 9 bytes: DONE    1  0  0    1; place 21; standing of 1 = absent",
+        "|LEAVE   1| 9 bytes: DONE    1  0  0; place 21; standing of 1 = absent",
+        "|LEAVE   1| 9 bytes: DONE    1  0  0    0; place 21; awaited file of 1 = 1",
+        "|LEAVE   1| 9 bytes: DONE    1  0  0    0; place 21; standing of 1 = absent, record in use of 1 = 1",
+        "|LEAVE   1| 9 bytes: DONE    1  0  0    0; place 21; standing of 1 = absent, leaves = 1",
+        "|LEAVE   1| 9 bytes: DONE    1  0  0    0; place 21; standing of 2 = absent",
+        "|LEAVE   1| 9 bytes: DONE    1  0  0    0; place 21; standing of 1 = held",
+        "|LEAVE   1| 9 bytes: DONE    1  0  0    0; place 21; standing of 1 = running",
+        "|LEAVE   1| 9 bytes: DONE    1  0  0    0; place 21; V of 1 = {}, standing of 1 = absent",
+        "|LEAVE   1| 9 bytes: DONE    1  0  0    0; place 21",
+        "|LEAVE   1| 9 bytes: REFUSE  1  0 11    0; place 21",
+        "|LEAVE   1| 9 bytes: nothing; place 21",
+        "|LEAVE   1| 9 bytes: DONE    1  0  0    0; standing of 1 = absent",
+        "|LEAVE   1| 9 bytes: DONE  1  0  0    0; place 21; standing of 1 = absent",
+        "|LEAVE   1| 10 bytes: DONE    1  0  0    0; place 21; standing of 1 = absent",
+        "LEAVE   1: DONE    1  0  0    0; place 21; standing of 1 = absent",
+        "|LEAVE   2| 9 bytes: REFUSE  2  0 11    0; place 21; standing of 1 = absent",
         &format!("journal of {room} bytes, place 0: |LEAVE   1| 9 bytes: nothing; refusal 1"),
         &format!("journal of {room} bytes: |LEAVE   1| 9 bytes: nothing; refusal 2"),
         "standing of 1 = 4: |LEAVE   1| 9 bytes: nothing; refusal 1",
-        "standing of 1 = running (runs): |LEAVE   1| 9 bytes: DONE    1  0  0; place 16; standing of 1 = absent",
-        "standing of 1 = 4 (words): |LEAVE   1| 9 bytes: DONE    1  0  0; place 16; standing of 1 = absent",
+        "standing of 1 = running (runs): |LEAVE   1| 9 bytes: DONE    1  0  0    0; place 21; standing of 1 = absent",
+        "standing of 1 = 4 (words): |LEAVE   1| 9 bytes: DONE    1  0  0    0; place 21; standing of 1 = absent",
         &format!("image of {more} bytes: |LEAVE   1| 9 bytes: nothing; refusal 2"),
         "image of 0 bytes; leaves = 1 (words): |LEAVE   1| 9 bytes: nothing; refusal 1",
         &format!("lock_board_empty of {less} bytes: the empty board; place 0"),
@@ -629,6 +632,13 @@ fn a_field_that_cannot_be_read_is_told() {
             "V of 1: the files of {3 to 2} do not rise",
         ),
         ("V of 1 = {1,}", "V of 1: '' is no number"),
+        ("J of 1 = {65}", "J of 1: files are 1 to 64, not 65"),
+        ("I = {1}", "'I': of which program?"),
+        (
+            "record in use of 1 = 65536",
+            "record in use of 1: 65536 does not fit into 16 bits",
+        ),
+        ("record of 1 = 1", "the image has no field 'record'"),
         (
             "entry line = 2",
             "entry line: '2' does not stand between [ and ]",

@@ -1,8 +1,11 @@
 //! The wrapper: what it gives back, and what it makes of bad images.
 
-use lock_board::{entry, Board, Error, Line, Refusal, Reply, Request, Standing, Word};
+use lock_board::{
+    entry, Board, Error, Line, Record, Refusal, Reply, Request, Standing, Verb, Word,
+};
+use lock_board::{CLAIMS_LEN, FILES, LABEL_LEN, LOOP_ROOM, MOST_PASSED, PROGRAMS, REACH_LEN};
 use lock_board::{CUT_LINE, HIGHEST_PLACE, IMAGE_LEN, JOURNAL_LINE, JOURNAL_ROOM, LONGEST_LINE};
-use lock_board::{FILES, LABEL_LEN, LOOP_ROOM, MOST_PASSED, PROGRAMS, REACH_LEN};
+use lock_board::{RECORDS, SET_LEN};
 
 #[allow(dead_code)] // this program needs some of it
 #[path = "model/fields.rs"]
@@ -23,6 +26,9 @@ fn limits_are_those_of_the_documents() {
         ("LABEL_LEN", LABEL_LEN, layout::line::LABEL.len()),
         ("PROGRAMS", PROGRAMS, layout::PROGRAMS),
         ("FILES", FILES, layout::FILES),
+        ("RECORDS", RECORDS, layout::RECORDS),
+        ("SET_LEN", SET_LEN, layout::image::SET),
+        ("CLAIMS_LEN", CLAIMS_LEN, 3 * layout::image::SET),
         ("MOST_PASSED", MOST_PASSED.into(), layout::MOST_PASSES),
     ] {
         assert_eq!(limit, documents, "{name}");
@@ -54,19 +60,28 @@ fn line(word: Word, program: u8, file: u8) -> Line {
         program,
         file,
         refusal: None,
+        record: 0,
+    }
+}
+
+/// A line about record 365 of file 4.
+fn record_line(word: Word, program: u8) -> Line {
+    Line {
+        record: 365,
+        ..line(word, program, 4)
     }
 }
 
 /// Program 1 runs, 2 waits for file 2 and is favoured, 3 is held.
 fn favoured_and_held() -> Board {
     board_after(&[
-        "ENTER   1STOCK     3  0  1  2  3",
-        "ENTER   2BILLS     2  0  1  2",
+        "ENTER   1STOCK     3  0  0  1  2  3",
+        "ENTER   2BILLS     2  0  0  1  2",
         "OPEN    1  1",
         "OPEN    1  3",
         "OPEN    2  2",
         "CLOSE   1  3",
-        "ENTER   3LISTS     0  1  2",
+        "ENTER   3LISTS     0  1  0  2",
     ])
 }
 
@@ -77,8 +92,10 @@ fn cancelled(board: &mut Board, program: u8) -> Vec<Line> {
     assert_eq!(reply.answer(), line(Word::Done, program, 0));
     let gone = board.program(program).unwrap();
     assert_eq!(gone.standing, Standing::Absent);
-    let sets = [gone.write_claim, gone.read_claim, gone.write_open];
-    assert!(sets.iter().all(|set| set.is_empty()) && gone.read_open.is_empty());
+    let claims = [gone.write_claim, gone.read_claim, gone.inquiry_claim];
+    let open = [gone.write_open, gone.read_open, gone.inquiry_open];
+    assert!(claims.iter().chain(&open).all(|set| set.is_empty()));
+    assert_eq!((gone.record_in_use, gone.awaited_record), (None, None));
     reply.settled().to_vec()
 }
 
@@ -95,8 +112,8 @@ fn refusal_of(board: &mut Board, request: &[u8]) -> u8 {
 #[test]
 fn answer_and_settling_are_typed() {
     let mut board = board_after(&[
-        "ENTER   1STOCK     3  0  1  2  3",
-        "ENTER   2BILLS     2  0  1  2",
+        "ENTER   1STOCK     3  0  0  1  2  3",
+        "ENTER   2BILLS     2  0  0  1  2",
         "OPEN    1  1",
         "OPEN    1  3",
     ]);
@@ -106,22 +123,22 @@ fn answer_and_settling_are_typed() {
     let close = board.serve(b"CLOSE   1  3").unwrap();
     assert_eq!(close.answer(), line(Word::Done, 1, 3));
     assert_eq!(close.settled(), [line(Word::Favour, 2, 2)]);
-    let enter = board.serve(b"ENTER   3LISTS     0  1  2").unwrap();
+    let enter = board.serve(b"ENTER   3LISTS     0  1  0  2").unwrap();
     assert_eq!(enter.answer(), line(Word::Held, 3, 0));
     assert!(!enter.waits());
     let leave = board.serve(b"LEAVE   1").unwrap();
     let settled = [line(Word::Given, 2, 2), line(Word::Admit, 3, 0)];
     assert_eq!(leave.settled(), settled);
     assert_eq!(leave.lines().collect::<Vec<_>>()[1..], settled);
-    let bytes = b"DONE    1  0  0\nGIVEN   2  2  0\nADMIT   3  0  0\n";
+    let bytes = b"DONE    1  0  0    0\nGIVEN   2  2  0    0\nADMIT   3  0  0    0\n";
     assert_eq!(leave.journal(), bytes);
 }
 
 #[test]
 fn wait_is_typed() {
     let mut board = board_after(&[
-        "ENTER   1STOCK     1  0 64",
-        "ENTER   2BILLS     0  1 64",
+        "ENTER   1STOCK     1  0  0 64",
+        "ENTER   2BILLS     0  1  0 64",
         "OPEN    1 64",
     ]);
     let reply = board.serve(b"OPEN    2 64").unwrap();
@@ -132,9 +149,9 @@ fn wait_is_typed() {
 /// 31 readers, all admitted before one waits, wait for the file of program 1; its leave gives it
 /// to all of them.
 fn fullest_reply() -> Reply {
-    let mut board = board_after(&["ENTER   1WRITER    1  0  1", "OPEN    1  1"]);
+    let mut board = board_after(&["ENTER   1WRITER    1  0  0  1", "OPEN    1  1"]);
     for program in 2..=PROGRAMS {
-        let enter = format!("ENTER {program:3}READER    0  1  1");
+        let enter = format!("ENTER {program:3}READER    0  1  0  1");
         let admitted = board.serve(enter.as_bytes());
         assert_eq!(admitted.unwrap().answer().word, Word::Admit);
     }
@@ -184,15 +201,30 @@ fn refusals_of_the_line() {
         (b"LEAVE  01", 5),
         (b"LEAVE  33", 5),
         (b"OPEN    1 65", 5),
-        (b"ENTER   1STO\x1fK     0  0", 6),
-        (b"ENTER   1STOCK     2  0  2  1", 7),
+        (b"RETURN", 4),
+        (b"RETURN  1  1    1", 4),
+        (b"RETURN 33", 5),
+        (b"FETCH   1  1", 4),
+        (b"FETCH   1  1    1 ", 4),
+        (b"FETCH   1  0    1", 5),
+        (b"FETCH   1 65    1", 5),
+        (b"FETCH   1  1    0", 5),
+        (b"FETCH   1  165536", 5),
+        (b"ENTER   1STO\x1fK     0  0  0", 6),
+        (b"ENTER   1STOCK     2  0  0  2  1", 7),
         (&[b'7'; CUT_LINE], 3),
     ] {
         let text = String::from_utf8_lossy(request);
         assert_eq!(refusal_of(&mut board, request), number, "{text}");
     }
+}
+
+#[test]
+fn the_longest_line() {
+    let mut board = Board::new();
     let mut longest = b"ENTER   1LABEL   ".to_vec();
-    for number in [FILES, FILES].into_iter().chain(1..=FILES).chain(1..=FILES) {
+    let files = (0..3).flat_map(|_| 1..=FILES);
+    for number in [FILES; 3].into_iter().chain(files) {
         longest.extend(format!("{number:3}").bytes());
     }
     assert_eq!(longest.len(), LONGEST_LINE);
@@ -205,8 +237,8 @@ fn refusals_of_the_line() {
 fn refusals_of_the_call() {
     let mut board = favoured_and_held();
     for (request, number) in [
-        (&b"ENTER   3LISTS     0  1  2"[..], 9),
-        (b"ENTER   4BOTH      1  1  5  5", 10),
+        (&b"ENTER   3LISTS     0  1  0  2"[..], 9),
+        (b"ENTER   4BOTH      1  1  0  5  5", 10),
         (b"LEAVE   9", 11),
         (b"LEAVE   3", 12),
         (b"CLOSE   2  2", 13),
@@ -215,9 +247,156 @@ fn refusals_of_the_call() {
         (b"CLOSE   1  2", 16),
         (b"CANCEL  9", 11),
         (b"CANCEL  1", 18),
+        (b"FETCH   9  1    1", 11),
+        (b"FETCH   3  2    1", 12),
+        (b"FETCH   2  1    1", 13),
+        (b"FETCH   1  1    1", 20),
+        (b"RETURN  9", 11),
+        (b"RETURN  3", 12),
+        (b"RETURN  2", 13),
+        (b"RETURN  1", 20),
     ] {
         let text = String::from_utf8_lossy(request);
         assert_eq!(refusal_of(&mut board, request), number, "{text}");
+    }
+}
+
+/// Programs 1, 2 and 3 inquire into file 4. 1 has its record 365, and 2 waits for that.
+fn record_in_use() -> Board {
+    let mut board = Board::new();
+    for clerk in 1..=3 {
+        let enter = Request::enter(clerk).label("CLERK").inquire([4]).line();
+        let admitted = board.serve(&enter.unwrap()).unwrap();
+        assert_eq!(admitted.answer(), line(Word::Admit, clerk, 0));
+        let open = board.serve(&Request::open(clerk, 4).line().unwrap());
+        assert_eq!(open.unwrap().answer(), line(Word::Given, clerk, 4));
+    }
+    for (clerk, word) in [(1, Word::Given), (2, Word::Wait)] {
+        let fetch = board.serve(&Request::fetch(clerk, 4, 365).line().unwrap());
+        let fetch = fetch.unwrap();
+        assert_eq!(fetch.answer(), record_line(word, clerk));
+        assert_eq!(fetch.waits(), word == Word::Wait);
+        assert!(fetch.settled().is_empty());
+    }
+    board
+}
+
+/// The record in use and the awaited record of a program, and how it stands.
+fn records(board: &Board, program: u8) -> (Standing, Option<Record>, Option<Record>) {
+    let program = board.program(program).unwrap();
+    let (used, awaited) = (program.record_in_use, program.awaited_record);
+    (program.standing, used, awaited)
+}
+
+#[test]
+fn records_are_seen() {
+    let board = record_in_use();
+    let (file, number) = (4, 365);
+    let record = Some(Record { file, number });
+    for clerk in board.programs() {
+        let sets = [clerk.inquiry_claim, clerk.inquiry_open];
+        assert!(sets.iter().all(|set| set.iter().eq([4])));
+        let others = [clerk.write_claim, clerk.read_claim];
+        assert!(others.iter().all(|set| set.is_empty()));
+    }
+    assert_eq!(records(&board, 1), (Standing::Running, record, None));
+    assert_eq!(records(&board, 2), (Standing::Waiting(4), None, record));
+    assert_eq!(records(&board, 3), (Standing::Running, None, None));
+    assert_eq!(board.waiting_line(), [2]);
+    assert_eq!(board.loop_for(2), Ok(vec![]), "2 waits for no file");
+    assert_eq!(Board::from_image(board.image()), Ok(board));
+}
+
+/// "On RETURN .. the oldest waiter for the record gets it .., a leave returns it too."
+#[test]
+fn a_record_goes_to_its_oldest_waiter() {
+    for request in [Request::return_record(1), Request::leave(1)] {
+        let mut board = record_in_use();
+        let fetch = board.serve(b"FETCH   3  4  365").unwrap();
+        assert_eq!(fetch.answer(), record_line(Word::Wait, 3));
+        let reply = board.serve(&request.line().unwrap()).unwrap();
+        assert_eq!(reply.answer(), line(Word::Done, 1, 0));
+        assert_eq!(reply.settled(), [record_line(Word::Given, 2)]);
+        assert_eq!(
+            (records(&board, 1).1, board.waiting_line()),
+            (None, &[3][..])
+        );
+        assert_eq!(cancelled(&mut board, 3), []);
+        let reply = board.serve(b"RETURN  2").unwrap();
+        assert_eq!(reply.lines().collect::<Vec<_>>(), [line(Word::Done, 2, 0)]);
+    }
+}
+
+/// "With a record in use it may only RETURN it or leave": 21, after 13, and before 14 to 16 and 20.
+#[test]
+fn refusals_with_records() {
+    let mut board = record_in_use();
+    for (request, number) in [
+        (&b"OPEN    1  5"[..], 21),
+        (b"OPEN    1  4", 21),
+        (b"CLOSE   1  5", 21),
+        (b"DROP    1  4", 21),
+        (b"FETCH   1  4  365", 21),
+        (b"FETCH   1  5    1", 21),
+        (b"CANCEL  1", 18),
+        (b"ENTER   1CLERK     0  0  0", 9),
+        (b"FETCH   2  4  365", 13),
+        (b"RETURN  2", 13),
+        (b"FETCH   3  5    1", 20),
+        (b"RETURN  3", 20),
+        (b"ENTER   4CLERK     1  0  1  4  4", 10),
+        (b"ENTER   4CLERK     0  1  1  4  4", 10),
+    ] {
+        let text = String::from_utf8_lossy(request);
+        assert_eq!(refusal_of(&mut board, request), number, "{text}");
+    }
+    let refused = board.serve(b"FETCH   3  5   17").unwrap().answer();
+    assert_eq!((refused.program, refused.file, refused.record), (3, 5, 17));
+}
+
+/// A waiter for a record is passed by eight and favoured; with its record it is so no longer.
+#[test]
+fn a_favoured_program_gets_its_record() {
+    let mut board = record_in_use();
+    for passed in 1..=MOST_PASSED {
+        let enter = board.serve(b"ENTER   5LISTS     0  0  0").unwrap();
+        assert_eq!(enter.answer(), line(Word::Admit, 5, 0));
+        assert_eq!(board.passed(2), Some(passed));
+        assert!(board.serve(b"LEAVE   5").unwrap().settled().is_empty());
+    }
+    let enter = board.serve(b"ENTER   5LISTS     0  0  0").unwrap();
+    assert_eq!(enter.answer(), line(Word::Held, 5, 0));
+    assert_eq!(enter.settled(), [record_line(Word::Favour, 2)]);
+    assert_eq!(board.favoured().unwrap().leaves_to_come(), 2);
+    let settled = [record_line(Word::Given, 2), line(Word::Admit, 5, 0)];
+    assert_eq!(board.serve(b"RETURN  1").unwrap().settled(), settled);
+    assert_eq!((board.favoured(), board.passed(2)), (None, Some(0)));
+}
+
+/// Program 1 has file 1 open in one way, 2 claims it in another: whether 1 holds back 2. 01: "W of i
+/// meets V or Q of j, or R of i meets V of j"; 02: "also if I of i meets V or Q of j, or W or R of i
+/// meets J of j". The two then conflict if 2 opens it.
+#[test]
+fn who_holds_back_whom() {
+    let holding = [[true, true, true], [true, false, true], [true, true, false]];
+    let enter = |program: u8, way: usize| {
+        let mut counts = [0; 3];
+        counts[way] = 1;
+        let [w, r, j] = counts;
+        format!("ENTER {program:3}LABEL   {w:3}{r:3}{j:3}  1")
+    };
+    for (open, row) in holding.into_iter().enumerate() {
+        for (claimed, holds) in row.into_iter().enumerate() {
+            let (first, second) = (enter(1, open), enter(2, claimed));
+            let mut board = board_after(&[&first, &second, "OPEN    1  1"]);
+            let programs: Vec<_> = board.programs().collect();
+            let files = programs[0].holds_back(&programs[1]);
+            assert!(files.iter().eq(holds.then_some(1)), "{first}, {second}");
+            assert!(programs[1].holds_back(&programs[0]).is_empty());
+            assert_eq!(board.reach().reaches(1, 2), holds, "{first}, {second}");
+            let waits = board.serve(b"OPEN    2  1").unwrap().waits();
+            assert_eq!(waits, holds, "{first}, {second}");
+        }
     }
 }
 
@@ -230,7 +409,7 @@ fn a_favoured_program_is_cancelled() {
     assert_eq!(board.order(), [1, 3]);
     assert_eq!(refusal_of(&mut board, b"CANCEL  2"), 11);
     assert_eq!(refusal_of(&mut board, b"CANCEL  3"), 18);
-    let again = board.serve(b"ENTER   2BILLS     2  0  1  2").unwrap();
+    let again = board.serve(b"ENTER   2BILLS     2  0  0  1  2").unwrap();
     assert_eq!(again.answer(), line(Word::Admit, 2, 0));
 }
 
@@ -248,10 +427,10 @@ fn a_held_program_is_cancelled() {
 #[test]
 fn a_waiting_program_is_cancelled() {
     let mut board = board_after(&[
-        "ENTER   1STOCK     3  0  1  2  3",
-        "ENTER   2BILLS     2  0  1  2",
-        "ENTER   4LISTS     2  0  1  4",
-        "ENTER   5PRICES    1  0  4",
+        "ENTER   1STOCK     3  0  0  1  2  3",
+        "ENTER   2BILLS     2  0  0  1  2",
+        "ENTER   4LISTS     2  0  0  1  4",
+        "ENTER   5PRICES    1  0  0  4",
         "OPEN    1  1",
         "OPEN    1  3",
         "OPEN    2  2",
@@ -272,14 +451,14 @@ fn a_waiting_program_is_cancelled() {
 /// Program 1 reads file 1, and 2 waits to write it while others come and go, admitted after it.
 fn passed_by(others: u8) -> Board {
     let mut board = board_after(&[
-        "ENTER   1LISTS     0  1  1",
-        "ENTER   2PRICES    1  0  1",
+        "ENTER   1LISTS     0  1  0  1",
+        "ENTER   2PRICES    1  0  0  1",
         "OPEN    1  1",
         "OPEN    2  1",
     ]);
     assert_eq!(board.passed(2), Some(0));
     for passed in 1..=others {
-        let enter = board.serve(b"ENTER   3LISTS     0  1  1").unwrap();
+        let enter = board.serve(b"ENTER   3LISTS     0  1  0  1").unwrap();
         assert_eq!(enter.answer(), line(Word::Admit, 3, 0));
         assert_eq!(board.passed(2), Some(passed));
         let leave = board.serve(b"LEAVE   3").unwrap();
@@ -294,7 +473,7 @@ fn a_waiter_is_passed_by_eight() {
     assert_eq!(MOST_PASSED, 8);
     let mut board = passed_by(MOST_PASSED);
     assert_eq!(board.favoured(), None);
-    let enter = board.serve(b"ENTER   3LISTS     0  1  1").unwrap();
+    let enter = board.serve(b"ENTER   3LISTS     0  1  0  1").unwrap();
     assert_eq!(enter.answer(), line(Word::Held, 3, 0));
     assert_eq!(enter.settled(), [line(Word::Favour, 2, 1)]);
     let favoured = board.favoured().unwrap();
@@ -315,7 +494,7 @@ fn a_count_ends_with_its_wait() {
     let mut board = passed_by(3);
     assert_eq!(cancelled(&mut board, 2), []);
     assert_eq!(board.passed(2), Some(0));
-    board.serve(b"ENTER   2PRICES    1  0  1").unwrap();
+    board.serve(b"ENTER   2PRICES    1  0  0  1").unwrap();
     board.serve(b"OPEN    2  1").unwrap();
     assert_eq!((board.waiting_line(), board.passed(2)), (&[2][..], Some(0)));
     assert_eq!((board.passed(0), board.passed(33)), (None, None));
@@ -323,7 +502,7 @@ fn a_count_ends_with_its_wait() {
 
 #[test]
 fn a_board_goes_on_from_its_image() {
-    let mut first = board_after(&["ENTER   1STOCK     1  0  3", "OPEN    1  3"]);
+    let mut first = board_after(&["ENTER   1STOCK     1  0  0  3", "OPEN    1  3"]);
     let mut second = Board::from_image(first.image()).unwrap();
     assert_eq!(first, second);
     assert_eq!(first.serve(b"LEAVE   1"), second.serve(b"LEAVE   1"));
@@ -334,7 +513,8 @@ fn a_board_goes_on_from_its_image() {
 #[test]
 fn images_of_another_length() {
     let image = [0; IMAGE_LEN + 1];
-    for len in [0, 1, layout::image::COUNTS, IMAGE_LEN - 1, IMAGE_LEN + 1] {
+    let (first, fifth) = (layout::image::COUNTS, layout::image::INQUIRY);
+    for len in [0, 1, first, fifth, IMAGE_LEN - 1, IMAGE_LEN + 1] {
         let refused = Board::from_image(&image[..len]);
         assert_eq!(refused, Err(Error::ImageLength(len)));
     }
@@ -342,7 +522,7 @@ fn images_of_another_length() {
 
 #[test]
 fn images_that_are_not_sound() {
-    let image = *board_after(&["ENTER   1STOCK     1  0  3", "OPEN    1  3"]).image();
+    let image = *board_after(&["ENTER   1STOCK     1  0  0  3", "OPEN    1  3"]).image();
     // W outside V; no such standing; a running program that awaits a file; a name in each line;
     // somebody favoured who is not waiting; a number though nobody is favoured; a count of one who
     // runs and of one who is absent.
@@ -360,6 +540,53 @@ fn images_that_are_not_sound() {
     ] {
         let refused = Board::from_image(&changed(&image, field));
         assert_eq!(refused, Err(Error::Refused(Refusal::NotSound)), "{field}");
+    }
+}
+
+/// "In a sound board records in use differ, their users run, and an awaited record is in use; both
+/// have their file in I".
+#[test]
+fn images_with_records() {
+    let image = *record_in_use().image();
+    for field in [
+        "record in use of 1 = 0",
+        "record in use of 1 = 364",
+        "record in use of 2 = 1",
+        "record in use of 3 = 1",
+        "record in use of 4 = 1",
+        "awaited record of 1 = 365",
+        "awaited record of 2 = 0",
+        "awaited record of 2 = 366",
+        "awaited record of 3 = 365",
+        "awaited record of 32 = 365",
+        "awaited file of 1 = 5",
+        "awaited file of 2 = 0",
+        "awaited file of 3 = 4",
+        "I of 1 = {}",
+        "I of 2 = {}",
+        "I of 3 = {4,5}",
+        "J of 3 = {}",
+        "J of 4 = {4}",
+        "V of 3 = {4}",
+        "Q of 3 = {4}",
+    ] {
+        let refused = Board::from_image(&changed(&image, field));
+        assert_eq!(refused, Err(Error::Refused(Refusal::NotSound)), "{field}");
+    }
+}
+
+/// Program 3 may have any record in use but 365, which 1 has.
+#[test]
+fn images_with_other_records() {
+    let image = changed(record_in_use().image(), "awaited file of 3 = 4");
+    for (number, sound) in [(1, true), (365, false), (u16::MAX, true)] {
+        let image = changed(&image, &format!("record in use of 3 = {number}"));
+        let read = Board::from_image(&image).map(|board| records(&board, 3).1);
+        let expected = match sound {
+            true => Ok(Some(Record { file: 4, number })),
+            false => Err(Error::Refused(Refusal::NotSound)),
+        };
+        assert_eq!(read, expected, "record {number}");
     }
 }
 
@@ -383,7 +610,7 @@ fn the_entry_keeps_what_it_does_not_write() {
     let empty = *Board::new().image();
     let mut image = empty;
     let mut journal = [170; JOURNAL_ROOM + JOURNAL_LINE];
-    let request = b"ENTER   1STOCK     1  0  3";
+    let request = b"ENTER   1STOCK     1  0  0  3";
     let (last, end) = (JOURNAL_LINE as u64, 2 * JOURNAL_LINE);
     for place in [last + 1, HIGHEST_PLACE, HIGHEST_PLACE + 1, u64::MAX] {
         let answer = entry::line(&mut image, request, &mut journal, place);
@@ -393,7 +620,7 @@ fn the_entry_keeps_what_it_does_not_write() {
     }
     let answer = entry::line(&mut image, request, &mut journal, last);
     assert_eq!(answer, end as u64);
-    assert_eq!(&journal[JOURNAL_LINE..end], b"ADMIT   1  0  0\n");
+    assert_eq!(&journal[JOURNAL_LINE..end], b"ADMIT   1  0  0    0\n");
     let kept = journal[..JOURNAL_LINE].iter().chain(&journal[end..]);
     assert!(kept.copied().all(|byte| byte == 170));
     assert_ne!(image, empty);
@@ -407,9 +634,9 @@ fn the_entry_keeps_what_it_does_not_write() {
 #[test]
 fn order_is_given() {
     let mut board = board_after(&[
-        "ENTER   1STOCK     2  0  1  2",
-        "ENTER   2BILLS     2  0  1  2",
-        "ENTER   9LISTS     0  1  2",
+        "ENTER   1STOCK     2  0  0  1  2",
+        "ENTER   2BILLS     2  0  0  1  2",
+        "ENTER   9LISTS     0  1  0  2",
         "OPEN    2  2",
     ]);
     assert_eq!(board.order(), [2, 1, 9]);
@@ -433,9 +660,9 @@ fn order_is_given() {
 /// waits for 6, which 31 claims too.
 fn unsafe_of_three() -> Board {
     let mut board = board_after(&[
-        "ENTER   7STOCK     2  0  4  5",
-        "ENTER  20BILLS     2  0  4  6",
-        "ENTER  31LISTS     2  0  5  6",
+        "ENTER   7STOCK     2  0  0  4  5",
+        "ENTER  20BILLS     2  0  0  4  6",
+        "ENTER  31LISTS     2  0  0  5  6",
         "OPEN    7  4",
         "OPEN   31  5",
     ]);
@@ -550,6 +777,54 @@ fn refusals_of_the_digraph_come_in_order() {
     assert_eq!(buffer[REACH_LEN], 170);
 }
 
+/// 3; then "a buffer shorter than the line with 17, after 01's checks 8 and, for ENTER, 6", and "a
+/// record number out of range with 19 (after 8)".
+#[test]
+fn refusals_of_the_writer_come_in_order() {
+    let (enter, fetch) = (Verb::Enter.number(), Verb::Fetch.number());
+    let returning = Verb::Return.number();
+    let claims = [255; CLAIMS_LEN + 1];
+    let mut line = [170; LONGEST_LINE + 1];
+    for ([verb, program, file, record], claims_len, label, room, refusal) in [
+        ([0, 0, 0, 0], 0, "", 0, 3),
+        ([9, 0, 0, 0], 0, "", 0, 3),
+        ([fetch, 33, 1, 0], 0, "", 0, 8),
+        ([fetch, 1, 0, 0], 0, "", 0, 8),
+        ([fetch, 1, 65, 0], 0, "", 0, 8),
+        ([fetch, 1, 64, 0], 0, "", 0, 19),
+        ([fetch, 1, 64, 65536], 0, "", 0, 19),
+        ([fetch, 1, 64, u64::MAX], 0, "", 0, 19),
+        ([fetch, 1, 64, 65535], 0, "", 16, 17),
+        ([enter, 33, 0, 0], 24, "", 0, 8),
+        ([enter, 1, 0, 0], 23, "", 0, 8),
+        ([enter, 1, 0, 0], 25, "", 0, 8),
+        ([enter, 1, 0, 0], 24, "LABEL", 0, 6),
+        ([enter, 1, 0, 0], 24, "LABEL   ", 601, 17),
+        ([returning, 0, 0, 0], 0, "", 0, 8),
+        ([returning, 1, 0, 0], 0, "", 8, 17),
+    ] {
+        let (claims, label) = (&claims[..claims_len], label.as_bytes());
+        let line = &mut line[..room];
+        let answer = entry::write(verb, program, file, record, claims, label, line);
+        assert_eq!(0u64.wrapping_sub(answer), refusal);
+    }
+    assert_eq!(line, [170; LONGEST_LINE + 1]);
+}
+
+#[test]
+fn the_writer_fills_just_its_line() {
+    let (enter, fetch) = (Verb::Enter.number(), Verb::Fetch.number());
+    let mut line = [170; LONGEST_LINE + 1];
+    let claims = [255; CLAIMS_LEN];
+    let answer = entry::write(enter, 1, 0, 0, &claims, b"LABEL   ", &mut line);
+    assert_eq!((answer, line[LONGEST_LINE]), (602, 170));
+    for (record, columns) in [(1, b"FETCH  32 64    1"), (65535, b"FETCH  32 6465535")] {
+        let mut line = [170; 18];
+        let answer = entry::write(fetch, 32, 64, record, b"", b"", &mut line);
+        assert_eq!((answer, &line[..17], line[17]), (17, &columns[..], 170));
+    }
+}
+
 #[test]
 fn refusals_have_their_numbers() {
     for (number, refusal) in (1..).zip(Refusal::ALL) {
@@ -557,25 +832,30 @@ fn refusals_have_their_numbers() {
         assert_eq!(Refusal::from_number(number), Some(refusal));
     }
     assert_eq!(Refusal::from_number(0), None);
-    assert_eq!(Refusal::from_number(19), None);
+    assert_eq!(Refusal::from_number(22), None);
 }
 
 #[test]
 fn lines_that_are_not_in_form() {
     for bytes in [
-        b"ADMIT   1  0  0 ",
-        b"ADMIT   1  0  9\n",
-        b"REFUSE  1  0  0\n",
-        b"REFUSE  0  0  1\n",
-        b"REFUSE  0  0  2\n",
-        b"REFUSE  0  0 17\n",
-        b"REFUSE  1  0 19\n",
-        b"ORDER   1  2  3\n",
-        b"admit   1  0  0\n",
-        b"ADMIT  01  0  0\n",
-        b"ADMIT 1    0  0\n",
-        b"ADMIT      0  0\n",
-        b"ADMIT  +1  0  0\n",
+        b"ADMIT   1  0  0    0 ",
+        b"ADMIT   1  0  9    0\n",
+        b"REFUSE  1  0  0    0\n",
+        b"REFUSE  0  0  1    0\n",
+        b"REFUSE  0  0  2    0\n",
+        b"REFUSE  0  0 17    0\n",
+        b"REFUSE  1  0  8    0\n",
+        b"REFUSE  1  0 19    0\n",
+        b"REFUSE  1  0 22    0\n",
+        b"ORDER   1  2  3    0\n",
+        b"admit   1  0  0    0\n",
+        b"ADMIT  01  0  0    0\n",
+        b"ADMIT 1    0  0    0\n",
+        b"ADMIT      0  0    0\n",
+        b"ADMIT  +1  0  0    0\n",
+        b"GIVEN   1  1  065536\n",
+        b"GIVEN   1  1  000001\n",
+        b"GIVEN   1  1  0     \n",
     ] {
         assert_eq!(
             Line::read(bytes),

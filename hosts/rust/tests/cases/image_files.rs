@@ -1,6 +1,7 @@
 //! Image files from one session to the next, with each host after each other:
 //! what was shown is not forgotten, and one file has one session at a time.
 
+use crate::model::journal::LINE;
 use crate::running::{Place, Running, HOSTS, SIGINT, SIGKILL};
 use std::fs;
 
@@ -27,13 +28,13 @@ fn pairs() -> impl Iterator<Item = (&'static str, &'static str)> {
 fn an_interrupted_grant_stands() {
     for (first, second) in pairs() {
         let place = Place::new("grant");
-        let requests = ["ENTER   1PRICES    1  0  1", "OPEN    1  1"];
-        let journal = "ADMIT   1  0  0\nGIVEN   1  1  0\n";
+        let requests = ["ENTER   1PRICES    1  0  0  1", "OPEN    1  1"];
+        let journal = "ADMIT   1  0  0    0\nGIVEN   1  1  0    0\n";
         let mut running = after(first, &place, &requests, journal);
         running.signal(SIGINT);
         running.ended();
-        let requests = ["ENTER   2BILLS     1  0  1", "OPEN    2  1"];
-        let journal = "ADMIT   2  0  0\nWAIT    2  1  0\n";
+        let requests = ["ENTER   2BILLS     1  0  0  1", "OPEN    2  1"];
+        let journal = "ADMIT   2  0  0    0\nWAIT    2  1  0    0\n";
         let running = after(second, &place, &requests, journal);
         let (status, seen) = running.finish();
         assert!(status.success(), "{second} after {first}");
@@ -49,8 +50,8 @@ fn an_interrupted_grant_stands() {
 fn one_file_has_one_session() {
     for (first, second) in pairs() {
         let place = Place::new("two");
-        let requests = ["ENTER   1PRICES    1  0  1"];
-        let mut running = after(first, &place, &requests, "ADMIT   1  0  0\n");
+        let requests = ["ENTER   1PRICES    1  0  0  1"];
+        let mut running = after(first, &place, &requests, "ADMIT   1  0  0    0\n");
         let image = fs::read(place.image()).unwrap();
         let mut other = Running::start(second, &place);
         other.send(&lines(&["LEAVE   1"]));
@@ -60,14 +61,15 @@ fn one_file_has_one_session() {
         assert!(place.messages().contains("another session uses the image"));
         assert_eq!(fs::read(place.image()).unwrap(), image);
         running.send(&lines(&["OPEN    1  1"]));
-        running.wait_for(32);
+        running.wait_for(2 * LINE);
         assert!(
-            running.seen.ends_with(b"GIVEN   1  1  0\n"),
+            running.seen.ends_with(b"GIVEN   1  1  0    0\n"),
             "{first} goes on"
         );
         running.signal(SIGKILL);
         running.ended();
-        let (status, seen) = after(second, &place, &["LEAVE   1"], "DONE    1  0  0\n").finish();
+        let (status, seen) =
+            after(second, &place, &["LEAVE   1"], "DONE    1  0  0    0\n").finish();
         assert!(
             status.success() && seen.ends_with(b"ORDER \n"),
             "{second} after {first}"
@@ -82,10 +84,10 @@ fn one_file_has_one_session() {
 fn a_found_image_is_brought_to_the_disk() {
     for host in HOSTS {
         let place = Place::new("found");
-        let requests = ["ENTER   1PRICES    1  0  1"];
-        after(host, &place, &requests, "ADMIT   1  0  0\n").finish();
+        let requests = ["ENTER   1PRICES    1  0  0  1"];
+        after(host, &place, &requests, "ADMIT   1  0  0    0\n").finish();
         fs::remove_file(place.disk()).unwrap();
-        let running = after(host, &place, &["LEAVE   2"], "REFUSE  2  0 11\n");
+        let running = after(host, &place, &["LEAVE   2"], "REFUSE  2  0 11    0\n");
         let (image, disk) = (fs::read(place.image()), fs::read(place.disk()));
         assert_eq!(disk.expect("a copy of the disk"), image.unwrap(), "{host}");
         running.finish();

@@ -1,5 +1,6 @@
-//! The carried order run through, on boards of the vectors and of the examples:
-//! the lines that --plan of the C host writes, and what each host makes of them.
+//! Records returned and the carried order run through, on boards of the vectors and of
+//! the examples: the lines that --plan of the C host writes, and what each host makes of
+//! them.
 
 use super::chosen;
 use super::show::shown;
@@ -73,12 +74,24 @@ fn longest_plan() -> Board {
 }
 
 /// What boards and their rounds must have, and whether these do.
-fn has(board: &Board, served: &[Served]) -> [(&'static str, bool); 8] {
+fn has(board: &Board, served: &[Served]) -> [(&'static str, bool); 12] {
     let lines = served.iter().flat_map(|(_, lines)| &lines[1..]);
     let settling: Vec<Word> = lines.map(|entry| entry.word).collect();
-    let first = served.first().map(|(request, _)| request.numbers().0);
+    let returns = |(request, _): &&Served| matches!(request, Request::Return { .. });
+    let returned: Vec<&Served> = served.iter().filter(returns).collect();
+    let users = board.which(|program| program.in_use.is_some()).len();
+    let rounds = &served[returned.len()..];
+    let first = rounds.first().map(|(request, _)| request.numbers().0);
     let lowest = board.admitted().first().copied();
+    let after_returns = returned.iter().flat_map(|(_, lines)| &lines[1..]);
     [
+        ("a record in use", users == 1),
+        ("several records in use", users > 1),
+        ("a record handed on", returned.len() > users),
+        (
+            "a held one admitted after a return",
+            after_returns.clone().any(|entry| entry.word == Word::Admit),
+        ),
         ("nobody on the board", served.is_empty()),
         ("several waiters", board.waiting.len() > 1),
         ("somebody favoured", board.favoured != 0),

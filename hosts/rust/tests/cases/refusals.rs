@@ -68,7 +68,7 @@ fn refusals_of_random_sessions_agree() {
     }
 }
 
-/// 31 labelled readers of the file that a program waits for, and 64 files in both claims.
+/// 31 labelled readers of the file that a program waits for, and 64 files in all three claims.
 #[test]
 #[ignore = "runs the hosts: hosts/test explain"]
 fn the_longest_refusals_agree() {

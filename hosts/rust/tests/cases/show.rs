@@ -3,12 +3,14 @@
 
 use super::chosen;
 use crate::expected::phrases::users;
-use crate::expected::show::{dot, edges, given_edges, show, Loops};
-use crate::model::board::{only, Board, Files, Program, Standing, FILES, MOST_PASSES, PROGRAMS};
+use crate::expected::show::{dot, edges, given_edges, record_waits, show, Loops};
+use crate::model::board::{only, Board, Files, Program, Record, Standing};
+use crate::model::board::{FILES, MOST_PASSES, PROGRAMS, RECORDS};
 use crate::model::image;
+use crate::model::settle::awaited;
 use crate::running::whole::{file, run};
 use crate::running::{built, HOSTS};
-use lock_board::{Files as ViewedFiles, Standing as ViewedStanding};
+use lock_board::Standing as ViewedStanding;
 use std::collections::BTreeMap;
 use std::ffi::OsStr;
 use std::path::Path;
@@ -65,11 +67,13 @@ fn admitted(standing: Standing, v: Files, q: Files, w: Files, r: Files) -> Progr
         q,
         w,
         r,
+        ..Program::ABSENT
     }
 }
 
 /// The boards with the longest texts: one with 32 readers of all files, one where 31
-/// readers of 63 files hold back a program that waits for the last, and the longest loop.
+/// readers of 63 files hold back a program that waits for the last, the longest loop, and
+/// the longest wait for a record.
 fn longest_texts() -> Vec<Board> {
     let last = only(FILES);
     let mut all_read = Board::EMPTY;
@@ -80,7 +84,7 @@ fn longest_texts() -> Vec<Board> {
     }
     *one_waits.get_mut(PROGRAMS) = admitted(Standing::Waiting(FILES), !0, 0, 0, 0);
     one_waits.waiting.push(PROGRAMS);
-    let longest = vec![all_read, one_waits, longest_loop()];
+    let longest = vec![all_read, one_waits, longest_loop(), longest_record_wait()];
     for board in &longest {
         assert!(image::read(&image::write(board)).is_ok(), "a sound board");
     }
@@ -103,9 +107,65 @@ fn longest_loop() -> Board {
     board
 }
 
+/// All inquire into all files; the first has the last record of the last, and all others wait for it,
+/// one of them favoured.
+fn longest_record_wait() -> Board {
+    let mut board = Board::EMPTY;
+    let last = Record {
+        file: FILES,
+        number: RECORDS,
+    };
+    for p in 1..=PROGRAMS {
+        *board.get_mut(p) = Program {
+            standing: Standing::Waiting(FILES),
+            j: !0,
+            i: !0,
+            awaited_record: RECORDS,
+            ..Program::ABSENT
+        };
+    }
+    *board.get_mut(1) = Program {
+        standing: Standing::Running,
+        in_use: Some(last),
+        awaited_record: 0,
+        ..*board.get(1)
+    };
+    board.waiting.extend(2..=PROGRAMS);
+    (board.favoured, board.number) = (2, PROGRAMS);
+    board
+}
+
+/// What a board has of inquiry that the text must tell.
+fn met_of_inquiry(board: &Board) -> Vec<&'static str> {
+    let mut met = Vec::new();
+    for p in board.admitted() {
+        let program = board.get(p);
+        let sets = [program.w, program.r, program.i];
+        met.push(match sets.iter().filter(|&&set| set != 0).count() {
+            3 => "three ways of use",
+            2 => "two ways of use",
+            _ => "one way of use or none",
+        });
+        if program.in_use.is_some() {
+            met.push("a record in use");
+        }
+        if program.awaits().is_some() && board.favoured == p {
+            met.push("a favoured one waits for a record");
+        }
+    }
+    let users: Vec<usize> = record_waits(board).iter().map(|wait| wait.0).collect();
+    met.push(match users.as_slice() {
+        [] => "no record is awaited",
+        [_] => "one waits for a record",
+        [one, others @ ..] if others.contains(one) => "several wait for a record",
+        _ => "different records are awaited",
+    });
+    met
+}
+
 /// What a board has that the text must tell.
 fn met(board: &Board, loops: &Loops) -> Vec<&'static str> {
-    let mut met = Vec::new();
+    let mut met = met_of_inquiry(board);
     for list in loops.values() {
         met.push(match list.len() {
             2 => "a loop of two",
@@ -117,14 +177,15 @@ fn met(board: &Board, loops: &Loops) -> Vec<&'static str> {
         met.push("several loops");
     }
     for &p in &board.waiting {
-        let Standing::Waiting(f) = board.get(p).standing else {
-            unreachable!("a waiter waits");
-        };
-        let users = users(board, p);
+        let (file, users) = (only(awaited(board, p)), users(board, p));
+        let inquires = |user: usize| board.get(user).i & file != 0;
         met.push(match users.as_slice() {
+            _ if board.get(p).awaits().is_some() => "another has the record",
             [] => "no order would be left",
-            [user] if board.get(*user).w & only(f) != 0 => "a writer has the file",
+            [user] if board.get(*user).w & file != 0 => "a writer has the file",
+            [user] if inquires(*user) => "one inquires into the file",
             [_] => "a reader has the file",
+            [user, ..] if inquires(*user) => "several inquire into the file",
             _ => "several readers have the file",
         });
         met.push(match board.count(p) {
@@ -157,7 +218,17 @@ fn met(board: &Board, loops: &Loops) -> Vec<&'static str> {
     met
 }
 
-const TO_MEET: [&str; 19] = [
+const TO_MEET: [&str; 29] = [
+    "three ways of use",
+    "two ways of use",
+    "a record in use",
+    "one waits for a record",
+    "several wait for a record",
+    "different records are awaited",
+    "a favoured one waits for a record",
+    "another has the record",
+    "one inquires into the file",
+    "several inquire into the file",
     "a loop of two",
     "a longer loop",
     "a loop of all",
@@ -202,7 +273,7 @@ fn show_agrees() {
 #[ignore = "runs the hosts: hosts/test show"]
 fn dot_agrees() {
     let file = file("dot.image");
-    let (mut found, mut red) = (0, 0);
+    let (mut found, mut red, mut records) = (0, 0, 0);
     for board in &chosen_boards() {
         let loops = loops_in(&shown(&file, "--show", board));
         let text = shown(&file, "--dot", board);
@@ -212,10 +283,14 @@ fn dot_agrees() {
         assert_eq!(graph.solid, edges(board));
         let given: Vec<_> = given_edges(board, &loops).into_keys().collect();
         assert_eq!(graph.dashed, given);
+        let waits = record_waits(board).into_iter();
+        let waits: Vec<_> = waits.map(|(user, p, _)| (user, p)).collect();
+        assert_eq!(graph.dotted, waits);
         found += graph.solid.len();
         red += graph.dashed.len();
+        records += graph.dotted.len();
     }
-    assert!(found > 0 && red > 0);
+    assert!(found > 0 && red > 0 && records > 0);
 }
 
 /// A word, a sign or a quoted text of Graphviz's language, and what comes after it.
@@ -239,6 +314,7 @@ struct Graph {
     nodes: Vec<usize>,
     solid: Vec<(usize, usize)>,
     dashed: Vec<(usize, usize)>,
+    dotted: Vec<(usize, usize)>,
 }
 
 /// The words of `name=value, ..`, by name.
@@ -268,14 +344,18 @@ fn graph(text: &str) -> Option<Graph> {
         let (what, words) = (&statement[..open], statement[open..].strip_prefix(&["["])?);
         let attributes = attributes(words.strip_suffix(&["]", ";"])?)?;
         attributes.get("label")?.strip_prefix('"')?;
-        match (what, attributes.get("style")) {
-            ([node], None) => graph.nodes.push(node.parse().ok()?),
-            ([i, "->", j], None) => graph.solid.push((i.parse().ok()?, j.parse().ok()?)),
-            ([i, "->", j], Some(&"dashed")) => {
-                graph.dashed.push((i.parse().ok()?, j.parse().ok()?))
+        let edges = match (what, attributes.get("style").copied()) {
+            ([node], None) => {
+                graph.nodes.push(node.parse().ok()?);
+                continue;
             }
+            (_, None) => &mut graph.solid,
+            (_, Some("dashed")) => &mut graph.dashed,
+            (_, Some("dotted")) => &mut graph.dotted,
             _ => return None,
-        }
+        };
+        let [i, "->", j] = what else { return None };
+        edges.push((i.parse().ok()?, j.parse().ok()?));
     }
     Some(graph)
 }
@@ -288,16 +368,23 @@ fn same_program(viewed: &lock_board::Program, program: &Program) -> bool {
         ViewedStanding::Waiting(f) => Standing::Waiting(f.into()),
         ViewedStanding::Held => Standing::Held,
     };
-    let bits = ViewedFiles::bits;
-    let (v, q) = (bits(viewed.write_claim), bits(viewed.read_claim));
-    let (w, r) = (bits(viewed.write_open), bits(viewed.read_open));
-    Program {
+    let record = |record: lock_board::Record| Record {
+        file: record.file.into(),
+        number: record.number.into(),
+    };
+    let awaits = viewed.awaited_record.map(record);
+    let found = Program {
         standing,
-        v,
-        q,
-        w,
-        r,
-    } == *program
+        v: viewed.write_claim.bits(),
+        q: viewed.read_claim.bits(),
+        j: viewed.inquiry_claim.bits(),
+        w: viewed.write_open.bits(),
+        r: viewed.read_open.bits(),
+        i: viewed.inquiry_open.bits(),
+        in_use: viewed.record_in_use.map(record),
+        awaited_record: awaits.map_or(0, |record| record.number),
+    };
+    found == *program && awaits == program.awaits()
 }
 
 fn numbers(line: &[u8]) -> Vec<usize> {

@@ -1,6 +1,6 @@
 //! Phrases about a board that several texts have.
 
-use crate::model::board::{members, only, Board, Files, Program, PROGRAMS};
+use crate::model::board::{members, only, Board, Files, Program, Record, PROGRAMS};
 use crate::model::settle::awaited;
 use std::collections::BTreeMap;
 
@@ -26,21 +26,51 @@ pub fn programs(programs: &[usize], labels: &Labels) -> String {
     list("program", &names)
 }
 
-/// Files written and files read, each with its verb; nothing if there are none.
-pub fn uses(write: &str, written: Files, read: &str, only_read: Files) -> String {
-    let parts: Vec<String> = [(write, written), (read, only_read)]
-        .into_iter()
-        .filter(|&(_, set)| set != 0)
+/// The verbs of writing, reading and inquiry: what one program does, what several do or one may do.
+const OF_ONE: [&str; 3] = ["writes", "reads", "inquires into"];
+const PLAIN: [&str; 3] = ["write", "read", "inquire into"];
+
+/// Files written, read and inquired into, each with its verb; nothing if there are none.
+fn uses(verbs: [&str; 3], sets: [Files; 3]) -> String {
+    let used = verbs.into_iter().zip(sets).filter(|&(_, set)| set != 0);
+    let mut parts: Vec<String> = used
         .map(|(verb, set)| format!("{verb} {}", files(set)))
         .collect();
-    parts.join(" and ")
+    match (parts.pop(), parts.join(", ")) {
+        (None, _) => String::new(),
+        (Some(only), before) if before.is_empty() => only,
+        (Some(last), before) => format!("{before} and {last}"),
+    }
+}
+
+/// What a program may do with files of V, Q and J.
+pub fn may(sets: [Files; 3]) -> String {
+    uses(PLAIN, sets)
 }
 
 pub fn open(program: &Program) -> String {
     if program.open() == 0 {
         return "has nothing open".to_string();
     }
-    uses("writes", program.w, "reads", program.r)
+    uses(OF_ONE, [program.w, program.r, program.i])
+}
+
+pub fn record(record: Record) -> String {
+    format!("record {} of file {}", record.number, record.file)
+}
+
+/// The record in use, with what comes before it; nothing if there is none.
+pub fn in_use(before: &str, program: &Program) -> String {
+    let has = |used| format!("{before}has {}", record(used));
+    program.in_use.map_or(String::new(), has)
+}
+
+/// What a waiting program waits for.
+pub fn awaited_thing(board: &Board, p: usize) -> String {
+    match board.get(p).awaits() {
+        Some(awaited) => record(awaited),
+        None => format!("file {}", awaited(board, p)),
+    }
 }
 
 /// Those who have the file in conflicting use: with it given, they and p would conflict.
@@ -51,18 +81,34 @@ pub fn users(board: &Board, p: usize) -> Vec<usize> {
         .collect()
 }
 
+/// Whether a waiter waits for a file that nobody has in conflicting use.
+pub fn wants_order(board: &Board, p: usize) -> bool {
+    board.get(p).awaits().is_none() && users(board, p).is_empty()
+}
+
 /// Why a waiting program waits.
 pub fn wait(board: &Board, p: usize, labels: &Labels) -> String {
-    let (file, users) = (awaited(board, p), users(board, p));
-    let why = match users.as_slice() {
-        [] => "nobody has in conflicting use, but with it given no completion order would be left"
-            .to_string(),
-        [user] => {
-            let writes = board.get(*user).w & only(file) != 0;
-            let verb = if writes { "writes" } else { "reads" };
-            format!("{} {verb}", programs(&users, labels))
+    let why = match board.get(p).awaits() {
+        _ if wants_order(board, p) => {
+            "nobody has in conflicting use, but with it given no completion order would be left"
+                .to_string()
         }
-        _ => format!("{} read", programs(&users, labels)),
+        Some(record) => {
+            let user = board.user(record).expect("an awaited record is in use");
+            format!("{} has in use", programs(&[user], labels))
+        }
+        None => {
+            let (users, file) = (users(board, p), only(awaited(board, p)));
+            let verbs = if users.len() == 1 { OF_ONE } else { PLAIN };
+            let sets = |user: &usize| {
+                let user = board.get(*user);
+                [user.w, user.r, user.i].map(|set| set & file != 0)
+            };
+            let ways: Vec<[bool; 3]> = users.iter().map(sets).collect();
+            assert!(ways.iter().all(|way| *way == ways[0]), "one way of use");
+            let way = ways[0].iter().position(|&used| used).expect("a use");
+            format!("{} {}", programs(&users, labels), verbs[way])
+        }
     };
-    format!("waits for file {file}, which {why}")
+    format!("waits for {}, which {why}", awaited_thing(board, p))
 }

@@ -1,12 +1,12 @@
 //! What a host shows on standard error of a session: one line for each refusal,
 //! with what was asked and what stands. The words come from docs/REFUSALS.md.
 
-use super::phrases::{self, files, open, programs, users, uses, Labels};
-use crate::model::board::{members, only, Board, Files, Standing, FILES, PROGRAMS};
+use super::phrases::{self, files, in_use, may, open, programs, record, wants_order, Labels};
+use crate::model::board::{only, Board, Files, Record, Standing, FILES, PROGRAMS, RECORDS};
 use crate::model::image::step;
 use crate::model::journal::{columns, Entry, Word};
-use crate::model::line::{claimed, enter_length, BEFORE_FILES, COUNT_R, COUNT_W};
-use crate::model::line::{FILE, LABEL, LONGEST, PROGRAM, VERB};
+use crate::model::line::{claimed, enter_length, BEFORE_FILES, COUNT_J, COUNT_R, COUNT_W};
+use crate::model::line::{FILE, LABEL, LONGEST, PROGRAM, RECORD, VERB};
 use std::ops::Range;
 
 /// The rows of docs/REFUSALS.md, from refusal 1 on: the words, and what to do.
@@ -88,10 +88,11 @@ impl Session<'_> {
     }
 
     fn refused(&self, line: &[u8], answer: &Entry) -> String {
-        let about = match (answer.program, answer.file) {
-            (0, _) => String::new(),
-            (p, 0) => format!(" (program {p})"),
-            (p, f) => format!(" (program {p}, file {f})"),
+        let about = match (answer.program, answer.file, answer.record) {
+            (0, _, _) => String::new(),
+            (p, 0, _) => format!(" (program {p})"),
+            (p, f, 0) => format!(" (program {p}, file {f})"),
+            (p, f, n) => format!(" (program {p}, file {f}, record {n})"),
         };
         let what = match answer.refusal {
             3 => verb(line),
@@ -125,6 +126,11 @@ impl Session<'_> {
             b"CLOSE " => format!("{who}asked to close file {f}"),
             b"DROP  " => format!("{who}asked to drop file {f}"),
             b"LEAVE " => format!("{who}asked to leave"),
+            b"FETCH " => {
+                let number = answer.record;
+                format!("{who}asked for {}", record(Record { file: f, number }))
+            }
+            b"RETURN" => format!("{who}asked to return a record"),
             _ => known.map_or("asked to cancel".to_string(), |label| {
                 format!("asked to cancel {label}")
             }),
@@ -152,7 +158,7 @@ impl Session<'_> {
                 };
                 format!("{} {standing}", programs(&[p], labels))
             }
-            10 => format!("both claims have {}", files(in_both(line))),
+            10 => in_two(line),
             11 => match board
                 .which(|program| program.standing != Standing::Absent)
                 .as_slice()
@@ -169,7 +175,7 @@ impl Session<'_> {
             }
             13 => wait(board, p, labels) + &self.if_dead(line, answer),
             14 => {
-                let claims = match uses("write", program.v, "read", program.q).as_str() {
+                let claims = match may([program.v, program.q, program.j]).as_str() {
                     "" => "claims no file".to_string(),
                     claims => format!("may {claims}"),
                 };
@@ -178,7 +184,14 @@ impl Session<'_> {
                     false => claims,
                 }
             }
-            18 => format!("{}; {}", open(program), self.document.remedy(18)),
+            18 => {
+                let (open, in_use) = (open(program), in_use("; ", program));
+                format!("{open}{in_use}; {}", self.document.remedy(18))
+            }
+            20 if line.starts_with(b"RETURN") => "has no record in use".to_string(),
+            20 if program.i == 0 => "has nothing open for inquiry".to_string(),
+            20 => format!("inquires into {}", files(program.i)),
+            21 => format!("{}; {}", in_use("", program), self.document.advice(21)[0]),
             _ => open(program),
         }
     }
@@ -187,7 +200,7 @@ impl Session<'_> {
 /// Why a program waits, and for want of an order also who holds it back.
 fn wait(board: &Board, p: usize, labels: &Labels) -> String {
     let why = phrases::wait(board, p, labels);
-    if !users(board, p).is_empty() {
+    if !wants_order(board, p) {
         return why;
     }
     let mut holders = board.which(|other| other.holds_back(board.get(p)));
@@ -224,7 +237,7 @@ fn verb(line: &[u8]) -> String {
         None => format!("the line has only {}", quoted(line)),
         Some(verb) => format!("{} have {}", named(&VERB), quoted(verb)),
     };
-    let verbs = "not ENTER, OPEN, CLOSE, DROP, LEAVE or CANCEL";
+    let verbs = "not ENTER, OPEN, CLOSE, DROP, LEAVE, CANCEL, FETCH or RETURN";
     format!("{what}, {verbs}, with blanks up to column {}", VERB.end)
 }
 
@@ -239,14 +252,16 @@ fn length(line: &[u8]) -> String {
     };
     let verb = String::from_utf8_lossy(&line[VERB]).trim_end().to_string();
     let asked = match verb.as_str() {
-        "LEAVE" | "CANCEL" => format!("{verb} ends with column {}", PROGRAM.end),
+        "LEAVE" | "CANCEL" | "RETURN" => format!("{verb} ends with column {}", PROGRAM.end),
+        "FETCH" => format!("FETCH ends with column {}", RECORD.end),
         "ENTER" if line.len() < BEFORE_FILES => {
             format!("ENTER goes up to column {BEFORE_FILES} at least")
         }
         "ENTER" => {
-            let [w, r] = counts(line);
-            let end = enter_length(w + r);
-            format!("ENTER with {w} files to write and {r} to read ends with column {end}")
+            let [w, r, j] = counts(line);
+            let end = enter_length(w + r + j);
+            let files = format!("{w} files to write, {r} to read and {j} to inquire into");
+            format!("ENTER with {files} ends with column {end}")
         }
         _ => format!("{verb} ends with column {}", FILE.end),
     };
@@ -259,43 +274,53 @@ fn in_form(line: &[u8], field: &Range<usize>) -> Option<usize> {
     (0..10usize.pow(width as u32)).find(|&n| columns(n, width) == text)
 }
 
-/// w and r.
-fn counts(line: &[u8]) -> [usize; 2] {
-    [COUNT_W, COUNT_R].map(|count| in_form(line, &count).expect("counts were read before"))
+/// w, r and j.
+const COUNTS: [Range<usize>; 3] = [COUNT_W, COUNT_R, COUNT_J];
+
+fn counts(line: &[u8]) -> [usize; 3] {
+    COUNTS.map(|count| in_form(line, &count).expect("counts were read before"))
 }
 
 /// A file with the columns in which it stands.
 type Placed = (usize, Range<usize>);
 
-/// The files of an ENTER, those of V and those of Q.
-fn claims(line: &[u8]) -> [Vec<Placed>; 2] {
+/// The files of an ENTER, those of V, of Q and of J.
+fn claims(line: &[u8]) -> [Vec<Placed>; 3] {
     let file = |n: usize| {
         let f = in_form(line, &claimed(n)).expect("files were read");
         (f, claimed(n))
     };
-    let [w, r] = counts(line);
-    [(0..w).map(file).collect(), (w..w + r).map(file).collect()]
+    let [w, r, j] = counts(line);
+    [0..w, w..w + r, w + r..w + r + j].map(|claim| claim.map(file).collect())
 }
 
-fn in_both(line: &[u8]) -> Files {
-    let set = |files: &Vec<Placed>| files.iter().fold(0, |set, file| set | only(file.0));
-    let both = claims(line)
-        .iter()
-        .map(set)
-        .fold(!0, |both, set| both & set);
-    assert!(!members(both).is_empty());
-    both
+/// Which two claims have which files: "Refusal 10 covers any two claims that meet."
+fn in_two(line: &[u8]) -> String {
+    let set = |files: Vec<Placed>| files.iter().fold(0, |set, file| set | only(file.0));
+    let [v, q, j]: [Files; 3] = claims(line).map(set);
+    let two = [
+        ("write and read", v & q),
+        ("write and inquiry", v & j),
+        ("read and inquiry", q & j),
+    ];
+    let met = two.into_iter().filter(|&(_, both)| both != 0);
+    let texts: Vec<String> = met
+        .map(|(two, both)| format!("the {two} claims have {}", files(both)))
+        .collect();
+    assert!(!texts.is_empty());
+    texts.join("; ")
 }
 
 /// The first number from the left that is not in form or range.
 fn number(line: &[u8]) -> String {
     let mut fields = vec![(PROGRAM, "program", 1, PROGRAMS)];
     if line.starts_with(b"ENTER") {
-        fields.extend([COUNT_W, COUNT_R].map(|count| (count, "count", 0, FILES)));
+        fields.extend(COUNTS.map(|count| (count, "count", 0, FILES)));
         let files = (0..).map(claimed).take_while(|file| file.end <= line.len());
         fields.extend(files.map(|file| (file, "file", 1, FILES)));
-    } else if line.len() == FILE.end {
+    } else if line.len() >= FILE.end {
         fields.push((FILE, "file", 1, FILES));
+        fields.extend((line.len() == RECORD.end).then_some((RECORD, "record", 1, RECORDS)));
     }
     let bad = |(field, _, low, high): &&(Range<usize>, &str, usize, usize)| {
         !in_form(line, field).is_some_and(|n| (*low..=*high).contains(&n))

@@ -1,8 +1,10 @@
 //! The text of --show and of --dot. Which loop they name is free, so each is handed the
 //! loops, and what is no loop fails here.
 
-use super::phrases::{files, open, programs, users, uses, wait, Labels};
-use crate::model::board::{members, only, Board, Files, Standing, MOST_PASSES, PROGRAMS};
+use super::phrases::{awaited_thing, files, in_use, may, open, programs};
+use super::phrases::{record, wait, wants_order, Labels};
+use crate::model::board::{members, only, Board, Files, Record, Standing};
+use crate::model::board::{MOST_PASSES, PROGRAMS};
 use crate::model::digraph::is_loop;
 use crate::model::order;
 use crate::model::settle::awaited;
@@ -15,10 +17,11 @@ pub type Loops = BTreeMap<usize, Vec<usize>>;
 const WIDTH: usize = 80;
 const HANG: &str = "      ";
 
-/// The files in which i holds back j: W of i meets V or Q of j, or R of i meets V of j.
+/// The files in which i holds back j: "W of i meets V or Q of j, or R of i meets V of j", "also if
+/// I of i meets V or Q of j, or W or R of i meets J of j".
 pub fn held_in(board: &Board, i: usize, j: usize) -> Files {
     let (i, j) = (board.get(i), board.get(j));
-    i.w & (j.v | j.q) | i.r & j.v
+    i.w & (j.v | j.q) | i.r & j.v | i.i & (j.v | j.q) | (i.w | i.r) & j.j
 }
 
 /// A paragraph of any length in lines.
@@ -43,17 +46,17 @@ fn admitted(board: &Board, p: usize) -> String {
         Standing::Running => "runs",
         _ => "waits",
     };
-    let left = uses(
-        "write",
+    let left = [
         program.v & !program.w,
-        "read",
         program.q & !program.r,
-    );
-    let more = match left.as_str() {
+        program.j & !program.i,
+    ];
+    let more = match may(left).as_str() {
         "" => "may open nothing more".to_string(),
         left => format!("may still {left}"),
     };
-    format!("  program {p} {standing}: {}; {more}", open(program))
+    let (open, in_use) = (open(program), in_use("; ", program));
+    format!("  program {p} {standing}: {open}{in_use}; {more}")
 }
 
 /// The steps of a loop, by the model's checker, each with the lowest file over which the first
@@ -70,7 +73,7 @@ fn steps(board: &Board, p: usize, list: &[usize]) -> Vec<(usize, usize, usize)> 
 
 fn waiter(board: &Board, p: usize, loops: &Loops) -> String {
     let mut text = format!("  program {p} {}", wait(board, p, &Labels::new()));
-    if users(board, p).is_empty() {
+    if wants_order(board, p) {
         let steps: Vec<String> = steps(board, p, &loops[&p])
             .iter()
             .map(|(i, j, file)| format!("{i} holds back {j} over file {file}"))
@@ -88,6 +91,7 @@ fn waiter(board: &Board, p: usize, loops: &Loops) -> String {
     text + &format!("; passed by {count} of at most {MOST_PASSES} programs")
 }
 
+/// "A favoured program that gets its record, within the same bound, is favoured no longer." That is:
 /// "It gets its file at the latest with the leave that brings those leaves to that number less one";
 /// "a cancel of an admitted program counts as a leave, also in the bound for favoured programs".
 fn favoured(board: &Board) -> String {
@@ -95,13 +99,13 @@ fn favoured(board: &Board) -> String {
         return "nobody".to_string();
     }
     let left = (board.number - 1) - board.leaves;
-    let file = awaited(board, board.favoured);
+    let thing = awaited_thing(board, board.favoured);
     let leaves = match left {
         1 => "1 leave or waiter's cancel".to_string(),
         _ => format!("{left} leaves or waiters' cancels"),
     };
     format!(
-        "program {} (gets file {file} after at most {leaves})",
+        "program {} (gets {thing} after at most {leaves})",
         board.favoured
     )
 }
@@ -187,17 +191,31 @@ fn edge_lines(board: &Board, loops: &Loops) -> BTreeMap<(usize, usize), String> 
     solid.chain(dashed).collect()
 }
 
+/// Who waits for whose record: the record's user, the waiter and the record, by the waiter.
+pub fn record_waits(board: &Board) -> Vec<(usize, usize, Record)> {
+    let wait = |p| {
+        let awaited = board.get(p).awaits()?;
+        let user = board.user(awaited).expect("an awaited record is in use");
+        Some((user, p, awaited))
+    };
+    (1..=PROGRAMS).filter_map(wait).collect()
+}
+
 pub fn dot(board: &Board, loops: &Loops) -> String {
     let mut text = "digraph lock_board {\n".to_string();
     for p in board.admitted() {
         let standing = match board.get(p).standing {
-            Standing::Waiting(f) => format!("waits for file {f}"),
-            _ => "runs".to_string(),
+            Standing::Waiting(_) => format!("waits for {}", awaited_thing(board, p)),
+            _ => format!("runs{}", in_use(", ", board.get(p))),
         };
         text += &format!("    {p} [label=\"program {p}\\n{standing}\"];\n");
     }
     for line in edge_lines(board, loops).values() {
         text += &format!("    {line};\n");
+    }
+    for (user, p, awaited) in record_waits(board) {
+        let label = record(awaited);
+        text += &format!("    {user} -> {p} [label=\"{label}\", style=dotted];\n");
     }
     text + "}\n"
 }

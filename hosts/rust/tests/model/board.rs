@@ -1,8 +1,8 @@
 //! "Programs and files": standings, claims, open files, conflict, holding
 //! back, and the board that keeps them with its two lines and the waiters'
-//! counts of document 02.
+//! counts of document 02; and 02's inquiry, with records.
 
-pub use super::layout::{FILES, MOST_PASSES, PROGRAMS};
+pub use super::layout::{FILES, MOST_PASSES, PROGRAMS, RECORDS};
 
 /// A set of files; file 1 is the lowest bit.
 pub type Files = u64;
@@ -17,6 +17,14 @@ pub fn members(set: Files) -> Vec<usize> {
     (1..=FILES).filter(|&f| set & only(f) != 0).collect()
 }
 
+/// A record: its file and its number.
+#[derive(Clone, Copy, PartialEq, Eq, Debug)]
+pub struct Record {
+    pub file: usize,
+    pub number: usize,
+}
+
+/// "Waiting carries its file": that of the awaited record, if it awaits one.
 #[derive(Clone, Copy, PartialEq, Eq, Debug)]
 pub enum Standing {
     Absent,
@@ -30,8 +38,13 @@ pub struct Program {
     pub standing: Standing,
     pub v: Files,
     pub q: Files,
+    pub j: Files,
     pub w: Files,
     pub r: Files,
+    pub i: Files,
+    pub in_use: Option<Record>,
+    /// The number of the awaited record; 0 for one who awaits a file or nothing.
+    pub awaited_record: usize,
 }
 
 impl Program {
@@ -39,8 +52,12 @@ impl Program {
         standing: Standing::Absent,
         v: 0,
         q: 0,
+        j: 0,
         w: 0,
         r: 0,
+        i: 0,
+        in_use: None,
+        awaited_record: 0,
     };
 
     pub fn admitted(&self) -> bool {
@@ -48,21 +65,34 @@ impl Program {
     }
 
     pub fn open(&self) -> Files {
-        self.w | self.r
+        self.w | self.r | self.i
     }
 
     pub fn claim(&self) -> Files {
-        self.v | self.q
+        self.v | self.q | self.j
     }
 
-    /// W of one meets W or R of the other.
+    /// The record that this program waits for.
+    pub fn awaits(&self) -> Option<Record> {
+        match (self.standing, self.awaited_record) {
+            (Standing::Waiting(file), number) if number != 0 => Some(Record { file, number }),
+            _ => None,
+        }
+    }
+
+    /// "W of one meets W or R of the other"; "I of one conflicts with W and R of
+    /// another, never with I."
     pub fn conflicts(&self, other: &Program) -> bool {
-        self.w & other.open() != 0 || other.w & self.open() != 0
+        let meets = |one: &Program, other: &Program| (one.w | one.i) & (other.w | other.r) != 0;
+        meets(self, other) || meets(other, self)
     }
 
-    /// W of this one meets V or Q of the other, or R of this one its V.
+    /// "W of i meets V or Q of j, or R of i meets V of j"; "i holds back j also if I of
+    /// i meets V or Q of j, or W or R of i meets J of j".
     pub fn holds_back(&self, other: &Program) -> bool {
-        self.w & other.claim() != 0 || self.r & other.v != 0
+        (self.w | self.i) & (other.v | other.q) != 0
+            || self.r & other.v != 0
+            || (self.w | self.r) & other.j != 0
     }
 
     /// This program with file f given, in the way that its claim says.
@@ -70,6 +100,7 @@ impl Program {
         Program {
             w: self.w | only(f) & self.v,
             r: self.r | only(f) & self.q,
+            i: self.i | only(f) & self.j,
             ..*self
         }
     }
@@ -133,6 +164,27 @@ impl Board {
     pub fn end_wait(&mut self, p: usize) {
         self.waiting.retain(|&other| other != p);
         *self.count_mut(p) = 0;
+    }
+
+    /// A waiter gets what it waits for, a file or a record, and runs. "A favoured
+    /// program that is given its file is favoured no longer"; so is one "that gets
+    /// its record".
+    pub fn serve(&mut self, p: usize) {
+        match (self.get(p).awaits(), self.get(p).standing) {
+            (None, Standing::Waiting(f)) => *self = self.with_given(p, f),
+            (record, _) => self.get_mut(p).in_use = record,
+        }
+        self.get_mut(p).standing = Standing::Running;
+        self.get_mut(p).awaited_record = 0;
+        self.end_wait(p);
+        if self.favoured == p {
+            self.favour_nobody();
+        }
+    }
+
+    /// The program that has this record in use.
+    pub fn user(&self, record: Record) -> Option<usize> {
+        (1..=PROGRAMS).find(|&p| self.get(p).in_use == Some(record))
     }
 
     /// Whether, with f given to p, another program and p would conflict.

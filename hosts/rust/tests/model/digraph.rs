@@ -130,7 +130,7 @@ pub fn check_call(board: Option<&Board>, p: u64, f: u64, list: &[u8]) -> u64 {
 #[derive(Clone, PartialEq, Debug)]
 pub enum Looped {
     Refused(u64),
-    /// The program does not wait.
+    /// The program does not wait, or waits for a record: it has its file open.
     None,
     /// Any loop on this board, on which the program has the file that it waits for.
     Any(Box<Board>),
@@ -146,8 +146,9 @@ pub fn loop_call(board: Option<&Board>, p: u64, room: usize) -> Looped {
     if room < LOOP {
         return Looped::Refused(REFUSED_17);
     }
-    match board.get(p as usize).standing {
-        Standing::Waiting(f) => Looped::Any(Box::new(board.with_given(p as usize, f))),
+    let program = board.get(p as usize);
+    match (program.standing, program.awaits()) {
+        (Standing::Waiting(f), None) => Looped::Any(Box::new(board.with_given(p as usize, f))),
         _ => Looped::None,
     }
 }

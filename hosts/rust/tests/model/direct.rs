@@ -2,7 +2,7 @@
 //! reply. A board is handed over and given back as its image, so that one that
 //! is not sound has a form too.
 
-use super::board::{Board, FILES, PROGRAMS};
+use super::board::{Board, FILES, PROGRAMS, RECORDS};
 use super::events::{self, Request};
 use super::image::{self, layout, read, write, REFUSED_1, REFUSED_2};
 use super::journal::{Entry, Word};
@@ -30,8 +30,8 @@ pub fn call(image: &[u8], request: &Request) -> Reply {
         return refused(1, Vec::new(), image);
     };
     let accepted = match out_of_range(request) {
-        true => Err(8),
-        false => events::call(&board, request),
+        Some(number) => Err(number),
+        None => events::call(&board, request),
     };
     let (after, lines) = match accepted {
         Ok(result) => result,
@@ -83,24 +83,33 @@ fn carried(board: &Board) -> Vec<usize> {
     order::carried(board).expect("a sound board has an order")
 }
 
-/// "Program or file out of range"; enter, leave and cancel have no file.
-pub fn out_of_range(request: &Request) -> bool {
+/// 8, "program or file out of range"; and "a record number out of range with 19
+/// (after 8)".
+pub fn out_of_range(request: &Request) -> Option<usize> {
     let (p, f) = request.numbers();
-    let has_file = matches!(
-        request,
-        Request::Open { .. } | Request::Close { .. } | Request::Drop { .. }
-    );
-    !(1..=PROGRAMS).contains(&p) || has_file && !(1..=FILES).contains(&f)
+    if !(1..=PROGRAMS).contains(&p) || request.has_file() && !(1..=FILES).contains(&f) {
+        return Some(8);
+    }
+    match *request {
+        Request::Fetch { n, .. } if !(1..=RECORDS).contains(&n) => Some(19),
+        _ => None,
+    }
 }
 
 /// The board of an image of the layout, sound or not; else the empty board.
-/// The layout is in the length and the standings: a byte that should name a
-/// program or a file stands in a board whatever it is, and makes it unsound.
+/// The layout is in the length, the standings and who has which record: a byte that
+/// should name a program or a file stands in a board whatever it is, and makes it
+/// unsound.
 pub fn load(image: &[u8]) -> Result<Vec<u8>, Vec<u8>> {
     let of_layout = |fault: &Fault| {
         matches!(
             fault,
-            Fault::Length | Fault::StandingByte | Fault::AwaitedNotZero
+            Fault::Length
+                | Fault::StandingByte
+                | Fault::AwaitedNotZero
+                | Fault::UserWithoutFile
+                | Fault::UserNotRunning
+                | Fault::AwaitedRecordOfNoWaiter
         )
     };
     match layout(image) {

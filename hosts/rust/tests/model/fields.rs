@@ -1,9 +1,10 @@
 //! The image's fields by their names, for files that say what an image holds.
 //!
-//! `V of 2 = {1,5 to 7}`, and so Q, W and R: a set of files, rising. `standing of 2 =
-//! absent`, or a number that is no standing. `awaited file of 2`, `count of 2`,
-//! `favoured`, `number at favouring`, `leaves`: a number. `waiting line = [2,3]`, and
-//! so the entry line: its programs, the oldest first; the rest is 0.
+//! `V of 2 = {1,5 to 7}`, and so Q, J, W, R and I: a set of files, rising. `standing of
+//! 2 = absent`, or a number that is no standing. `awaited file of 2`, `count of 2`,
+//! `record in use of 2`, `awaited record of 2`, `favoured`, `number at favouring`,
+//! `leaves`: a number. `waiting line = [2,3]`, and so the entry line: its programs,
+//! the oldest first; the rest is 0.
 
 use super::layout::image::*;
 use super::layout::{FILES, PROGRAMS};
@@ -30,7 +31,7 @@ struct Field {
 }
 
 /// All the fields: every byte of the image belongs to one.
-const FIELDS: [Field; 12] = [
+const FIELDS: [Field; 16] = [
     field("V", Kind::Set, V, SET, PROGRAM),
     field("Q", Kind::Set, Q, SET, PROGRAM),
     field("W", Kind::Set, W, SET, PROGRAM),
@@ -43,7 +44,16 @@ const FIELDS: [Field; 12] = [
     field("number at favouring", Kind::Number, NUMBER, 1, 0),
     field("leaves", Kind::Number, LEAVES, 1, 0),
     field("count", Kind::Number, COUNTS, 1, 1),
+    inquiry("J", Kind::Set, J, SET),
+    inquiry("I", Kind::Set, I, SET),
+    inquiry("record in use", Kind::Number, RECORD_IN_USE, RECORD),
+    inquiry("awaited record", Kind::Number, AWAITED_RECORD, RECORD),
 ];
+
+/// A field of the second rows.
+const fn inquiry(name: &'static str, kind: Kind, at: usize, len: usize) -> Field {
+    field(name, kind, INQUIRY + at, len, INQUIRY_LEN)
+}
 
 const fn field(name: &'static str, kind: Kind, at: usize, len: usize, step: usize) -> Field {
     Field {

@@ -1,6 +1,6 @@
 //! "Image and hosts": the board as bytes, and the C host's line call.
 
-use super::board::{Board, Files, Program, Standing, FILES, PROGRAMS};
+use super::board::{Board, Files, Program, Record, Standing, FILES, PROGRAMS};
 use super::events;
 use super::journal::Entry;
 use super::line;
@@ -22,13 +22,14 @@ pub fn write(board: &Board) -> Vec<u8> {
         for set in [program.v, program.q, program.w, program.r] {
             image.extend(set.to_le_bytes());
         }
+        let file_in_use = program.in_use.map_or(0, |record| record.file);
         let (standing, awaited) = match program.standing {
-            Standing::Absent => (0, 0),
-            Standing::Running => (1, 0),
-            Standing::Waiting(f) => (2, f as u8),
-            Standing::Held => (3, 0),
+            Standing::Absent => (0, file_in_use),
+            Standing::Running => (1, file_in_use),
+            Standing::Waiting(f) => (2, f),
+            Standing::Held => (3, file_in_use),
         };
-        image.extend([standing, awaited]);
+        image.extend([standing, awaited as u8]);
     }
     for line in [&board.waiting, &board.entry] {
         let end = image.len() + PROGRAMS;
@@ -37,6 +38,13 @@ pub fn write(board: &Board) -> Vec<u8> {
     }
     image.extend([board.favoured as u8, board.number as u8, board.leaves as u8]);
     image.extend((1..=PROGRAMS).map(|p| board.count(p) as u8));
+    for p in 1..=PROGRAMS {
+        let program = board.get(p);
+        let in_use = program.in_use.map_or(0, |record| record.number);
+        image.extend([program.j, program.i].map(Files::to_le_bytes).concat());
+        let records = [in_use, program.awaited_record].map(|number| number as u16);
+        image.extend(records.map(u16::to_le_bytes).concat());
+    }
     image
 }
 
@@ -69,7 +77,9 @@ pub fn layout(image: &[u8]) -> Result<(Board, Vec<Fault>), Vec<Fault>> {
 pub fn parts(image: &[u8]) -> (Board, Vec<Fault>, Vec<Fault>) {
     let (mut board, mut broken, mut gaps) = (Board::EMPTY, Vec::new(), Vec::new());
     for p in 1..=PROGRAMS {
-        *board.get_mut(p) = program(&image[PROGRAM * (p - 1)..PROGRAM * p], &mut broken);
+        let first = &image[PROGRAM * (p - 1)..PROGRAM * p];
+        let second = &image[INQUIRY..][INQUIRY_LEN * (p - 1)..INQUIRY_LEN * p];
+        *board.get_mut(p) = program(first, second, &mut broken);
         *board.count_mut(p) = usize::from(image[COUNTS + p - 1]);
     }
     board.waiting = names(
@@ -95,10 +105,13 @@ pub fn parts(image: &[u8]) -> (Board, Vec<Fault>, Vec<Fault>) {
     (board, broken, gaps)
 }
 
-fn program(bytes: &[u8], broken: &mut Vec<Fault>) -> Program {
-    let set = |at: usize| Files::from_le_bytes(bytes[at..at + SET].try_into().unwrap());
-    let awaited = usize::from(bytes[AWAITED]);
-    let standing = match bytes[STANDING] {
+/// A program by its two rows. "The awaited-file byte of a record's user holds its
+/// file", and the users run.
+fn program(first: &[u8], second: &[u8], broken: &mut Vec<Fault>) -> Program {
+    let set = |row: &[u8], at| Files::from_le_bytes(row[at..at + SET].try_into().unwrap());
+    let number = |at: usize| usize::from(u16::from_le_bytes([second[at], second[at + 1]]));
+    let (awaited, in_use) = (usize::from(first[AWAITED]), number(RECORD_IN_USE));
+    let standing = match first[STANDING] {
         0 => Standing::Absent,
         1 => Standing::Running,
         2 => Standing::Waiting(awaited),
@@ -108,18 +121,36 @@ fn program(bytes: &[u8], broken: &mut Vec<Fault>) -> Program {
             Standing::Absent
         }
     };
-    if bytes[STANDING] != 2 && awaited != 0 {
-        broken.push(Fault::AwaitedNotZero);
-    }
-    if bytes[STANDING] == 2 && !(1..=FILES).contains(&awaited) {
-        broken.push(Fault::AwaitedRange);
+    let [runs, waits] = [1, 2].map(|number| first[STANDING] == number);
+    let named = waits || in_use != 0;
+    for (fault, is) in [
+        (Fault::AwaitedNotZero, !named && awaited != 0),
+        (Fault::AwaitedRange, waits && awaited == 0),
+        (Fault::AwaitedRange, named && awaited > FILES),
+        (Fault::UserWithoutFile, runs && in_use != 0 && awaited == 0),
+        (Fault::UserNotRunning, !runs && in_use != 0),
+        (
+            Fault::AwaitedRecordOfNoWaiter,
+            !waits && number(AWAITED_RECORD) != 0,
+        ),
+    ] {
+        if is {
+            broken.push(fault);
+        }
     }
     Program {
         standing,
-        v: set(V),
-        q: set(Q),
-        w: set(W),
-        r: set(R),
+        v: set(first, V),
+        q: set(first, Q),
+        j: set(second, J),
+        w: set(first, W),
+        r: set(first, R),
+        i: set(second, I),
+        in_use: (in_use != 0).then_some(Record {
+            file: awaited,
+            number: in_use,
+        }),
+        awaited_record: number(AWAITED_RECORD),
     }
 }
 
@@ -173,10 +204,11 @@ pub fn order_call(order: Option<&[usize]>, buffer: &mut [u8]) -> u64 {
 pub fn step(board: &Board, request: &[u8]) -> (Board, Vec<Entry>) {
     let request = match line::read(request) {
         Ok(request) => request,
-        Err(number) => return (board.clone(), vec![Entry::refused(number, 0, 0)]),
+        Err(number) => return (board.clone(), vec![Entry::refused(number, 0, 0, 0)]),
     };
     events::call(board, &request).unwrap_or_else(|number| {
         let (p, f) = request.numbers();
-        (board.clone(), vec![Entry::refused(number, p, f)])
+        let refused = Entry::refused(number, p, f, request.record());
+        (board.clone(), vec![refused])
     })
 }

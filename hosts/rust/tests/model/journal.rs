@@ -1,7 +1,8 @@
 //! "Journal": its words and lines.
 
+use super::board::Record;
 pub use super::layout::journal::*;
-use super::layout::{FILE_COLUMNS, PROGRAM_COLUMNS, REFUSAL_COLUMNS};
+use super::layout::{FILE_COLUMNS, PROGRAM_COLUMNS, RECORD_COLUMNS, REFUSAL_COLUMNS};
 
 #[derive(Clone, Copy, PartialEq, Eq, PartialOrd, Ord, Debug)]
 pub enum Word {
@@ -47,6 +48,8 @@ pub struct Entry {
     pub program: usize,
     pub file: usize,
     pub refusal: usize,
+    /// "The record of the call or of the waiter named".
+    pub record: usize,
 }
 
 impl Entry {
@@ -56,15 +59,23 @@ impl Entry {
             program,
             file,
             refusal: 0,
+            record: 0,
         }
     }
 
-    pub fn refused(refusal: usize, program: usize, file: usize) -> Entry {
+    /// A line that names a record.
+    pub fn of_record(word: Word, program: usize, record: Record) -> Entry {
         Entry {
-            word: Word::Refuse,
-            program,
-            file,
+            record: record.number,
+            ..Entry::new(word, program, record.file)
+        }
+    }
+
+    pub fn refused(refusal: usize, program: usize, file: usize, record: usize) -> Entry {
+        Entry {
             refusal,
+            record,
+            ..Entry::new(Word::Refuse, program, file)
         }
     }
 
@@ -74,6 +85,7 @@ impl Entry {
         line.extend(program_columns(self.program));
         line.extend(file_columns(self.file));
         line.extend(columns(self.refusal, REFUSAL_COLUMNS));
+        line.extend(record_columns(self.record));
         line.push(10);
         assert_eq!(line.len(), LINE);
         line
@@ -95,4 +107,9 @@ pub fn program_columns(p: usize) -> Vec<u8> {
 /// A file, or a count of files, in its columns.
 pub fn file_columns(f: usize) -> Vec<u8> {
     columns(f, FILE_COLUMNS)
+}
+
+/// A record's number in its columns.
+pub fn record_columns(n: usize) -> Vec<u8> {
+    columns(n, RECORD_COLUMNS)
 }

@@ -1,9 +1,9 @@
 //! "Request lines": how a line is read, with the refusals 3 to 7, and how a
 //! request is written as a line.
 
-use super::board::{members, only, Files, FILES, PROGRAMS};
+use super::board::{members, only, Files, FILES, PROGRAMS, RECORDS};
 use super::events::Request;
-use super::journal::{columns, file_columns, program_columns};
+use super::journal::{columns, file_columns, program_columns, record_columns};
 pub use super::layout::line::*;
 use super::layout::FILE_COLUMNS;
 
@@ -17,7 +17,7 @@ fn number(field: &[u8], low: usize, high: usize) -> Result<usize, usize> {
 }
 
 /// The request of a line, or its refusal. Document 02: "CANCEL is a sixth verb,
-/// with a 9-byte line."
+/// with a 9-byte line"; FETCH and RETURN are two more.
 pub fn read(line: &[u8]) -> Result<Request, usize> {
     match line.get(VERB).ok_or(3usize)? {
         b"ENTER " => enter(line),
@@ -26,6 +26,8 @@ pub fn read(line: &[u8]) -> Result<Request, usize> {
         b"DROP  " => program_and_file(line).map(|(p, f)| Request::Drop { p, f }),
         b"LEAVE " => program(line).map(|p| Request::Leave { p }),
         b"CANCEL" => program(line).map(|p| Request::Cancel { p }),
+        b"FETCH " => fetch(line),
+        b"RETURN" => program(line).map(|p| Request::Return { p }),
         _ => Err(3),
     }
 }
@@ -47,7 +49,18 @@ fn program_and_file(line: &[u8]) -> Result<(usize, usize), usize> {
     Ok((p, number(&line[FILE], 1, FILES)?))
 }
 
-/// ENTER, left to right: program, label, w, r, then the length, then the files.
+/// "FETCH lines have the file in columns 10–12 and the record in 13–17".
+fn fetch(line: &[u8]) -> Result<Request, usize> {
+    if line.len() != RECORD.end {
+        return Err(4);
+    }
+    let (p, f) = program_and_file(&line[..FILE.end])?;
+    let n = number(&line[RECORD], 1, RECORDS)?;
+    Ok(Request::Fetch { p, f, n })
+}
+
+/// ENTER, left to right: program, label, w, r and the third count, then the length,
+/// then the files, "the J files last".
 fn enter(line: &[u8]) -> Result<Request, usize> {
     if line.len() < BEFORE_FILES {
         return Err(4);
@@ -58,18 +71,21 @@ fn enter(line: &[u8]) -> Result<Request, usize> {
     }
     let w = number(&line[COUNT_W], 0, FILES)?;
     let r = number(&line[COUNT_R], 0, FILES)?;
-    if line.len() != enter_length(w + r) {
+    let j = number(&line[COUNT_J], 0, FILES)?;
+    if line.len() != enter_length(w + r + j) {
         return Err(4);
     }
     let mut files = Vec::new();
     for field in line[BEFORE_FILES..].chunks(FILE_COLUMNS) {
         files.push(number(field, 1, FILES)?);
     }
-    let (v, q) = files.split_at(w);
+    let (v, rest) = files.split_at(w);
+    let (q, j) = rest.split_at(r);
     Ok(Request::Enter {
         p,
         v: group(v)?,
         q: group(q)?,
+        j: group(j)?,
     })
 }
 
@@ -104,18 +120,24 @@ pub fn write(request: &Request, label: &[u8]) -> Vec<u8> {
         Request::Drop { .. } => b"DROP  ",
         Request::Leave { .. } => b"LEAVE ",
         Request::Cancel { .. } => b"CANCEL",
+        Request::Fetch { .. } => b"FETCH ",
+        Request::Return { .. } => b"RETURN",
     };
     let (p, f) = request.numbers();
     let mut line = verb.to_vec();
     line.extend(program_columns(p));
-    if let Request::Enter { v, q, .. } = *request {
-        line.extend(label);
-        let (v, q) = (members(v), members(q));
-        line.extend(file_columns(v.len()));
-        line.extend(file_columns(q.len()));
-        line.extend(v.into_iter().chain(q).flat_map(file_columns));
-    } else if f != 0 {
-        line.extend(file_columns(f));
+    match *request {
+        Request::Enter { v, q, j, .. } => {
+            let groups = [v, q, j].map(members);
+            line.extend(label);
+            line.extend(groups.iter().flat_map(|group| file_columns(group.len())));
+            line.extend(groups.into_iter().flatten().flat_map(file_columns));
+        }
+        _ if request.has_file() => line.extend(file_columns(f)),
+        _ => {}
+    }
+    if let Request::Fetch { n, .. } = *request {
+        line.extend(record_columns(n));
     }
     line
 }

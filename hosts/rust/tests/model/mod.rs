@@ -1,9 +1,9 @@
 //! A model of the lock board, written from the text of documents 01 and 02
 //! alone and kept apart from the library: it shares no code with it. Each module
-//! holds one part of 01, with what 02's second request, cancel, and its fifth,
-//! counts, add to it; `writer` has 02's first request, `rounds` its fourth and
-//! `digraph` its sixth. `layout` has every width, length and place, `fields` the
-//! image's fields by name.
+//! holds one part of 01, with what 02's second request, cancel, its fifth, counts,
+//! and its seventh, inquiry use, add to it; `writer` has 02's first request, `rounds`
+//! its fourth and `digraph` its sixth. `layout` has every width, length and place,
+//! `fields` the image's fields by name.
 
 pub mod board;
 pub mod digraph;

@@ -1,7 +1,9 @@
 //! "A sound board": every clause that a board breaks, each under its own name.
-//! The layout's faults stand in the same list, and those of 02's counts.
+//! The layout's faults stand in the same list, and those of 02's counts and
+//! records.
 
-use super::board::{only, Board, Program, Standing, MOST_PASSES, PROGRAMS};
+use super::board::{only, Board, Program, Record, Standing, MOST_PASSES, PROGRAMS};
+use super::events::claims_meet;
 use super::order;
 use super::settle::would_give;
 
@@ -12,6 +14,9 @@ pub enum Fault {
     StandingByte,
     AwaitedNotZero,
     AwaitedRange,
+    UserWithoutFile,
+    UserNotRunning,
+    AwaitedRecordOfNoWaiter,
     WaitingLineRange,
     EntryLineRange,
     FavouredRange,
@@ -27,6 +32,7 @@ pub enum Fault {
     // Sets.
     WriteOutsideClaim,
     ReadOutsideClaim,
+    InquiryOutsideClaim,
     ClaimsMeet,
     AbsentWithSets,
     HeldWithOpen,
@@ -37,6 +43,11 @@ pub enum Fault {
     AwaitedUnclaimed,
     AwaitedOpen,
     AwaitedCanBeGiven,
+    // Records.
+    UserNotInquiring,
+    RecordInUseTwice,
+    AwaitedRecordNotInquired,
+    AwaitedRecordFree,
     // Favouring.
     FavouredNotWaiting,
     HeldWithoutFavoured,
@@ -74,6 +85,7 @@ pub fn faults(board: &Board) -> Vec<Fault> {
     for &p in &waiting {
         waiter(board, p, &mut found);
     }
+    records(board, &mut found);
     favouring(board, &mut found);
     counts(board, &waiting, &mut found);
     found.sort();
@@ -102,7 +114,10 @@ fn sets(program: &Program, found: &mut Vec<Fault>) {
     if program.r & !program.q != 0 {
         found.push(Fault::ReadOutsideClaim);
     }
-    if program.v & program.q != 0 {
+    if program.i & !program.j != 0 {
+        found.push(Fault::InquiryOutsideClaim);
+    }
+    if claims_meet(program.v, program.q, program.j) {
         found.push(Fault::ClaimsMeet);
     }
     if program.standing == Standing::Absent && program.claim() | program.open() != 0 {
@@ -124,17 +139,45 @@ fn conflict_and_order(board: &Board, found: &mut Vec<Fault>) {
     }
 }
 
+/// "01's rule on a waiter's file covers file waits only."
 fn waiter(board: &Board, p: usize, found: &mut Vec<Fault>) {
     let program = board.get(p);
     let Standing::Waiting(f) = program.standing else {
         return;
     };
+    if program.awaits().is_some() {
+        return;
+    }
     if program.claim() & only(f) == 0 {
         found.push(Fault::AwaitedUnclaimed);
     } else if program.open() & only(f) != 0 {
         found.push(Fault::AwaitedOpen);
     } else if would_give(board, p, f) {
         found.push(Fault::AwaitedCanBeGiven);
+    }
+}
+
+/// "Records in use differ, .. and an awaited record is in use; both have their file
+/// in I".
+fn records(board: &Board, found: &mut Vec<Fault>) {
+    let all = board.which(|_| true);
+    let mut check = |holds: bool, fault: Fault| {
+        if !holds {
+            found.push(fault);
+        }
+    };
+    for program in all.iter().map(|&p| board.get(p)) {
+        let inquires = |record: Record| program.i & only(record.file) != 0;
+        if let Some(record) = program.in_use {
+            let users = board.which(|other| other.in_use == Some(record));
+            check(inquires(record), Fault::UserNotInquiring);
+            check(users.len() == 1, Fault::RecordInUseTwice);
+        }
+        if let Some(record) = program.awaits() {
+            let used = board.user(record).is_some();
+            check(inquires(record), Fault::AwaitedRecordNotInquired);
+            check(used, Fault::AwaitedRecordFree);
+        }
     }
 }
 
