@@ -6,26 +6,26 @@ use super::told::told;
 /// 01's session before its last line. Program 1 writes file 1; program 2, which
 /// claims it too, waits for file 2 and is favoured; program 3 is held.
 const SESSION_OF_01: &str = "\
-ENTER   1STOCK     3  0  1  2  3 -> ADMIT   1  0  0
-ENTER   2BILLS     2  0  1  2 -> ADMIT   2  0  0
-OPEN    1  1 -> GIVEN   1  1  0
-OPEN    1  3 -> GIVEN   1  3  0
-OPEN    2  2 -> UNSAFE  2  2  0
-CLOSE   1  3 -> DONE    1  3  0; FAVOUR  2  2  0 -> 2 2 0
-ENTER   3LISTS     0  1  2 -> HELD    3  0  0
+ENTER   1STOCK     3  0  0  1  2  3 -> ADMIT   1  0  0    0
+ENTER   2BILLS     2  0  0  1  2 -> ADMIT   2  0  0    0
+OPEN    1  1 -> GIVEN   1  1  0    0
+OPEN    1  3 -> GIVEN   1  3  0    0
+OPEN    2  2 -> UNSAFE  2  2  0    0
+CLOSE   1  3 -> DONE    1  3  0    0; FAVOUR  2  2  0    0 -> 2 2 0
+ENTER   3LISTS     0  1  0  2 -> HELD    3  0  0    0
 ";
 
 /// Program 1 writes file 1; programs 2 and 3, which claim it too, wait for files
 /// that program 1 claims. The leave of program 4 favours the older waiter.
 const TWO_WAIT: &str = "\
-ENTER   1STOCK     3  0  1  2  3 -> ADMIT   1  0  0
-ENTER   2BILLS     2  0  1  2 -> ADMIT   2  0  0
-ENTER   3LISTS     2  0  1  3 -> ADMIT   3  0  0
-ENTER   4PRICES    0  0 -> ADMIT   4  0  0
-OPEN    1  1 -> GIVEN   1  1  0
-OPEN    2  2 -> UNSAFE  2  2  0
-OPEN    3  3 -> UNSAFE  3  3  0
-LEAVE   4 -> DONE    4  0  0; FAVOUR  2  2  0 -> 2 3 0
+ENTER   1STOCK     3  0  0  1  2  3 -> ADMIT   1  0  0    0
+ENTER   2BILLS     2  0  0  1  2 -> ADMIT   2  0  0    0
+ENTER   3LISTS     2  0  0  1  3 -> ADMIT   3  0  0    0
+ENTER   4PRICES    0  0  0 -> ADMIT   4  0  0    0
+OPEN    1  1 -> GIVEN   1  1  0    0
+OPEN    2  2 -> UNSAFE  2  2  0    0
+OPEN    3  3 -> UNSAFE  3  3  0    0
+LEAVE   4 -> DONE    4  0  0    0; FAVOUR  2  2  0    0 -> 2 3 0
 ";
 
 /// "It refuses a cancel of a running program with 18, after 11." A cancelled
@@ -35,18 +35,18 @@ fn a_waiter_is_cancelled() {
     told(
         "",
         "\
-ENTER   1STOCK     1  0  1 -> ADMIT   1  0  0
-OPEN    1  1 -> GIVEN   1  1  0
-ENTER   2BILLS     1  0  1 -> ADMIT   2  0  0
-OPEN    2  1 -> WAIT    2  1  0
-CANCEL  1 -> REFUSE  1  0 18
-CANCEL  3 -> REFUSE  3  0 11
-CANCEL  2 -> DONE    2  0  0
-CANCEL  2 -> REFUSE  2  0 11
-ENTER   2BILLS     0  1  1 -> ADMIT   2  0  0
-CANCEL  2 -> REFUSE  2  0 18
-OPEN    2  1 -> WAIT    2  1  0
-LEAVE   1 -> DONE    1  0  0; GIVEN   2  1  0
+ENTER   1STOCK     1  0  0  1 -> ADMIT   1  0  0    0
+OPEN    1  1 -> GIVEN   1  1  0    0
+ENTER   2BILLS     1  0  0  1 -> ADMIT   2  0  0    0
+OPEN    2  1 -> WAIT    2  1  0    0
+CANCEL  1 -> REFUSE  1  0 18    0
+CANCEL  3 -> REFUSE  3  0 11    0
+CANCEL  2 -> DONE    2  0  0    0
+CANCEL  2 -> REFUSE  2  0 11    0
+ENTER   2BILLS     0  1  0  1 -> ADMIT   2  0  0    0
+CANCEL  2 -> REFUSE  2  0 18    0
+OPEN    2  1 -> WAIT    2  1  0    0
+LEAVE   1 -> DONE    1  0  0    0; GIVEN   2  1  0    0
 ORDER 2",
     );
 }
@@ -57,19 +57,19 @@ fn the_waiting_line_keeps_its_order() {
     told(
         "",
         "\
-ENTER   1STOCK     1  0  1 -> ADMIT   1  0  0
-OPEN    1  1 -> GIVEN   1  1  0
-ENTER   2BILLS     0  1  1 -> ADMIT   2  0  0
-ENTER   3LISTS     0  1  1 -> ADMIT   3  0  0
-ENTER   4PRICES    0  1  1 -> ADMIT   4  0  0
-ENTER   5STOCK     0  1  1 -> ADMIT   5  0  0
-OPEN    3  1 -> WAIT    3  1  0
-OPEN    5  1 -> WAIT    5  1  0
-OPEN    2  1 -> WAIT    2  1  0
-OPEN    4  1 -> WAIT    4  1  0
-CANCEL  3 -> DONE    3  0  0
-CANCEL  2 -> DONE    2  0  0
-LEAVE   1 -> DONE    1  0  0; GIVEN   5  1  0; GIVEN   4  1  0
+ENTER   1STOCK     1  0  0  1 -> ADMIT   1  0  0    0
+OPEN    1  1 -> GIVEN   1  1  0    0
+ENTER   2BILLS     0  1  0  1 -> ADMIT   2  0  0    0
+ENTER   3LISTS     0  1  0  1 -> ADMIT   3  0  0    0
+ENTER   4PRICES    0  1  0  1 -> ADMIT   4  0  0    0
+ENTER   5STOCK     0  1  0  1 -> ADMIT   5  0  0    0
+OPEN    3  1 -> WAIT    3  1  0    0
+OPEN    5  1 -> WAIT    5  1  0    0
+OPEN    2  1 -> WAIT    2  1  0    0
+OPEN    4  1 -> WAIT    4  1  0    0
+CANCEL  3 -> DONE    3  0  0    0
+CANCEL  2 -> DONE    2  0  0    0
+LEAVE   1 -> DONE    1  0  0    0; GIVEN   5  1  0    0; GIVEN   4  1  0    0
 ORDER 4 5",
     );
 }
@@ -81,14 +81,14 @@ fn files_of_a_cancelled_waiter_are_given() {
     told(
         "",
         "\
-ENTER   1STOCK     2  0  1  2 -> ADMIT   1  0  0
-OPEN    1  1 -> GIVEN   1  1  0
-ENTER   3LISTS     1  0  2 -> ADMIT   3  0  0
-OPEN    3  2 -> GIVEN   3  2  0
-OPEN    1  2 -> WAIT    1  2  0
-ENTER   2BILLS     1  0  1 -> ADMIT   2  0  0 -> 1=1
-OPEN    2  1 -> WAIT    2  1  0
-CANCEL  1 -> DONE    1  0  0; GIVEN   2  1  0 -> 1=0
+ENTER   1STOCK     2  0  0  1  2 -> ADMIT   1  0  0    0
+OPEN    1  1 -> GIVEN   1  1  0    0
+ENTER   3LISTS     1  0  0  2 -> ADMIT   3  0  0    0
+OPEN    3  2 -> GIVEN   3  2  0    0
+OPEN    1  2 -> WAIT    1  2  0    0
+ENTER   2BILLS     1  0  0  1 -> ADMIT   2  0  0    0 -> 1=1
+OPEN    2  1 -> WAIT    2  1  0    0
+CANCEL  1 -> DONE    1  0  0    0; GIVEN   2  1  0    0 -> 1=0
 ORDER 2 3",
     );
 }
@@ -100,13 +100,13 @@ fn a_cancel_that_favours_is_not_counted() {
     told(
         "",
         "\
-ENTER   1STOCK     2  0  1  2 -> ADMIT   1  0  0
-ENTER   2BILLS     2  0  1  2 -> ADMIT   2  0  0
-ENTER   3LISTS     1  0  1 -> ADMIT   3  0  0
-OPEN    1  1 -> GIVEN   1  1  0
-OPEN    2  2 -> UNSAFE  2  2  0
-OPEN    3  1 -> WAIT    3  1  0
-CANCEL  3 -> DONE    3  0  0; FAVOUR  2  2  0 -> 2 2 0
+ENTER   1STOCK     2  0  0  1  2 -> ADMIT   1  0  0    0
+ENTER   2BILLS     2  0  0  1  2 -> ADMIT   2  0  0    0
+ENTER   3LISTS     1  0  0  1 -> ADMIT   3  0  0    0
+OPEN    1  1 -> GIVEN   1  1  0    0
+OPEN    2  2 -> UNSAFE  2  2  0    0
+OPEN    3  1 -> WAIT    3  1  0    0
+CANCEL  3 -> DONE    3  0  0    0; FAVOUR  2  2  0    0 -> 2 2 0
 ORDER 1 2",
     );
 }
@@ -118,10 +118,10 @@ fn the_cancel_of_the_favoured_one_admits_the_held() {
     told(
         SESSION_OF_01,
         "\
-CANCEL  2 -> DONE    2  0  0; ADMIT   3  0  0 -> 0 0 0
-ENTER   2BILLS     2  0  1  2 -> ADMIT   2  0  0
-OPEN    2  2 -> UNSAFE  2  2  0
-LEAVE   3 -> DONE    3  0  0; FAVOUR  2  2  0 -> 2 2 0
+CANCEL  2 -> DONE    2  0  0    0; ADMIT   3  0  0    0 -> 0 0 0
+ENTER   2BILLS     2  0  0  1  2 -> ADMIT   2  0  0    0
+OPEN    2  2 -> UNSAFE  2  2  0    0
+LEAVE   3 -> DONE    3  0  0    0; FAVOUR  2  2  0    0 -> 2 2 0
 ORDER 1 2",
     );
 }
@@ -133,9 +133,9 @@ fn the_cancel_of_the_favoured_one_favours_another() {
     told(
         TWO_WAIT,
         "\
-ENTER   4PRICES    1  0  4 -> HELD    4  0  0
-CANCEL  2 -> DONE    2  0  0; FAVOUR  3  3  0 -> 3 2 0
-LEAVE   1 -> DONE    1  0  0; GIVEN   3  3  0; ADMIT   4  0  0 -> 0 0 0
+ENTER   4PRICES    1  0  0  4 -> HELD    4  0  0    0
+CANCEL  2 -> DONE    2  0  0    0; FAVOUR  3  3  0    0 -> 3 2 0
+LEAVE   1 -> DONE    1  0  0    0; GIVEN   3  3  0    0; ADMIT   4  0  0    0 -> 0 0 0
 ORDER 3 4",
     );
 }
@@ -147,8 +147,8 @@ fn the_cancel_of_another_waiter_counts_as_a_leave() {
     told(
         TWO_WAIT,
         "\
-CANCEL  3 -> DONE    3  0  0 -> 2 3 1
-LEAVE   1 -> DONE    1  0  0; GIVEN   2  2  0 -> 0 0 0
+CANCEL  3 -> DONE    3  0  0    0 -> 2 3 1
+LEAVE   1 -> DONE    1  0  0    0; GIVEN   2  2  0    0 -> 0 0 0
 ORDER 2",
     );
 }
@@ -160,17 +160,17 @@ fn a_counted_cancel_gives_the_favoured_one_its_file() {
     told(
         "",
         "\
-ENTER   1STOCK     3  0  1  2  3 -> ADMIT   1  0  0
-ENTER   2BILLS     2  0  1  2 -> ADMIT   2  0  0
-ENTER   3LISTS     1  0  3 -> ADMIT   3  0  0
-ENTER   4PRICES    0  0 -> ADMIT   4  0  0
-OPEN    1  1 -> GIVEN   1  1  0
-OPEN    2  2 -> UNSAFE  2  2  0
-OPEN    3  3 -> GIVEN   3  3  0
-OPEN    1  3 -> WAIT    1  3  0
-LEAVE   4 -> DONE    4  0  0; FAVOUR  2  2  0 -> 2 3 0
-ENTER   5STOCK     1  0  5 -> HELD    5  0  0
-CANCEL  1 -> DONE    1  0  0; GIVEN   2  2  0; ADMIT   5  0  0 -> 0 0 0
+ENTER   1STOCK     3  0  0  1  2  3 -> ADMIT   1  0  0    0
+ENTER   2BILLS     2  0  0  1  2 -> ADMIT   2  0  0    0
+ENTER   3LISTS     1  0  0  3 -> ADMIT   3  0  0    0
+ENTER   4PRICES    0  0  0 -> ADMIT   4  0  0    0
+OPEN    1  1 -> GIVEN   1  1  0    0
+OPEN    2  2 -> UNSAFE  2  2  0    0
+OPEN    3  3 -> GIVEN   3  3  0    0
+OPEN    1  3 -> WAIT    1  3  0    0
+LEAVE   4 -> DONE    4  0  0    0; FAVOUR  2  2  0    0 -> 2 3 0
+ENTER   5STOCK     1  0  0  5 -> HELD    5  0  0    0
+CANCEL  1 -> DONE    1  0  0    0; GIVEN   2  2  0    0; ADMIT   5  0  0    0 -> 0 0 0
 ORDER 2 3 5",
     );
 }
@@ -183,15 +183,15 @@ fn the_cancel_of_a_held_one_counts_nowhere() {
     told(
         SESSION_OF_01,
         "\
-ENTER   4PRICES    1  0  4 -> HELD    4  0  0
-ENTER   5STOCK     0  0 -> HELD    5  0  0
-CANCEL  3 -> DONE    3  0  0
-CANCEL  3 -> REFUSE  3  0 11
-ENTER   3LISTS     0  1  2 -> HELD    3  0  0
-ENTER   6BILLS     0  0 -> HELD    6  0  0
-CANCEL  6 -> DONE    6  0  0
-LEAVE   1 -> DONE    1  0  0; GIVEN   2  2  0; ADMIT   4  0  0; ADMIT   5  0  0; ADMIT   3  0  0 -> 0 0 0
-CANCEL  4 -> REFUSE  4  0 18
+ENTER   4PRICES    1  0  0  4 -> HELD    4  0  0    0
+ENTER   5STOCK     0  0  0 -> HELD    5  0  0    0
+CANCEL  3 -> DONE    3  0  0    0
+CANCEL  3 -> REFUSE  3  0 11    0
+ENTER   3LISTS     0  1  0  2 -> HELD    3  0  0    0
+ENTER   6BILLS     0  0  0 -> HELD    6  0  0    0
+CANCEL  6 -> DONE    6  0  0    0
+LEAVE   1 -> DONE    1  0  0    0; GIVEN   2  2  0    0; ADMIT   4  0  0    0; ADMIT   5  0  0    0; ADMIT   3  0  0    0 -> 0 0 0
+CANCEL  4 -> REFUSE  4  0 18    0
 ORDER 2 3 4 5",
     );
 }

@@ -3,14 +3,14 @@
 //! the three calls of a C host on images from sessions, sound and damaged.
 
 use super::{calls, direct, seed};
-use crate::compare::asked::{Asking, Record};
+use crate::compare::asked::{Asking, Question};
 use crate::compare::counters::Counters;
 use crate::compare::digraph::{fault, fault_of_loop, library_check, library_loop};
 use crate::compare::digraph::{library_reach, model_reach};
 use crate::generate::images::{pool, DAMAGES};
 use crate::generate::numbers::{self, NUMBERS};
 use crate::generate::random::Random;
-use crate::model::board::{members, only, Board, Program, Standing, FILES, PROGRAMS};
+use crate::model::board::{members, only, Board, Files, Program, Standing, FILES, PROGRAMS};
 use crate::model::digraph::{self, is_loop, is_loop_with, reached, selves, Looped, LOOP, REACH};
 use crate::model::image::{self, REFUSED_1, REFUSED_17, REFUSED_8};
 use crate::model::order;
@@ -124,6 +124,28 @@ fn a_file_to_read_is_given_to_read() {
         };
     }
     assert!(checked(&board, 2, 2, &[1, 2]), "1 may write what 2 reads");
+    assert!(!checked(&board, 2, 2, &[2, 3]) && !checked(&board, 2, 2, &[1, 2, 3]));
+}
+
+/// One who inquires into a file holds back those that may write or read it, and none
+/// that may inquire into it.
+#[test]
+fn a_file_to_inquire_into_is_given_for_inquiry() {
+    let mut board = Board::EMPTY;
+    *board.get_mut(1) = Program {
+        q: only(2),
+        ..writer(&[1], &[1])
+    };
+    for p in [2, 3] {
+        *board.get_mut(p) = Program {
+            j: only(2),
+            ..writer(&[1], &[])
+        };
+    }
+    assert!(
+        checked(&board, 2, 2, &[1, 2]),
+        "1 may read what 2 inquires into"
+    );
     assert!(!checked(&board, 2, 2, &[2, 3]) && !checked(&board, 2, 2, &[1, 2, 3]));
 }
 
@@ -242,12 +264,12 @@ fn through_asked(boards: &[Board]) {
     };
     let mut asking = Asking::new();
     for board in boards {
-        asking.add(Record::Image(image::write(board)));
-        asking.add(Record::Matrix);
+        asking.add(Question::Image(image::write(board)));
+        asking.add(Question::Matrix);
         for list in [&[20, 31, 7][..], &[20, 7], &[7, 20], &[7]] {
             for (p, f) in [(20, 6), (20, 4), (31, 6), (7, 5), (9, 9), (9, 10), (33, 9)] {
                 let list = list.to_vec();
-                asking.add(Record::Check { p, f, list });
+                asking.add(Question::Check { p, f, list });
             }
         }
     }
@@ -302,7 +324,22 @@ fn every_digraph_of_four_programs() {
     assert_eq!((met.calls, met.get("with an order")), (4096, 543));
 }
 
-/// Every arrangement of two programs with two files: any of the four sets.
+/// A running program with these sets.
+fn running([v, q, j, w, r, i]: [Files; 6]) -> Program {
+    Program {
+        standing: Standing::Running,
+        v,
+        q,
+        j,
+        w,
+        r,
+        i,
+        ..Program::ABSENT
+    }
+}
+
+/// Every arrangement of two programs with two files, without inquiry: any of the four
+/// sets.
 #[test]
 fn every_arrangement_of_two_programs() {
     let mut met = Counters::default();
@@ -310,18 +347,28 @@ fn every_arrangement_of_two_programs() {
         let mut board = Board::EMPTY;
         for p in 1..=2 {
             let part = |at: usize| sets >> (8 * (p - 1) + 2 * at) & 3;
-            *board.get_mut(p) = Program {
-                standing: Standing::Running,
-                v: part(0),
-                q: part(1),
-                w: part(2),
-                r: part(3),
-            };
+            *board.get_mut(p) = running([part(0), part(1), 0, part(2), part(3), 0]);
         }
         by_all_orders(&board, &mut met);
     }
     met.print("arrangements of two programs");
     met.assert_met(&["loop of 2", "with an order"]);
+}
+
+/// Every arrangement of three programs with one file: any of the six sets.
+#[test]
+fn every_arrangement_of_three_programs() {
+    let mut met = Counters::default();
+    for sets in 0..1u64 << 18 {
+        let mut board = Board::EMPTY;
+        for p in 1..=3 {
+            let part = |at: usize| sets >> (6 * (p - 1) + at) & 1;
+            *board.get_mut(p) = running([0, 1, 2, 3, 4, 5].map(part));
+        }
+        by_all_orders(&board, &mut met);
+    }
+    met.print("arrangements of three programs");
+    met.assert_met(&["loop of 2", "loop of 3", "with an order"]);
 }
 
 /// Any sets and any standings of up to six programs, on few files; some of them
@@ -334,17 +381,14 @@ fn arrangement(random: &mut Random) -> Board {
         k => ([80, 200, 500][k - 1], false),
     };
     for (at, p) in random.shuffled(PROGRAMS)[..n].iter().enumerate() {
-        let [v, q, w, r] = [0; 4].map(|none: u64| {
+        let sets = [0; 6].map(|none: u64| {
             let chosen = files.iter().filter(|_| random.per_mille(share));
             chosen.fold(none, |set, &f| set | only(f))
         });
         let program = board.get_mut(*p);
         *program = Program {
             standing: any_standing(random),
-            v,
-            q,
-            w,
-            r,
+            ..running(sets)
         };
         if ring {
             program.w |= only(files[at]);
@@ -374,8 +418,8 @@ fn any_arrangement_agrees() {
     while met.calls < calls() / 10 {
         let board = arrangement(&mut random);
         by_all_orders(&board, &mut met);
-        asking.add(Record::Image(image::write(&board)));
-        asking.add(Record::Matrix);
+        asking.add(Question::Image(image::write(&board)));
+        asking.add(Question::Matrix);
         let (p, f) = numbers_of(&board, &mut random);
         let list = match digraph::some_loop(&board) {
             Some(list) => altered(&list, &mut random),
@@ -385,8 +429,8 @@ fn any_arrangement_agrees() {
         if is_loop_with(&board, p, f, &list) {
             met.add("taken");
         }
-        asking.add(Record::Check { p, f, list });
-        if asking.records.len() > 3000 {
+        asking.add(Question::Check { p, f, list });
+        if asking.questions.len() > 3000 {
             path.iter().for_each(|path| asking.check(path));
             asking = Asking::new();
         }
@@ -455,8 +499,10 @@ fn images_have_their_digraphs() {
         lists(&image, board.as_ref(), &mut random, &mut met);
     }
     met.print("digraphs of images");
-    met.assert_met(&["refusal 1", "refusal 8", "refusal 17", "no wait", "loop"]);
+    met.assert_met(&["refusal 1", "refusal 8", "refusal 17", "no file awaited"]);
+    met.assert_met(&["loop"]);
     met.assert_met(&["taken", "not taken", "not taken of a waiter"]);
+    met.assert_met(&["waits for a record"]);
     met.assert_met(&["shortest loop of 2", "shortest loop of 3"]);
 }
 
@@ -494,7 +540,7 @@ fn all_loops(image: &[u8], board: Option<&Board>, met: &mut Counters) {
                 Looped::Refused(REFUSED_1) => met.add("refusal 1"),
                 Looped::Refused(REFUSED_8) => met.add("refusal 8"),
                 Looped::Refused(_) => met.add("refusal 17"),
-                Looped::None => met.add("no wait"),
+                Looped::None => met.add("no file awaited"),
                 Looped::Any(_) => met.add("loop"),
             }
         }
@@ -511,6 +557,11 @@ fn lists(image: &[u8], board: Option<&Board>, random: &mut Random, met: &mut Cou
     };
     for &p in &board.waiting {
         let (given, f) = (board.with_given(p, awaited(board, p)), awaited(board, p));
+        if board.get(p).awaits().is_some() {
+            assert_eq!(digraph::some_loop(&given), None, "it has its file open");
+            met.add("waits for a record");
+            continue;
+        }
         let own = digraph::some_loop(&given).expect("a waiter's file can't be given");
         met.add(&format!("shortest loop of {}", own.len()));
         let asked = library_loop(image, p as u64, LOOP);

@@ -3,9 +3,9 @@
 //! vectors-digraph/README.md.
 
 use super::direct;
-use crate::compare::asked::{Asking, Record};
+use crate::compare::asked::{Asking, Question};
 use crate::compare::digraph::{library_check, library_reach};
-use crate::model::board::{only, Board, Files, Standing, PROGRAMS};
+use crate::model::board::{only, Board, Files, Record, Standing, PROGRAMS};
 use crate::model::digraph::{held_back, is_loop_with, reached, rows, selves, REACH};
 use crate::model::image::{self, REFUSED_1};
 use crate::model::order;
@@ -34,10 +34,10 @@ fn set(word: &str) -> Files {
 
 /// `p N STANDING awaited-file record-in-use awaited-record count V Q J W R I`.
 fn program(board: &mut Board, words: &[&str]) {
-    let [p, standing, awaited, "0", "0", count, v, q, "-", w, r, "-"] = *words else {
+    let [p, standing, awaited, in_use, record, count, v, q, j, w, r, i] = *words else {
         panic!("no program: {words:?}");
     };
-    let (p, awaited) = (number(p), number(awaited));
+    let [p, awaited, in_use, record] = [p, awaited, in_use, record].map(number);
     let standing = match standing {
         "absent" => Standing::Absent,
         "run" => Standing::Running,
@@ -45,11 +45,17 @@ fn program(board: &mut Board, words: &[&str]) {
         "held" => Standing::Held,
         _ => panic!("no standing: {standing:?}"),
     };
-    assert!(awaited == 0 || standing == Standing::Waiting(awaited));
+    assert!(awaited == 0 || in_use != 0 || standing == Standing::Waiting(awaited));
     *board.count_mut(p) = number(count);
     let program = board.get_mut(p);
     program.standing = standing;
-    (program.v, program.q, program.w, program.r) = (set(v), set(q), set(w), set(r));
+    (program.v, program.q, program.j) = (set(v), set(q), set(j));
+    (program.w, program.r, program.i) = (set(w), set(r), set(i));
+    program.awaited_record = record;
+    program.in_use = (in_use != 0).then_some(Record {
+        file: awaited,
+        number: in_use,
+    });
 }
 
 /// Takes one line of a script; gives its words if it is a question.
@@ -221,20 +227,20 @@ fn any_board_has_its_matrix_and_its_loops() {
     let mut asking = Asking::new();
     for name in ["matrix-base", "checker-base", "edge-base"] {
         for case in cases(name) {
-            let record = match case.question[0].as_str() {
+            let question = match case.question[0].as_str() {
                 "matrix" | "selves" => {
                     let answer = by_rows(&case, &rows(&case.board));
                     assert_eq!(answer, Some(case.answer));
-                    Record::Matrix
+                    Question::Matrix
                 }
                 "check" => {
                     let (p, f, list) = asked(&case.question);
-                    Record::Check { p, f, list }
+                    Question::Check { p, f, list }
                 }
                 _ => continue,
             };
-            asking.add(Record::Image(image::write(&case.board)));
-            asking.add(record);
+            asking.add(Question::Image(image::write(&case.board)));
+            asking.add(question);
         }
     }
     asking.check(&path);

@@ -1,12 +1,12 @@
-//! The six direct calls with any numbers, on boards sound and unsound, the
+//! The eight direct calls with any numbers, on boards sound and unsound, the
 //! labels of lines, and line calls on a lent board, through the program
 //! `asked`. LOCK_BOARD_ASKED names the program; else it is the one built here,
 //! and the tests that run it are left out if there is none.
 
 use super::{calls, of_the_model, seed};
-use crate::compare::asked::{Asking, Record};
+use crate::compare::asked::{Asking, Question};
 use crate::compare::call::Call;
-use crate::compare::counters::{Counters, BEHIND_A_LOWER, CANCELS, COUNTS};
+use crate::compare::counters::{Counters, BEHIND_A_LOWER, CANCELS, COUNTS, RECORDS};
 use crate::compare::programs;
 use crate::generate::images::{pool, DAMAGES};
 use crate::generate::lines;
@@ -51,8 +51,14 @@ fn call(request: Request, asking: &mut Asking, met: &mut Counters) {
     let before = asking.board.clone();
     let reply = asking.call(request);
     count_boards(&before, &reply, met);
-    if matches!(request, Request::Cancel { .. }) && reply.refusal != 0 {
-        met.add(&format!("cancel refused with {}", reply.refusal));
+    let name = match request {
+        Request::Cancel { .. } => "cancel",
+        Request::Fetch { .. } => "fetch",
+        Request::Return { .. } => "return",
+        _ => return,
+    };
+    if reply.refusal != 0 {
+        met.add(&format!("{name} refused with {}", reply.refusal));
     }
 }
 
@@ -89,9 +95,10 @@ fn direct_calls_agree() {
         round += 1;
     }
     met.print("direct calls");
-    assert_refusals(&met, (8..=16).chain([18]));
+    assert_refusals(&met, (8..=16).chain(18..=21));
     met.assert_met(&CANCELS);
     met.assert_met(&COUNTS);
+    met.assert_met(&RECORDS);
     met.assert_met(&["cancel refused with 8"]);
     for word in Word::ALL.iter().filter(|&&word| word != Word::Refuse) {
         let name = std::str::from_utf8(word.text()).unwrap().trim_end();
@@ -107,18 +114,21 @@ fn astray(request: Request, random: &mut Random) -> Request {
         return request;
     }
     let (p, f) = request.numbers();
-    let [p, f] = [p, f].map(|number| numbers::astray(number, random));
+    let [p, f, n] = [p, f, request.record()].map(|number| numbers::astray(number, random));
     match request {
-        Request::Enter { v, q, .. } => Request::Enter {
+        Request::Enter { v, q, j, .. } => Request::Enter {
             p,
             v: v | random.next() & random.next(),
             q,
+            j,
         },
         Request::Open { .. } => Request::Open { p, f },
         Request::Close { .. } => Request::Close { p, f },
         Request::Drop { .. } => Request::Drop { p, f },
         Request::Leave { .. } => Request::Leave { p },
         Request::Cancel { .. } => Request::Cancel { p },
+        Request::Fetch { .. } => Request::Fetch { p, f, n },
+        Request::Return { .. } => Request::Return { p },
     }
 }
 
@@ -128,8 +138,23 @@ fn set(files: &[usize]) -> Files {
 }
 
 fn enter(p: usize, v: &[usize], q: &[usize]) -> Request {
-    let (v, q) = (set(v), set(q));
-    Request::Enter { p, v, q }
+    let (v, q, j) = (set(v), set(q), 0);
+    Request::Enter { p, v, q, j }
+}
+
+/// Two programs that inquire into file 1: the first has its record 7, for which the
+/// second waits.
+fn clerks() -> Vec<Request> {
+    let (v, q, j) = (0, 0, only(1));
+    let clerk = |p| {
+        let enter = Request::Enter { p, v, q, j };
+        [
+            enter,
+            Request::Open { p, f: 1 },
+            Request::Fetch { p, f: 1, n: 7 },
+        ]
+    };
+    [1, 2].into_iter().flat_map(clerk).collect()
 }
 
 /// 01's session as direct calls; all but the last leave a program running, one
@@ -157,8 +182,8 @@ fn board_after(requests: &[Request]) -> Vec<u8> {
 }
 
 /// Every call with every pair of the numbers, on the empty board, on one with
-/// running, waiting and held programs, and on one with the last program and
-/// the last file.
+/// running, waiting and held programs, on one with a record in use and awaited, and
+/// on one with the last program and the last file.
 #[test]
 fn direct_calls_agree_on_edges() {
     let Some(path) = path() else {
@@ -167,20 +192,35 @@ fn direct_calls_agree_on_edges() {
     let session = session();
     let (p, f) = (PROGRAMS, FILES);
     let last = [enter(p, &[f], &[f - 1]), Request::Open { p, f }];
-    let boards = [&[], &session[..7], &last[..]].map(board_after);
+    let boards = [&[], &session[..7], &clerks()[..], &last[..]].map(board_after);
     let mut met = Counters::default();
     for board in boards {
         let mut asking = Asking::new();
         for request in edges() {
-            asking.add(Record::Image(board.clone()));
+            asking.add(Question::Image(board.clone()));
             call(request, &mut asking, &mut met);
         }
         asking.check(&path);
     }
     met.print("direct edges");
-    assert_refusals(&met, (8..=16).chain([18]));
+    assert_refusals(&met, (8..=16).chain(18..=21));
     met.assert_met(&EDGES_OF_CANCEL);
+    met.assert_met(&EDGES_OF_RECORDS);
 }
+
+/// What fetches and returns with every number meet on those boards.
+const EDGES_OF_RECORDS: [&str; 10] = [
+    "fetch refused with 8",
+    "fetch refused with 19",
+    "fetch refused with 11",
+    "fetch refused with 12",
+    "fetch refused with 13",
+    "fetch refused with 21",
+    "fetch refused with 20",
+    "return refused with 8",
+    "return refused with 20",
+    "return that hands on",
+];
 
 /// What cancels with every number meet on those boards.
 const EDGES_OF_CANCEL: [&str; 6] = [
@@ -199,13 +239,18 @@ fn edges() -> Vec<Request> {
     for p in NUMBERS {
         all.push(Request::Leave { p });
         all.push(Request::Cancel { p });
+        all.push(Request::Return { p });
         for f in NUMBERS {
             all.push(Request::Open { p, f });
             all.push(Request::Close { p, f });
             all.push(Request::Drop { p, f });
+            all.extend([0, 7, 65_535, 65_536].map(|n| Request::Fetch { p, f, n }));
         }
+        all.extend(NUMBERS.map(|n| Request::Fetch { p, f: 1, n }));
         for v in SETS {
-            all.extend(SETS.map(|q| Request::Enter { p, v, q }));
+            all.extend(SETS.map(|q| Request::Enter { p, v, q, j: 0 }));
+            all.extend(SETS.map(|j| Request::Enter { p, v, q: 0, j }));
+            all.extend(SETS.map(|j| Request::Enter { p, v: 0, q: v, j }));
         }
     }
     all
@@ -235,6 +280,7 @@ fn direct_calls_agree_on_images() {
     assert_refusals(&met, [1, 8].into_iter());
     met.assert_met(&["cancel refused with 1", "cancel refused with 8"]);
     met.assert_met(&CANCELS[..6]);
+    met.assert_met(&RECORDS[..4]);
     met.assert_met(&[BEHIND_A_LOWER]);
     for name in ["refused image", "unsound board", "sound board"] {
         assert!(met.get(name) > 0, "no {name}");
@@ -248,7 +294,7 @@ fn follow(image: Vec<u8>, asking: &mut Asking, random: &mut Random, met: &mut Co
         (Ok(_), Err(_)) => "unsound board",
         (Ok(_), Ok(_)) => "sound board",
     });
-    asking.add(Record::Image(image));
+    asking.add(Question::Image(image));
     let (cast, from) = (Cast::new(&PROFILES[0], random), random.below(100));
     for at in from..from + 3 {
         let request = match image::read(&asking.board) {
@@ -283,21 +329,22 @@ fn line_calls_on_a_lent_board_agree() {
             let reply = lent(request, &mut asking, &mut random);
             count_boards(&before, &reply, &mut met);
             if !sound {
-                asking.add(Record::Image(Asking::new().board));
+                asking.add(Question::Image(Asking::new().board));
             }
             if random.per_mille(20) {
                 let mut image = images[random.below(images.len())].clone();
                 let board = image::layout(&image).expect("a sound image").0;
                 DAMAGES[random.below(DAMAGES.len())](&mut image, &board, &mut random);
-                asking.add(Record::Image(image));
+                asking.add(Question::Image(image));
             }
         }
         asking.check(&path);
         round += 1;
     }
     met.print("lent boards");
-    assert_refusals(&met, (1..=7).chain(9..=16).chain([18]));
+    assert_refusals(&met, (1..=7).chain(9..=16).chain([18, 20, 21]));
     met.assert_met(&CANCELS[2..]);
+    met.assert_met(&RECORDS[..4]);
 }
 
 /// A request as a line on the lent board; one in ten as a direct call.
@@ -313,28 +360,32 @@ fn lent(request: Request, asking: &mut Asking, random: &mut Random) -> Reply {
 }
 
 /// Lines with the label that 01 gives each, if it has one.
-const LABELS: [(&[u8], &[u8]); 18] = [
-    (b"ENTER   1STOCK     1  0  3", b"STOCK   "),
-    (b"ENTER  32        0  0", b""),
-    (b"ENTER  32          0  0", b"        "),
-    (b"ENTER   1 a~!1234  0  1 64", b" a~!1234"),
+const LABELS: [(&[u8], &[u8]); 22] = [
+    (b"ENTER   1STOCK     1  0  0  3", b"STOCK   "),
+    (b"ENTER  32        0  0  0", b""),
+    (b"ENTER  32          0  0  0", b"        "),
+    (b"ENTER   1 a~!1234  0  1  0 64", b" a~!1234"),
+    (b"ENTER   1CLERKS    0  0  1 64", b"CLERKS  "),
     // taken by the reader, and refused by the board: V and Q meet
-    (b"ENTER   1MEETING   1  1  3  3", b"MEETING "),
+    (b"ENTER   1MEETING   1  1  0  3  3", b"MEETING "),
     // refused: 3, 4, 5, 6, 7
-    (b"enter   1STOCK     1  0  3", b""),
+    (b"enter   1STOCK     1  0  0  3", b""),
     (b"ENTER", b""),
     (b"", b""),
-    (b"ENTER   1STOCK     1  0  3 ", b""),
-    (b"ENTER   1STOCK     1  0", b""),
-    (b"ENTER   0STOCK     1  0  3", b""),
-    (b"ENTER   1STO\x1FK     1  0  3", b""),
-    (b"ENTER   1STOCK     2  0  3  3", b""),
+    (b"ENTER   1STOCK     1  0  0  3 ", b""),
+    (b"ENTER   1STOCK     1  0  0", b""),
+    (b"ENTER   0STOCK     1  0  0  3", b""),
+    (b"ENTER   1STO\x1FK     1  0  0  3", b""),
+    (b"ENTER   1STOCK     2  0  0  3  3", b""),
     // other verbs
     (b"OPEN    1  1", b""),
     (b"LEAVE   1", b""),
     (b"CANCEL  1", b""),
-    (b"OPEN    1STOCK     1  0  3", b""),
-    (b"CANCEL  1STOCK     1  0  3", b""),
+    (b"RETURN  1", b""),
+    (b"FETCH   1  1    1", b""),
+    (b"OPEN    1STOCK     1  0  0  3", b""),
+    (b"CANCEL  1STOCK     1  0  0  3", b""),
+    (b"FETCH   1STOCK     1  0  0  3", b""),
 ];
 
 #[test]
@@ -349,7 +400,7 @@ fn labels_are_parts_of_lines() {
     // Program 1 is on the board, so that it refuses these lines with 9.
     asking.call(enter(1, &[1], &[]));
     for (text, _) in LABELS {
-        asking.add(Record::Label(text.to_vec()));
+        asking.add(Question::Label(text.to_vec()));
         assert_eq!(asking.call(enter(1, &[], &[])).refusal, 9);
     }
     asking.check(&path);
@@ -374,7 +425,7 @@ fn labels_agree() {
             (Err(_), true) => "refused line",
             _ => "wrong label",
         });
-        asking.add(Record::Label(text));
+        asking.add(Question::Label(text));
     }
     asking.check(&path);
     met.print("labels");
@@ -394,7 +445,7 @@ fn enter_behind_a_count_of_8(asking: &mut Asking) -> Vec<(Word, usize)> {
         Request::Open { p: 2, f: 1 },
     ]);
     image[image::COUNTS + 2 - 1] = MOST_PASSES as u8;
-    asking.add(Record::Image(image));
+    asking.add(Question::Image(image));
     let reply = asking.call(enter(3, &[], &[]));
     let line = |line: &Entry| (line.word, line.program);
     reply.lines.iter().map(line).collect()
@@ -403,11 +454,11 @@ fn enter_behind_a_count_of_8(asking: &mut Asking) -> Vec<(Word, usize)> {
 /// What crates/asked is run on when it is proved, and what it must write, are
 /// the model's: 01's session, whose UNSAFE carries a loop, cancels of a waiting,
 /// an absent and a running program, a number out of range, a line on the lent
-/// board, a board that is not sound, an enter that favours, labels, matrices and
-/// lists to check. "Which loop is free": 2 1 is the crate's choice, and the model's
-/// checker takes it.
+/// board, a board that is not sound, an enter that favours, fetches and returns,
+/// labels, matrices and lists to check. "Which loop is free": 2 1 is the crate's
+/// choice, and the model's checker takes it.
 #[test]
-fn records_of_asked_agree_with_the_model() {
+fn questions_of_asked_agree_with_the_model() {
     let mut asking = Asking::new();
     for request in session() {
         asking.call(request);
@@ -428,16 +479,51 @@ fn records_of_asked_agree_with_the_model() {
     asking.line(Call::plain(b"LEAVE   2"));
     let mut image = asking.board.clone();
     image[image::FAVOURED] = 2;
-    asking.add(Record::Image(image));
+    asking.add(Question::Image(image));
     assert_eq!(asking.call(Request::Leave { p: 2 }).refusal, 1);
     let lines = enter_behind_a_count_of_8(&mut asking);
     assert_eq!(lines, [(Word::Held, 3), (Word::Favour, 2)]);
-    asking.add(Record::Label(LABELS[0].0.to_vec()));
-    asking.add(Record::Label(LABELS[1].0.to_vec()));
+    fetches_and_returns(&mut asking);
+    asking.add(Question::Label(LABELS[0].0.to_vec()));
+    asking.add(Question::Label(LABELS[1].0.to_vec()));
     matrices_and_lists(&mut asking);
     let folder = Path::new(env!("CARGO_MANIFEST_DIR")).join("../../crates/asked");
     of_the_model(&folder.join("stdin"), &asking.input());
     of_the_model(&folder.join("stdout"), &asking.output(&[&[2, 1]]));
+}
+
+/// Two clerks at one record: refusals of both kinds of calls, the return that hands
+/// it on, and the leave with it.
+fn fetches_and_returns(asking: &mut Asking) {
+    asking.add(Question::Image(board_after(&clerks())));
+    for (request, refusal) in [
+        (Request::Fetch { p: 1, f: 65, n: 0 }, 8),
+        (Request::Fetch { p: 1, f: 1, n: 0 }, 19),
+        (
+            Request::Fetch {
+                p: 3,
+                f: 1,
+                n: 65_536,
+            },
+            19,
+        ),
+        (Request::Close { p: 1, f: 1 }, 21),
+        (Request::Cancel { p: 1 }, 18),
+        (Request::Return { p: 2 }, 13),
+        (Request::Return { p: 1 }, 0),
+        (Request::Return { p: 1 }, 20),
+        (
+            Request::Fetch {
+                p: 1,
+                f: 1,
+                n: 65_535,
+            },
+            0,
+        ),
+        (Request::Leave { p: 2 }, 0),
+    ] {
+        assert_eq!(asking.call(request).refusal, refusal, "{request:?}");
+    }
 }
 
 /// The matrix of 01's board before the UNSAFE and of the one that giving the file
@@ -445,13 +531,13 @@ fn records_of_asked_agree_with_the_model() {
 fn matrices_and_lists(asking: &mut Asking) {
     let image = board_after(&session()[..4]);
     let board = image::read(&image).expect("a sound board");
-    asking.add(Record::Image(image));
-    asking.add(Record::Matrix);
+    asking.add(Question::Image(image));
+    asking.add(Question::Matrix);
     for (list, answer) in [(&[1, 2][..], true), (&[2, 1], true), (&[1], false)] {
         assert_eq!(digraph::is_loop_with(&board, 2, 2, list), answer);
         let list = list.to_vec();
-        asking.add(Record::Check { p: 2, f: 2, list });
+        asking.add(Question::Check { p: 2, f: 2, list });
     }
-    asking.add(Record::Image(image::write(&board.with_given(2, 2))));
-    asking.add(Record::Matrix);
+    asking.add(Question::Image(image::write(&board.with_given(2, 2))));
+    asking.add(Question::Matrix);
 }

@@ -13,7 +13,7 @@ use crate::model::program;
 use std::collections::BTreeSet;
 use std::path::{Path, PathBuf};
 
-const DAMAGED: [&str; 2] = ["image-favour", "image-stream"];
+const DAMAGED: [&str; 3] = ["image-favour", "image-records", "image-stream"];
 const ODD: [&str; 2] = ["odd-1", "odd-2"];
 const PLACES: &str = "places.calls";
 
@@ -147,7 +147,7 @@ fn damaged_images_are_answered() {
         let (image, mut met) = (image_of(name), BTreeSet::new());
         for (damage, answer) in calls(&format!("{name}.damage"), ": ") {
             let image = damaged(&image, &damage);
-            both_answer(answer, &image, &empty_line(), Entry::refused(3, 0, 0));
+            both_answer(answer, &image, &empty_line(), Entry::refused(3, 0, 0, 0));
             met.insert(answer);
         }
         assert_eq!(met, BTreeSet::from([LINE as u64, REFUSED_1]), "{name}");
@@ -158,7 +158,7 @@ fn damaged_images_are_answered() {
 fn places_are_answered() {
     let (empty, mut met) = (Session::empty().start, BTreeSet::new());
     for (asked, answer) in calls(PLACES, " ") {
-        both_answer(answer, &empty, &leave(&asked), Entry::refused(11, 1, 0));
+        both_answer(answer, &empty, &leave(&asked), Entry::refused(11, 1, 0, 0));
         met.insert(answer == REFUSED_2);
     }
     assert_eq!(met, BTreeSet::from([false, true]));

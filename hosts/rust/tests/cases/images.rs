@@ -2,7 +2,7 @@
 //! alone where that can be.
 
 use super::{calls, seed};
-use crate::compare::counters::{Counters, BEHIND_A_LOWER, CANCELS, COUNTS};
+use crate::compare::counters::{Counters, BEHIND_A_LOWER, CANCELS, COUNTS, RECORDS};
 use crate::compare::session::Session;
 use crate::generate::images::{pool, DAMAGES};
 use crate::generate::lines;
@@ -19,6 +19,9 @@ const ALONE: &[Fault] = &[
     Fault::StandingByte,
     Fault::AwaitedNotZero,
     Fault::AwaitedRange,
+    Fault::UserWithoutFile,
+    Fault::UserNotRunning,
+    Fault::AwaitedRecordOfNoWaiter,
     Fault::WaitingLineRange,
     Fault::EntryLineRange,
     Fault::FavouredRange,
@@ -32,6 +35,7 @@ const ALONE: &[Fault] = &[
     Fault::EntryLineStranger,
     Fault::WriteOutsideClaim,
     Fault::ReadOutsideClaim,
+    Fault::InquiryOutsideClaim,
     Fault::ClaimsMeet,
     Fault::AbsentWithSets,
     Fault::HeldWithOpen,
@@ -39,6 +43,10 @@ const ALONE: &[Fault] = &[
     Fault::AwaitedUnclaimed,
     Fault::AwaitedOpen,
     Fault::AwaitedCanBeGiven,
+    Fault::UserNotInquiring,
+    Fault::RecordInUseTwice,
+    Fault::AwaitedRecordNotInquired,
+    Fault::AwaitedRecordFree,
     Fault::FavouredNotWaiting,
     Fault::HeldWithoutFavoured,
     Fault::NumberWithoutFavoured,
@@ -74,6 +82,7 @@ fn damaged_images_agree() {
     assert!(met.get("sound") > 0);
     met.assert_met(&CANCELS);
     met.assert_met(&COUNTS);
+    met.assert_met(&RECORDS);
     met.assert_met(&[BEHIND_A_LOWER]);
 }
 

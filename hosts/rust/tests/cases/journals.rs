@@ -15,8 +15,8 @@ use crate::model::line;
 
 /// The line that is served.
 fn line() -> Vec<u8> {
-    let (p, v, q) = (1, only(1) | only(2) | only(3), 0);
-    line::write(&Request::Enter { p, v, q }, b"STOCK   ")
+    let (p, v, q, j) = (1, only(1) | only(2) | only(3), 0, 0);
+    line::write(&Request::Enter { p, v, q, j }, b"STOCK   ")
 }
 
 fn compare(call: Call, met: &mut Counters) {

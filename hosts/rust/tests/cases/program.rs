@@ -51,8 +51,8 @@ fn program_agrees() {
 /// More lines than the program's journal buffer of 65,536 bytes holds, and a
 /// last one without byte 10.
 fn long_input() -> Vec<u8> {
-    let round: &[u8] = b"ENTER   1LONG      1  0  1\nOPEN    1  1\nX\n\nCLOSE   1  1\nLEAVE   1\n";
-    [round.repeat(5000), b"ENTER   2LAST      0  0".to_vec()].concat()
+    let round: &[u8] = b"ENTER   1LONG      1  0  0  1\nOPEN    1  1\nX\n\nCLOSE   1  1\nLEAVE   1\n";
+    [round.repeat(5000), b"ENTER   2LAST      0  0  0".to_vec()].concat()
 }
 
 /// Read from a file, so that one read brings more lines than the journal's

@@ -3,7 +3,7 @@
 use super::plan::emptied;
 use super::{calls, seed};
 use crate::compare::call::Call;
-use crate::compare::counters::{Counters, BEHIND_A_LOWER, CANCELS, COUNTS};
+use crate::compare::counters::{Counters, BEHIND_A_LOWER, CANCELS, COUNTS, RECORDS};
 use crate::compare::session::Session;
 use crate::generate::lines;
 use crate::generate::random::Random;
@@ -28,6 +28,21 @@ const MET: &[&str] = &[
     "open settled by all orders",
     "open that waits by all orders",
     "run through",
+];
+
+/// Refusals of fetch and return in lines. As 8, 19 is met only in direct calls.
+const REFUSED: [&str; 11] = [
+    "fetch refused with 4",
+    "fetch refused with 5",
+    "fetch refused with 11",
+    "fetch refused with 12",
+    "fetch refused with 13",
+    "fetch refused with 20",
+    "fetch refused with 21",
+    "return refused with 4",
+    "return refused with 5",
+    "return refused with 13",
+    "return refused with 20",
 ];
 
 #[test]
@@ -65,14 +80,16 @@ fn assert_all_met(met: &Counters) {
     met.assert_met(MET);
     met.assert_met(&CANCELS);
     met.assert_met(&COUNTS);
+    met.assert_met(&RECORDS);
+    met.assert_met(&REFUSED);
     assert_eq!(met.get(BEHIND_A_LOWER), 0);
-    for number in (2..=7).chain(9..=16).chain([18]) {
+    for number in (2..=7).chain(9..=16).chain([18, 20, 21]) {
         assert!(
             met.get(&format!("refusal {number}")) > 0,
             "refusal {number} not met"
         );
     }
-    assert_eq!(met.get("refusal 1"), 0);
+    assert_eq!(met.get("refusal 1") + met.get("refusal 19"), 0);
     assert_eq!(met.get_most("admitted"), PROGRAMS as u64);
     assert_eq!(met.get_most("count"), MOST_PASSES as u64);
     assert_eq!(met.get_most("lines of one call"), MOST_LINES as u64);

@@ -9,7 +9,9 @@
 use crate::compare::call::{library, model, Call, Outcome};
 use crate::compare::session::Session;
 use crate::model::board::PROGRAMS;
-use crate::model::image::{COUNTS, ENTRY_LINE, FAVOURED, LENGTH, PROGRAM, WAITING_LINE};
+use crate::model::image::{
+    COUNTS, ENTRY_LINE, FAVOURED, INQUIRY, INQUIRY_LEN, PROGRAM, WAITING_LINE,
+};
 use crate::model::journal::{COLUMNS, LINE};
 
 /// The library and the model go through a session as it is told.
@@ -17,7 +19,7 @@ pub fn told(start: &str, rest: &str) {
     let (steps, order) = rest.rsplit_once("ORDER ").expect("the order");
     for side in [model, library] {
         let mut image = Session::empty().start;
-        let mut end = image[FAVOURED..LENGTH].to_vec();
+        let mut end = image[FAVOURED..INQUIRY].to_vec();
         let mut carried = Vec::new();
         for step in start.lines().chain(steps.lines()) {
             let parts: Vec<&str> = step.split(" -> ").collect();
@@ -25,7 +27,7 @@ pub fn told(start: &str, rest: &str) {
             assert_eq!(outcome.spilt, None, "{step}");
             assert_eq!(journal(&outcome), parts[1], "{step}");
             parts[2..].iter().for_each(|part| change(&mut end, part));
-            assert_eq!(outcome.image[FAVOURED..], end, "{step}");
+            assert_eq!(outcome.image[FAVOURED..INQUIRY], end, "{step}");
             if let Some(program) = parts[0].strip_prefix("CANCEL") {
                 cancelled(program, parts[1], &image, &outcome.image);
             }
@@ -44,7 +46,8 @@ fn numbers(text: &str) -> Vec<u8> {
     text.split_whitespace().map(number).collect()
 }
 
-/// Changes the end of an image, from the favoured program on, as a line tells.
+/// Changes the part of an image with the favoured program and the counts, as a line
+/// tells.
 fn change(end: &mut [u8], part: &str) {
     if !part.contains('=') {
         return end[..COUNTS - FAVOURED].copy_from_slice(&numbers(part));
@@ -71,8 +74,10 @@ fn cancelled(program: &str, answer: &str, before: &[u8], after: &[u8]) {
         return assert!(after == before, "a refused cancel of {program}");
     }
     let p = usize::from(number(program.trim_start()));
-    let bytes = &after[PROGRAM * (p - 1)..PROGRAM * p];
-    assert!(bytes.iter().all(|&byte| byte == 0), "{program} has bytes");
+    let first = &after[PROGRAM * (p - 1)..PROGRAM * p];
+    let second = &after[INQUIRY..][INQUIRY_LEN * (p - 1)..INQUIRY_LEN * p];
+    let mut bytes = first.iter().chain(second);
+    assert!(bytes.all(|&byte| byte == 0), "{program} has bytes");
     for line in [WAITING_LINE, ENTRY_LINE] {
         let names = &after[line..line + PROGRAMS];
         assert!(!names.contains(&(p as u8)), "{program} is in a line");

@@ -8,12 +8,19 @@ use crate::compare::written::{expect, library, model, Written};
 use crate::model::board::{members, only, Files};
 use crate::model::journal::{Entry, Word};
 use crate::model::line;
-use crate::model::writer::{Writing, VERBS};
+use crate::model::writer::{claims, Writing, VERBS};
 use std::collections::BTreeSet;
 use std::path::{Path, PathBuf};
 
-const WRITE: [&str; 4] = ["write-1", "write-1-contest", "write-2", "write-2-contest"];
-const BACK: [&str; 2] = ["back-1", "back-2"];
+const WRITE: [&str; 6] = [
+    "write-1",
+    "write-1-contest",
+    "write-2",
+    "write-2-contest",
+    "write-7",
+    "write-7-contest",
+];
+const BACK: [&str; 3] = ["back-1", "back-2", "back-7"];
 
 fn path(name: &str, ending: &str) -> PathBuf {
     Path::new(env!("CARGO_MANIFEST_DIR"))
@@ -64,9 +71,9 @@ fn set(word: &str) -> Files {
     files.fold(0, |set, one| set | one)
 }
 
-/// VERB program file record label V Q J, of which record and J are not used.
+/// VERB program file record label V Q J.
 fn writing(words: &[&str]) -> Writing {
-    let [verb, program, file, _, label, v, q, _] = *words else {
+    let [verb, program, file, record, label, v, q, j] = *words else {
         panic!("not eight words: {words:?}");
     };
     let verb = VERBS.iter().position(|&text| text == verb);
@@ -74,8 +81,8 @@ fn writing(words: &[&str]) -> Writing {
         verb: verb.unwrap_or_else(|| panic!("no verb: {words:?}")) as u64 + 1,
         program: number(program),
         file: number(file),
-        v: set(v),
-        q: set(q),
+        record: number(record),
+        claims: claims(set(v), set(q), set(j)),
         label: bytes(label),
     }
 }
@@ -106,22 +113,17 @@ fn read(case: &str) -> String {
         Ok(request) => request,
         Err(refusal) => return refusal.to_string(),
     };
-    let Writing {
-        verb,
-        program,
-        file,
-        v,
-        q,
-        label,
-    } = Writing::of(&request, line::label(&text));
+    let writing = Writing::of(&request, line::label(&text));
     let or_none = |text: String| if text.is_empty() { "-".into() } else { text };
-    let label = or_none(label.iter().map(|byte| format!("{byte:02x}")).collect());
-    let [v, q] = [v, q].map(|set| {
+    let label = writing.label.iter().map(|byte| format!("{byte:02x}"));
+    let label = or_none(label.collect());
+    let [v, q, j] = writing.sets().expect("claims").map(|set| {
         let files: Vec<String> = members(set).iter().map(usize::to_string).collect();
         or_none(files.join(","))
     });
-    let verb = VERBS[verb as usize - 1];
-    format!("0 {verb} {program} {file} 0 {label} {v} {q} -")
+    let verb = VERBS[writing.verb as usize - 1];
+    let [program, file, record] = [writing.program, writing.file, writing.record];
+    format!("0 {verb} {program} {file} {record} {label} {v} {q} {j}")
 }
 
 #[test]
@@ -161,18 +163,19 @@ fn vectors_are_written() {
         refusals.insert(number(answer.split(' ').next().unwrap_or_default()));
         verbs.insert(writing.verb);
     }
-    assert_eq!(refusals, BTreeSet::from([0, 6, 8, 17]));
-    assert_eq!(verbs, BTreeSet::from([1, 2, 3, 4, 5, 6]));
+    assert_eq!(refusals, BTreeSet::from([0, 6, 8, 17, 19]));
+    assert_eq!(verbs, (1..=8).collect());
 }
 
 /// The journal line for a line's values on the empty board: another verb than
 /// ENTER finds its program absent.
 fn answered(writing: &Writing) -> Entry {
     let (p, f) = (writing.program as usize, writing.file as usize);
+    let [v, q, j] = writing.sets().expect("claims");
     match writing.verb {
-        1 if writing.v & writing.q != 0 => Entry::refused(10, p, 0),
+        1 if v & q | v & j | q & j != 0 => Entry::refused(10, p, 0, 0),
         1 => Entry::new(Word::Admit, p, 0),
-        _ => Entry::refused(11, p, f),
+        _ => Entry::refused(11, p, f, writing.record as usize),
     }
 }
 
@@ -186,7 +189,7 @@ fn vectors_are_read_and_written_back() {
                 let number = number(refusal) as usize;
                 assert_eq!(line::read(&text), Err(number), "{case}");
                 refused.insert(number);
-                Entry::refused(number, 0, 0)
+                Entry::refused(number, 0, 0, 0)
             }
             _ => {
                 assert_eq!(words[0], "0", "{answer}");
@@ -200,7 +203,7 @@ fn vectors_are_read_and_written_back() {
         let journal = &outcome.journal[..outcome.answer as usize];
         assert_eq!(journal, entry.bytes(), "{case}");
     }
-    assert_eq!(taken, BTreeSet::from([1, 2, 3, 4, 5, 6]));
+    assert_eq!(taken, (1..=8).collect());
     assert_eq!(refused, BTreeSet::from([3, 4, 5, 6, 7]));
 }
 

@@ -4,7 +4,7 @@
 
 use super::direct::{assert_refusals, count, path};
 use super::{calls, seed};
-use crate::compare::asked::{Asking, Record};
+use crate::compare::asked::{Asking, Question};
 use crate::compare::call::Call;
 use crate::compare::counters::Counters;
 use crate::compare::session::one;
@@ -27,14 +27,21 @@ fn written(writing: &Writing, random: &mut Random) -> Option<Vec<u8>> {
 }
 
 /// A board on which the answer to the request tells its verb and its numbers:
-/// empty for enter, else with its program running and its file claimed.
+/// empty for enter, else with its program running and its file claimed; for fetch
+/// open for inquiry.
 fn telling(request: &Request) -> Vec<u8> {
     let empty = Asking::new().board;
     let (p, f) = request.numbers();
-    let (v, q) = (if f == 0 { 0 } else { only(f) }, 0);
+    let file = if f == 0 { 0 } else { only(f) };
+    let (v, q, j) = match request {
+        Request::Enter { .. } => return empty,
+        Request::Fetch { .. } => (0, 0, file),
+        _ => (file, 0, 0),
+    };
+    let entered = direct::call(&empty, &Request::Enter { p, v, q, j }).image;
     match request {
-        Request::Enter { .. } => empty,
-        _ => direct::call(&empty, &Request::Enter { p, v, q }).image,
+        Request::Fetch { .. } => direct::call(&entered, &Request::Open { p, f }).image,
+        _ => entered,
     }
 }
 
@@ -60,7 +67,7 @@ fn written_lines_make_the_same_call() {
     met.print("written lines");
     met.assert_met(&VERBS);
     met.assert_met(&["ADMIT", "refusal 10", "GIVEN", "refusal 16"]);
-    met.assert_met(&["DONE", "refusal 18"]);
+    met.assert_met(&["DONE", "refusal 18", "refusal 20"]);
 }
 
 /// The line and the direct call with the writing's own numbers, on one board.
@@ -75,10 +82,10 @@ fn same_call(writing: &Writing, text: &[u8], asking: &mut Asking, met: &mut Coun
     assert_eq!(line::label(text), label, "{shown}");
     let (board, call) = (telling(&request), Call::plain(text));
     one(&board, call.clone());
-    asking.add(Record::Label(text.to_vec()));
-    asking.add(Record::Image(board.clone()));
+    asking.add(Question::Label(text.to_vec()));
+    asking.add(Question::Image(board.clone()));
     let by_numbers = asking.call(request);
-    asking.add(Record::Image(board));
+    asking.add(Question::Image(board));
     let by_line = asking.line(call);
     assert_eq!(by_line, by_numbers, "{shown}");
     met.add(VERBS[writing.verb as usize - 1]);

@@ -1,5 +1,5 @@
 //! The program `asked`, which makes direct calls, asks for labels, matrices and
-//! loops and lends its board to line calls: a list of its records, and the
+//! loops and lends its board to line calls: a list of such questions, and the
 //! model's answers compared with the program's. The form of both is told in
 //! crates/asked/src/main.rt.
 
@@ -15,7 +15,7 @@ use std::ops::Range;
 use std::path::Path;
 
 #[derive(Clone)]
-pub enum Record {
+pub enum Question {
     Call(Request),
     Image(Vec<u8>),
     Label(Vec<u8>),
@@ -39,9 +39,12 @@ struct Answer {
     given: Option<Box<Board>>,
 }
 
+/// The bytes of a line in the answer to a call.
+const LINE: usize = 7;
+
 /// Where the loop stands in the answer to a call, after four numbers, the lines and
 /// the order: its count, then its places.
-const CARRIED: Range<usize> = 4 + 4 * PROGRAMS + PROGRAMS..5 + 4 * PROGRAMS + 2 * PROGRAMS;
+const CARRIED: Range<usize> = 4 + LINE * PROGRAMS + PROGRAMS..5 + LINE * PROGRAMS + 2 * PROGRAMS;
 
 impl Answer {
     fn plain(bytes: Vec<u8>) -> Answer {
@@ -62,19 +65,19 @@ impl Answer {
     }
 }
 
-impl Record {
+impl Question {
     pub fn bytes(&self) -> Vec<u8> {
         let (kind, numbers, text): (_, _, &[u8]) = match self {
-            Record::Call(request) => (kind(request), numbers(request), &[]),
-            Record::Image(text) => (b'i', [text.len() as u64, 0, 0, 0], text),
-            Record::Label(text) => (b'l', [text.len() as u64, 0, 0, 0], text),
-            Record::Line(call) => {
+            Question::Call(request) => (kind(request), numbers(request), &[]),
+            Question::Image(text) => (b'i', six([text.len() as u64]), text),
+            Question::Label(text) => (b'l', six([text.len() as u64]), text),
+            Question::Line(call) => {
                 let text = &call.line;
-                let numbers = [text.len() as u64, call.journal as u64, call.place, 0];
-                (b'p', numbers, text)
+                let numbers = [text.len() as u64, call.journal as u64, call.place];
+                (b'p', six(numbers), text)
             }
-            Record::Matrix => (b'm', [0; 4], &[]),
-            Record::Check { p, f, list } => (b'k', [*p, *f, list.len() as u64, 0], list),
+            Question::Matrix => (b'm', six([]), &[]),
+            Question::Check { p, f, list } => (b'k', six([*p, *f, list.len() as u64]), list),
         };
         let mut bytes = vec![kind];
         bytes.extend(numbers.iter().flat_map(|number| number.to_le_bytes()));
@@ -85,7 +88,7 @@ impl Record {
     /// The model's answer, and the board after it.
     fn answer(&self, board: &mut Vec<u8>) -> Answer {
         match self {
-            Record::Call(request) => {
+            Question::Call(request) => {
                 let reply = direct::call(board, request);
                 board.clone_from(&reply.image);
                 Answer {
@@ -93,19 +96,19 @@ impl Record {
                     given: reply.given,
                 }
             }
-            Record::Image(text) => {
+            Question::Image(text) => {
                 let loaded = direct::load(text);
                 let ok = u8::from(loaded.is_ok());
                 *board = loaded.unwrap_or_else(|empty| empty);
                 Answer::plain([&[ok], board.as_slice()].concat())
             }
-            Record::Label(text) => {
+            Question::Label(text) => {
                 let label = line::label(text);
                 Answer::plain([&[label.len() as u8], label].concat())
             }
-            Record::Line(call) => posted(board, call),
-            Record::Matrix => Answer::plain(digraph::rows(&image::parts(board).0)),
-            Record::Check { p, f, list } => {
+            Question::Line(call) => posted(board, call),
+            Question::Matrix => Answer::plain(digraph::rows(&image::parts(board).0)),
+            Question::Check { p, f, list } => {
                 let board = image::parts(board).0;
                 Answer::plain(vec![digraph::is_loop_with(&board, *p, *f, list).into()])
             }
@@ -113,13 +116,13 @@ impl Record {
     }
 }
 
-impl fmt::Display for Record {
+impl fmt::Display for Question {
     fn fmt(&self, to: &mut fmt::Formatter) -> fmt::Result {
         match self {
-            Record::Call(request) => write!(to, "{request:?}"),
-            Record::Image(text) => write!(to, "Image {}", text.escape_ascii()),
-            Record::Label(text) => write!(to, "Label {}", text.escape_ascii()),
-            Record::Line(call) => {
+            Question::Call(request) => write!(to, "{request:?}"),
+            Question::Image(text) => write!(to, "Image {}", text.escape_ascii()),
+            Question::Label(text) => write!(to, "Label {}", text.escape_ascii()),
+            Question::Line(call) => {
                 let line = call.line.escape_ascii();
                 write!(
                     to,
@@ -127,8 +130,8 @@ impl fmt::Display for Record {
                     call.journal, call.place
                 )
             }
-            Record::Matrix => write!(to, "Matrix"),
-            Record::Check { p, f, list } => write!(to, "Check {p} {f} {list:?}"),
+            Question::Matrix => write!(to, "Matrix"),
+            Question::Check { p, f, list } => write!(to, "Check {p} {f} {list:?}"),
         }
     }
 }
@@ -161,16 +164,26 @@ fn kind(request: &Request) -> u8 {
         Request::Drop { .. } => b'D',
         Request::Leave { .. } => b'L',
         Request::Cancel { .. } => b'X',
+        Request::Fetch { .. } => b'F',
+        Request::Return { .. } => b'R',
     }
 }
 
-/// Program, file, V and Q.
-fn numbers(request: &Request) -> [u64; 4] {
-    let ((p, f), (v, q)) = match *request {
-        Request::Enter { v, q, .. } => (request.numbers(), (v, q)),
-        _ => (request.numbers(), (0, 0)),
+/// The six numbers of a question that has fewer.
+fn six<const N: usize>(some: [u64; N]) -> [u64; 6] {
+    let mut numbers = [0; 6];
+    numbers[..N].copy_from_slice(&some);
+    numbers
+}
+
+/// Program, file, record, V, Q and J.
+fn numbers(request: &Request) -> [u64; 6] {
+    let (v, q, j) = match *request {
+        Request::Enter { v, q, j, .. } => (v, q, j),
+        _ => (0, 0, 0),
     };
-    [p as u64, f as u64, v, q]
+    let (p, f) = request.numbers();
+    [p as u64, f as u64, request.record() as u64, v, q, j]
 }
 
 fn letter(word: Word) -> u8 {
@@ -185,9 +198,11 @@ fn reply_bytes(reply: &Reply) -> Vec<u8> {
     let mut lines = reply.lines.clone();
     lines.resize(PROGRAMS, Entry::new(Word::Admit, 0, 0));
     for line in lines {
-        let numbers = [line.program, line.file, line.refusal].map(|number| number as u8);
-        bytes.push(letter(line.word));
-        bytes.extend(numbers);
+        let [file, record] = [line.file, line.record].map(|number| number as u16);
+        bytes.extend([letter(line.word), line.program as u8]);
+        bytes.extend(file.to_le_bytes());
+        bytes.push(line.refusal as u8);
+        bytes.extend(record.to_le_bytes());
     }
     let order: Vec<u8> = reply.order.iter().map(|&p| p as u8).collect();
     bytes.extend(places(order));
@@ -207,29 +222,29 @@ fn places(mut list: Vec<u8>) -> Vec<u8> {
 
 /// Records from the empty board on, and the model's board after them.
 pub struct Asking {
-    pub records: Vec<Record>,
+    pub questions: Vec<Question>,
     pub board: Vec<u8>,
 }
 
 impl Asking {
     pub fn new() -> Asking {
         Asking {
-            records: Vec::new(),
+            questions: Vec::new(),
             board: image::write(&Board::EMPTY),
         }
     }
 
-    /// One more record.
-    pub fn add(&mut self, record: Record) {
-        record.answer(&mut self.board);
-        self.records.push(record);
+    /// One more question.
+    pub fn add(&mut self, question: Question) {
+        question.answer(&mut self.board);
+        self.questions.push(question);
     }
 
     /// One more call; gives the model's reply.
     pub fn call(&mut self, request: Request) -> Reply {
         let reply = direct::call(&self.board, &request);
         self.board.clone_from(&reply.image);
-        self.records.push(Record::Call(request));
+        self.questions.push(Question::Call(request));
         reply
     }
 
@@ -237,20 +252,20 @@ impl Asking {
     pub fn line(&mut self, call: Call) -> Reply {
         let reply = lent_line(&self.board, &call).0;
         self.board.clone_from(&reply.image);
-        self.records.push(Record::Line(call));
+        self.questions.push(Question::Line(call));
         reply
     }
 
     /// All the bytes that the program is to read.
     pub fn input(&self) -> Vec<u8> {
-        input(&self.records)
+        input(&self.questions)
     }
 
     /// All that the program is to write, if its answers carry these loops. A list
     /// that is no loop ends the test.
     pub fn output(&self, loops: &[&[u8]]) -> Vec<u8> {
         let (mut output, mut loops) = (Vec::new(), loops.iter());
-        for mut answer in answers(&self.records) {
+        for mut answer in answers(&self.questions) {
             if let Some(given) = &answer.given {
                 let list = loops.next().expect("a loop for each answer with one");
                 assert!(digraph::is_loop(given, list), "{list:?}");
@@ -263,45 +278,45 @@ impl Asking {
         output
     }
 
-    /// Runs the program. A difference ends the test, with few records that
+    /// Runs the program. A difference ends the test, with few questions that
     /// show it.
     pub fn check(&self, path: &Path) {
-        if run_differs(path, &self.records).is_some() {
-            let records = smallest(path, self.records.clone());
-            let text = run_differs(path, &records).expect("the difference stays");
-            let records: Vec<String> = records.iter().map(Record::to_string).collect();
-            panic!("{text}\nrecords:\n{}", records.join("\n"));
+        if run_differs(path, &self.questions).is_some() {
+            let questions = smallest(path, self.questions.clone());
+            let text = run_differs(path, &questions).expect("the difference stays");
+            let questions: Vec<String> = questions.iter().map(Question::to_string).collect();
+            panic!("{text}\nrecords:\n{}", questions.join("\n"));
         }
     }
 }
 
-fn input(records: &[Record]) -> Vec<u8> {
-    records.iter().flat_map(Record::bytes).collect()
+fn input(questions: &[Question]) -> Vec<u8> {
+    questions.iter().flat_map(Question::bytes).collect()
 }
 
-fn answers(records: &[Record]) -> Vec<Answer> {
+fn answers(questions: &[Question]) -> Vec<Answer> {
     let mut board = Asking::new().board;
-    records
+    questions
         .iter()
-        .map(|record| record.answer(&mut board))
+        .map(|question| question.answer(&mut board))
         .collect()
 }
 
 /// What the program answers otherwise than the model, if anything.
-fn run_differs(path: &Path, records: &[Record]) -> Option<String> {
-    difference(records, &programs::run(path, &input(records)))
+fn run_differs(path: &Path, questions: &[Question]) -> Option<String> {
+    difference(questions, &programs::run(path, &input(questions)))
 }
 
 /// What in these answers is otherwise than the model's, if anything.
-fn difference(records: &[Record], mut found: &[u8]) -> Option<String> {
-    for (record, expected) in records.iter().zip(answers(records)) {
+fn difference(questions: &[Question], mut found: &[u8]) -> Option<String> {
+    for (question, expected) in questions.iter().zip(answers(questions)) {
         let (answer, rest) = found.split_at(expected.bytes.len().min(found.len()));
         if !expected.is(answer) {
             let expected = expected.bytes;
             let at = answer.iter().zip(&expected).position(|(a, b)| a != b);
             let (answer, expected) = (answer.escape_ascii(), expected.escape_ascii());
             return Some(format!(
-                "{record}\nanswers differ at byte {at:?}\nexpected: {expected}\nfound: {answer}"
+                "{question}\nanswers differ at byte {at:?}\nexpected: {expected}\nfound: {answer}"
             ));
         }
         found = rest;
@@ -309,22 +324,22 @@ fn difference(records: &[Record], mut found: &[u8]) -> Option<String> {
     (!found.is_empty()).then(|| format!("{} bytes too many", found.len()))
 }
 
-/// The records without the parts that the difference does not need: halves
+/// The questions without the parts that the difference does not need: halves
 /// first, then ever smaller ones.
-fn smallest(path: &Path, mut records: Vec<Record>) -> Vec<Record> {
-    let mut part = records.len().div_ceil(2);
+fn smallest(path: &Path, mut questions: Vec<Question>) -> Vec<Question> {
+    let mut part = questions.len().div_ceil(2);
     loop {
         let mut at = 0;
-        while at < records.len() {
-            let mut fewer = records.clone();
-            fewer.drain(at..records.len().min(at + part));
+        while at < questions.len() {
+            let mut fewer = questions.clone();
+            fewer.drain(at..questions.len().min(at + part));
             match run_differs(path, &fewer) {
-                Some(_) => records = fewer,
+                Some(_) => questions = fewer,
                 None => at += part,
             }
         }
         if part <= 1 {
-            return records;
+            return questions;
         }
         part = part.div_ceil(2);
     }

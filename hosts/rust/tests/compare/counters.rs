@@ -33,6 +33,23 @@ pub const COUNTS: [&str; 8] = [
     "count ended by a cancel",
 ];
 
+/// What records lead to, of what `boards` counts.
+pub const RECORDS: [&str; 13] = [
+    "fetch that gives",
+    "fetch that waits",
+    "return of a record that nobody awaits",
+    "return that hands on",
+    "return that favours",
+    "return that admits",
+    "leave with a record that nobody awaits",
+    "leave that hands on",
+    "record handed on beside another waiter",
+    "cancel of a record waiter",
+    "enter favours a record waiter",
+    "settling favours a record waiter",
+    "favoured one gets its record",
+];
+
 /// What `boards` counts besides, met only after boards that no calls lead to:
 /// else no count is higher than that of an older waiter.
 pub const BEHIND_A_LOWER: &str = "favoured behind a lower count";
@@ -87,8 +104,14 @@ impl Counters {
                 .unwrap()
                 .trim_start();
             self.add(&format!("refusal {number}"));
-            if call.line.starts_with(b"CANCEL") {
-                self.add(&format!("cancel refused with {number}"));
+            let verbs = [
+                (&b"CANCEL"[..], "cancel"),
+                (b"FETCH", "fetch"),
+                (b"RETURN", "return"),
+            ];
+            let called = verbs.iter().find(|(verb, _)| call.line.starts_with(verb));
+            if let Some((_, name)) = called {
+                self.add(&format!("{name} refused with {number}"));
             }
         }
         self.settling(&lines);
@@ -128,6 +151,8 @@ impl Counters {
         self.most("waiting", after.waiting.len());
         self.most("held", after.entry.len());
         self.most("leaves counted", after.leaves);
+        self.most("records in use", users(after).len());
+        self.records(before, after);
         let cancelled = cancelled(before, after);
         if let Some(p) = cancelled {
             self.cancel(p, before, after);
@@ -179,6 +204,57 @@ impl Counters {
         }
     }
 
+    /// Counts what a fetch, or the end of a record's use, has done.
+    fn records(&mut self, before: &Board, after: &Board) {
+        let same = |p: &usize| before.get(*p).in_use == after.get(*p).in_use;
+        let awaits = |p: &usize| before.get(*p).awaits();
+        let began = |p: &usize| !same(p) && awaits(p).is_none();
+        if users(after).iter().any(began) {
+            self.add("fetch that gives");
+        }
+        let wait = |p: &usize| after.get(*p).awaits().is_some() && !before.waiting.contains(p);
+        if after.waiting.iter().any(wait) {
+            self.add("fetch that waits");
+        }
+        let gone = |p: &usize| after.get(*p).standing == Standing::Absent;
+        if before
+            .waiting
+            .iter()
+            .any(|p| gone(p) && awaits(p).is_some())
+        {
+            self.add("cancel of a record waiter");
+        }
+        let Some(p) = users(before).into_iter().find(|p| !same(p)) else {
+            return;
+        };
+        let next = users(after).into_iter().find(|p| !same(p));
+        self.add(match (gone(&p), next) {
+            (false, None) => "return of a record that nobody awaits",
+            (false, Some(_)) => "return that hands on",
+            (true, None) => "leave with a record that nobody awaits",
+            (true, Some(_)) => "leave that hands on",
+        });
+        let awaited = |q: &usize| after.get(*q).awaits() == before.get(p).in_use;
+        let favours = after.favoured != 0 && after.favoured != before.favoured;
+        let admits = after.entry.len() < before.entry.len();
+        for (met, name) in [
+            (!gone(&p) && favours, "return that favours"),
+            (!gone(&p) && admits, "return that admits"),
+            (
+                next.is_some() && after.waiting.iter().any(awaited),
+                "record handed on beside another waiter",
+            ),
+            (
+                next.is_some_and(|next| next == before.favoured),
+                "favoured one gets its record",
+            ),
+        ] {
+            if met {
+                self.add(name);
+            }
+        }
+    }
+
     /// Counts what the waiters' counts have come to.
     fn passed(&mut self, before: &Board, after: &Board) {
         let runs = |p: &usize| after.get(*p).standing == Standing::Running;
@@ -213,7 +289,8 @@ impl Counters {
     /// Counts by what a program has become favoured, with these waiters at 8.
     fn favoured(&mut self, passed: &[usize], before: &Board, after: &Board) {
         let p = after.favoured;
-        let free = !after.conflicting_use(p, awaited(after, p));
+        let of_record = after.get(p).awaits().is_some();
+        let free = !of_record && !after.conflicting_use(p, awaited(after, p));
         let enter = after.entry.len() > before.entry.len();
         let admits = after.entry.len() < before.entry.len() && !free;
         let lower = after.count(after.waiting[0]) < MOST_PASSES;
@@ -222,6 +299,8 @@ impl Counters {
             (enter && free, "enter favours, file free"),
             (!enter && !free && !admits, "settling favours by a count"),
             (admits, "settling admits, then favours"),
+            (enter && of_record, "enter favours a record waiter"),
+            (!enter && of_record, "settling favours a record waiter"),
             (!free && passed.len() > 1, "favoured beside another 8"),
             (!free && lower, BEHIND_A_LOWER),
         ] {
@@ -240,6 +319,11 @@ impl Counters {
             println!("  most {name:<27}{count:>9}");
         }
     }
+}
+
+/// The programs with a record in use.
+fn users(board: &Board) -> Vec<usize> {
+    board.which(|program| program.in_use.is_some())
 }
 
 /// The program that a call has cancelled: no other call makes a waiting or a

@@ -73,14 +73,21 @@ fn drop_calls(session: &mut Session) {
 /// less at favouring if that is needed.
 fn drop_programs(session: &mut Session) {
     for p in 1..=PROGRAMS as u8 {
-        let from = image::PROGRAM * usize::from(p - 1);
-        let whole = from..from + image::PROGRAM;
-        if session.start[whole.clone()].iter().all(|&byte| byte == 0) {
+        let row =
+            |from: usize, len: usize| from + len * usize::from(p - 1)..from + len * usize::from(p);
+        let rows = [
+            row(0, image::PROGRAM),
+            row(image::INQUIRY, image::INQUIRY_LEN),
+        ];
+        let start = &session.start;
+        if (rows.iter().flat_map(|row| &start[row.clone()])).all(|&byte| byte == 0) {
             continue;
         }
         for less in [1, 0] {
             keep(session, |changed| {
-                changed.start[whole.clone()].fill(0);
+                for row in &rows {
+                    changed.start[row.clone()].fill(0);
+                }
                 changed.start[image::COUNTS + usize::from(p) - 1] = 0;
                 for line in [image::WAITING_LINE, image::ENTRY_LINE] {
                     let names = &mut changed.start[line..line + PROGRAMS];
@@ -100,8 +107,12 @@ fn drop_programs(session: &mut Session) {
 fn drop_files(session: &mut Session) {
     for f in 0..FILES {
         let clear = |start: &mut [u8], p: usize| {
-            for set in [image::V, image::Q, image::W, image::R] {
-                start[image::PROGRAM * p + set + f / 8] &= !(1 << (f % 8));
+            let first =
+                [image::V, image::Q, image::W, image::R].map(|set| image::PROGRAM * p + set);
+            let second =
+                [image::J, image::I].map(|set| image::INQUIRY + image::INQUIRY_LEN * p + set);
+            for set in first.into_iter().chain(second) {
+                start[set + f / 8] &= !(1 << (f % 8));
             }
         };
         keep(session, |changed| {

@@ -11,8 +11,9 @@ extern "C" {
         verb: u64,
         program: u64,
         file: u64,
-        writable: u64,
-        readable: u64,
+        record: u64,
+        claims: *const u8,
+        claims_len: usize,
         label: *const u8,
         label_len: usize,
         line: *mut u8,
@@ -59,16 +60,18 @@ pub fn model(writing: &Writing, before: &[u8]) -> Written {
 }
 
 pub fn library(writing: &Writing, before: &[u8]) -> Written {
-    let (mut label, mut line) = (Guarded::new(&writing.label), Guarded::new(before));
-    let (label_len, line_len) = (label.len(), line.len());
-    // SAFETY: two buffers of these lengths, apart from each other, none null.
+    let [mut claims, mut label] = [&writing.claims, &writing.label].map(|part| Guarded::new(part));
+    let mut line = Guarded::new(before);
+    let (claims_len, label_len, line_len) = (claims.len(), label.len(), line.len());
+    // SAFETY: three buffers of these lengths, apart from each other, none null.
     let answer = unsafe {
         lock_board_write(
             writing.verb,
             writing.program,
             writing.file,
-            writing.v,
-            writing.q,
+            writing.record,
+            claims.start(),
+            claims_len,
             label.start(),
             label_len,
             line.start(),
@@ -76,8 +79,10 @@ pub fn library(writing: &Writing, before: &[u8]) -> Written {
         )
     };
     let spilt = spilt([
+        (claims.intact(), "guard bytes of the claims"),
         (label.intact(), "guard bytes of the label"),
         (line.intact(), "guard bytes of the line"),
+        (claims.contents() == writing.claims, "bytes of the claims"),
         (label.contents() == writing.label, "bytes of the label"),
     ]);
     Written {
@@ -114,14 +119,14 @@ fn handed(writing: &Writing, before: &[u8]) -> String {
         verb,
         program,
         file,
-        v,
-        q,
+        record,
+        claims,
         label,
     } = writing;
+    let sets = writing.sets().map(|sets| sets.map(members));
     format!(
-        "  verb {verb}, program {program}, file {file}\n  V {:?}\n  Q {:?}\n  label of {} bytes {:?}\n  buffer of {} bytes\n",
-        members(*v),
-        members(*q),
+        "  verb {verb}, program {program}, file {file}, record {record}\n  claims of {} bytes, V, Q, J {sets:?}\n  label of {} bytes {:?}\n  buffer of {} bytes\n",
+        claims.len(),
         label.len(),
         label.escape_ascii().to_string(),
         before.len()

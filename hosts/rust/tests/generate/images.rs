@@ -7,9 +7,10 @@
 use super::lines::text;
 use super::random::Random;
 use super::sessions::{Cast, PROFILES};
-use crate::model::board::{members, only, Board, Standing, FILES, MOST_PASSES, PROGRAMS};
+use crate::model::board::{members, only, Board, Record, Standing};
+use crate::model::board::{FILES, MOST_PASSES, PROGRAMS, RECORDS};
 use crate::model::image::{self, *};
-use crate::model::settle::{awaited, would_give};
+use crate::model::settle::would_give;
 
 /// Sound images of many kinds, by the model alone.
 pub fn pool(size: usize, random: &mut Random) -> Vec<Vec<u8>> {
@@ -56,6 +57,19 @@ pub const DAMAGES: &[Damage] = &[
     can_be_given,
     other_favoured,
     nobody_favoured,
+    user_without_file,
+    user_file_range,
+    user_of_another_file,
+    user_of_another_record,
+    user_not_running,
+    user_waits,
+    in_use_twice,
+    record_handed_anyway,
+    awaited_by_no_waiter,
+    awaited_free,
+    awaited_not_inquired,
+    record_for_a_file,
+    file_for_a_record,
     number,
     leaves,
     number_and_leaves,
@@ -85,7 +99,7 @@ fn set_byte(image: &mut Vec<u8>, _: &Board, random: &mut Random) {
 }
 
 fn wrong_length(image: &mut Vec<u8>, _: &Board, random: &mut Random) {
-    const LENGTHS: [usize; 12] = [
+    const LENGTHS: [usize; 15] = [
         0,
         1,
         PROGRAM - 1,
@@ -94,6 +108,9 @@ fn wrong_length(image: &mut Vec<u8>, _: &Board, random: &mut Random) {
         COUNTS - 1,
         COUNTS,
         COUNTS + 1,
+        INQUIRY - 1,
+        INQUIRY,
+        LENGTH - INQUIRY_LEN,
         LENGTH - 1,
         LENGTH + 1,
         LENGTH + PROGRAM,
@@ -116,9 +133,29 @@ fn at(p: usize, field: usize) -> usize {
     PROGRAM * (p - 1) + field
 }
 
-/// Adds file f to a set of program p.
-fn add(image: &mut [u8], p: usize, set: usize, f: usize) {
-    image[at(p, set) + (f - 1) / 8] |= 1 << ((f - 1) % 8);
+/// The first byte of a field of program p's second row.
+fn inquiry(p: usize, field: usize) -> usize {
+    INQUIRY + INQUIRY_LEN * (p - 1) + field
+}
+
+/// Where the claims of program p begin, and its sets of open files in the same
+/// sequence.
+fn claims(p: usize) -> [usize; 3] {
+    [at(p, V), at(p, Q), inquiry(p, J)]
+}
+
+fn open(p: usize) -> [usize; 3] {
+    [at(p, W), at(p, R), inquiry(p, I)]
+}
+
+/// Adds file f to the set that begins at this byte.
+fn add(image: &mut [u8], set: usize, f: usize) {
+    image[set + (f - 1) / 8] |= 1 << ((f - 1) % 8);
+}
+
+/// Puts a record's number into two bytes.
+fn put(image: &mut [u8], at: usize, number: usize) {
+    image[at..at + RECORD].copy_from_slice(&(number as u16).to_le_bytes());
 }
 
 fn some_program(board: &Board, standing: Standing, random: &mut Random) -> Option<usize> {
@@ -200,47 +237,38 @@ fn stranger(image: &mut Vec<u8>, board: &Board, random: &mut Random) {
     }
 }
 
-/// W outside of V, or R outside of Q.
+/// W outside of V, R outside of Q, or I outside of J.
 fn outside_claim(image: &mut Vec<u8>, board: &Board, random: &mut Random) {
-    let set = if random.per_mille(500) { W } else { R };
     if let Some(p) = random.pick(&board.admitted()) {
-        add(image, p, set, random.within(1, FILES));
+        add(image, open(p)[random.below(3)], random.within(1, FILES));
     }
 }
 
 fn claims_meet(image: &mut Vec<u8>, board: &Board, random: &mut Random) {
     if let Some(p) = random.pick(&board.which(|program| program.claim() != 0)) {
-        let set = if random.per_mille(500) { V } else { Q };
         if let Some(f) = random.pick(&members(board.get(p).claim())) {
-            add(image, p, set, f);
+            add(image, claims(p)[random.below(3)], f);
         }
     }
 }
 
 fn absent_with_sets(image: &mut Vec<u8>, board: &Board, random: &mut Random) {
     if let Some(p) = some_program(board, Standing::Absent, random) {
-        let f = random.within(1, FILES);
-        let (claim, open) = if random.per_mille(500) {
-            (V, W)
-        } else {
-            (Q, R)
-        };
-        add(image, p, claim, f);
+        let (f, mode) = (random.within(1, FILES), random.below(3));
+        add(image, claims(p)[mode], f);
         if random.per_mille(500) {
-            add(image, p, open, f);
+            add(image, open(p)[mode], f);
         }
     }
 }
 
 fn held_with_open(image: &mut Vec<u8>, board: &Board, random: &mut Random) {
     if let Some(p) = some_program(board, Standing::Held, random) {
-        if let Some(f) = random.pick(&members(board.get(p).claim())) {
-            add(
-                image,
-                p,
-                if board.get(p).v & only(f) != 0 { W } else { R },
-                f,
-            );
+        let program = board.get(p);
+        if let Some(f) = random.pick(&members(program.claim())) {
+            let claimed = |claim: &u64| claim & only(f) != 0;
+            let mode = [program.v, program.q, program.j].iter().position(claimed);
+            add(image, open(p)[mode.expect("a claimed file")], f);
         }
     }
 }
@@ -248,9 +276,8 @@ fn held_with_open(image: &mut Vec<u8>, board: &Board, random: &mut Random) {
 /// A waiter runs with its file, though it can't be given.
 fn give_anyway(image: &mut Vec<u8>, board: &Board, random: &mut Random) {
     if let Some(p) = random.pick(&board.waiting) {
-        let mut board = board.with_given(p, awaited(board, p));
-        board.get_mut(p).standing = Standing::Running;
-        board.end_wait(p);
+        let mut board = board.clone();
+        board.serve(p);
         *image = image::write(&board);
     }
 }
@@ -299,6 +326,153 @@ fn other_favoured(image: &mut Vec<u8>, board: &Board, random: &mut Random) {
 
 fn nobody_favoured(image: &mut Vec<u8>, _: &Board, _: &mut Random) {
     image[FAVOURED..COUNTS].fill(0);
+}
+
+/// One of the programs with a record in use, and its record.
+fn some_user(board: &Board, random: &mut Random) -> Option<(usize, Record)> {
+    let p = random.pick(&board.which(|program| program.in_use.is_some()))?;
+    Some((p, board.get(p).in_use?))
+}
+
+/// One of the programs that await a record, and the record.
+fn some_record_waiter(board: &Board, random: &mut Random) -> Option<(usize, Record)> {
+    let p = random.pick(&board.which(|program| program.awaits().is_some()))?;
+    Some((p, board.get(p).awaits()?))
+}
+
+fn user_without_file(image: &mut Vec<u8>, board: &Board, random: &mut Random) {
+    if let Some((p, _)) = some_user(board, random) {
+        image[at(p, AWAITED)] = 0;
+    }
+}
+
+fn user_file_range(image: &mut Vec<u8>, board: &Board, random: &mut Random) {
+    if let Some((p, _)) = some_user(board, random) {
+        image[at(p, AWAITED)] = byte(random, FILES + 1);
+    }
+}
+
+/// Its file byte names another file; sound, if that is open for inquiry and nobody
+/// awaits the record.
+fn user_of_another_file(image: &mut Vec<u8>, board: &Board, random: &mut Random) {
+    if let Some((p, _)) = some_user(board, random) {
+        let open = members(board.get(p).i);
+        let any = random.within(1, FILES);
+        let f = random.pick(&open).filter(|_| random.per_mille(300));
+        image[at(p, AWAITED)] = f.unwrap_or(any) as u8;
+    }
+}
+
+/// The record of a user is another one, or none; the first is sound, if nobody awaits
+/// its own.
+fn user_of_another_record(image: &mut Vec<u8>, board: &Board, random: &mut Random) {
+    if let Some((p, _)) = some_user(board, random) {
+        let number = random.within(0, RECORDS) * random.below(2);
+        put(image, inquiry(p, RECORD_IN_USE), number);
+    }
+}
+
+/// A program that waits, is held or is absent has a record in use.
+fn user_not_running(image: &mut Vec<u8>, board: &Board, random: &mut Random) {
+    let idle = board.which(|program| program.standing != Standing::Running);
+    if let Some(p) = random.pick(&idle) {
+        put(image, inquiry(p, RECORD_IN_USE), random.within(1, RECORDS));
+        if random.per_mille(500) && board.get(p).standing == Standing::Absent {
+            image[at(p, AWAITED)] = random.within(1, FILES) as u8;
+        }
+    }
+}
+
+/// A user of a record waits: for its own file, or for its own record.
+fn user_waits(image: &mut Vec<u8>, board: &Board, random: &mut Random) {
+    if let Some((p, record)) = some_user(board, random) {
+        let mut board = board.clone();
+        board.get_mut(p).standing = Standing::Waiting(record.file);
+        board.get_mut(p).awaited_record = record.number * random.below(2);
+        board.waiting.push(p);
+        *image = image::write(&board);
+    }
+}
+
+/// A record in use is that of another program too, which runs without one; in most
+/// cases one with the file open for inquiry.
+fn in_use_twice(image: &mut Vec<u8>, board: &Board, random: &mut Random) {
+    if let Some((_, record)) = some_user(board, random) {
+        let any = random.per_mille(100);
+        let other = random.pick(&board.which(|program| {
+            program.standing == Standing::Running
+                && program.in_use.is_none()
+                && (any || program.i & only(record.file) != 0)
+        }));
+        if let Some(p) = other {
+            let mut board = board.clone();
+            board.get_mut(p).in_use = Some(record);
+            *image = image::write(&board);
+        }
+    }
+}
+
+/// One who awaits a record has it, though its user has it too; or its user has it no
+/// longer.
+fn record_handed_anyway(image: &mut Vec<u8>, board: &Board, random: &mut Random) {
+    if let Some((p, record)) = some_record_waiter(board, random) {
+        let mut board = board.clone();
+        match board.user(record) {
+            Some(user) if random.per_mille(500) => board.get_mut(user).in_use = None,
+            _ => board.serve(p),
+        }
+        *image = image::write(&board);
+    }
+}
+
+fn awaited_by_no_waiter(image: &mut Vec<u8>, board: &Board, random: &mut Random) {
+    let idle = board.which(|program| !matches!(program.standing, Standing::Waiting(_)));
+    if let Some(p) = random.pick(&idle) {
+        let in_use = board.get(p).in_use.map(|record| record.number);
+        let number = in_use.unwrap_or(random.within(1, RECORDS));
+        put(image, inquiry(p, AWAITED_RECORD), number);
+    }
+}
+
+/// Another number than the awaited one, which is in use in few cases.
+fn awaited_free(image: &mut Vec<u8>, board: &Board, random: &mut Random) {
+    if let Some((p, record)) = some_record_waiter(board, random) {
+        let other = [
+            record.number ^ 1,
+            record.number ^ 256,
+            random.within(1, RECORDS),
+        ];
+        put(image, inquiry(p, AWAITED_RECORD), other[random.below(3)]);
+    }
+}
+
+/// Somebody awaits a record in use of a file that is not in its I.
+fn awaited_not_inquired(image: &mut Vec<u8>, board: &Board, random: &mut Random) {
+    let Some((_, record)) = some_user(board, random) else {
+        return;
+    };
+    let outside = |p: &usize| board.get(*p).i & only(record.file) == 0;
+    let waiters: Vec<usize> = board.waiting.iter().copied().filter(outside).collect();
+    if let Some(p) = random.pick(&waiters) {
+        image[at(p, AWAITED)] = record.file as u8;
+        put(image, inquiry(p, AWAITED_RECORD), record.number);
+    }
+}
+
+/// One who waits for a file awaits a record of it.
+fn record_for_a_file(image: &mut Vec<u8>, board: &Board, random: &mut Random) {
+    let of_file = |p: &usize| board.get(*p).awaits().is_none();
+    let waiters: Vec<usize> = board.waiting.iter().copied().filter(of_file).collect();
+    if let Some(p) = random.pick(&waiters) {
+        put(image, inquiry(p, AWAITED_RECORD), random.within(1, RECORDS));
+    }
+}
+
+/// One who awaits a record waits for its file, which is open by it.
+fn file_for_a_record(image: &mut Vec<u8>, board: &Board, random: &mut Random) {
+    if let Some((p, _)) = some_record_waiter(board, random) {
+        put(image, inquiry(p, AWAITED_RECORD), 0);
+    }
 }
 
 fn number(image: &mut Vec<u8>, _: &Board, random: &mut Random) {

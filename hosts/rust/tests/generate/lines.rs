@@ -5,7 +5,8 @@ use crate::compare::call::Call;
 use crate::model::board::FILES;
 use crate::model::events::Request;
 use crate::model::journal::{file_columns, HIGHEST_PLACE, ROOM};
-use crate::model::line::{self, claimed, BEFORE_FILES, COUNT_R, COUNT_W, FILE, PROGRAM, VERB};
+use crate::model::line::{self, claimed, BEFORE_FILES, VERB};
+use crate::model::line::{COUNT_J, COUNT_R, COUNT_W, FILE, PROGRAM, RECORD};
 use std::ops::Range;
 
 /// Bytes at the edges of what fields and labels admit.
@@ -36,7 +37,7 @@ pub fn text(request: &Request, random: &mut Random) -> Vec<u8> {
 /// One to three damages of a line.
 pub fn damage(line: &mut Vec<u8>, random: &mut Random) {
     for _ in 0..1 + random.weighted(&[6, 2, 1]) {
-        match random.below(8) {
+        match random.below(9) {
             0 => change_byte(line, random),
             1 => line.truncate(random.below(line.len() + 1)),
             2 => lengthen(line, random),
@@ -44,6 +45,7 @@ pub fn damage(line: &mut Vec<u8>, random: &mut Random) {
             4 => swap_fields(line, random),
             5 => repeat_field(line, random),
             6 => change_count(line, random),
+            7 => change_record(line, random),
             _ => change_verb(line, random),
         }
     }
@@ -75,7 +77,7 @@ fn lengthen(line: &mut Vec<u8>, random: &mut Random) {
 
 /// Where the number fields may begin, and how many columns they have.
 fn field(line: &[u8], random: &mut Random) -> Option<Range<usize>> {
-    let mut all = vec![PROGRAM, FILE, COUNT_W, COUNT_R];
+    let mut all = vec![PROGRAM, FILE, RECORD, COUNT_W, COUNT_R, COUNT_J];
     all.extend(
         (0..)
             .map(claimed)
@@ -106,6 +108,17 @@ fn change_field(line: &mut [u8], random: &mut Random) {
     }
 }
 
+/// The same in the columns of a record.
+fn change_record(line: &mut [u8], random: &mut Random) {
+    const TEXTS: [&[u8; 5]; 16] = [
+        b"    0", b"    1", b"00001", b" 0001", b"1    ", b"   1 ", b"     ", b"65535", b"65536",
+        b"65545", b"66535", b"75535", b"99999", b"   -1", b"   +1", b"	   1",
+    ];
+    if line.len() >= RECORD.end {
+        line[RECORD].copy_from_slice(TEXTS[random.below(TEXTS.len())]);
+    }
+}
+
 fn swap_fields(line: &mut [u8], random: &mut Random) {
     if let Some([a, b]) = two_fields(line, random) {
         a.zip(b).for_each(|(a, b)| line.swap(a, b));
@@ -120,7 +133,7 @@ fn repeat_field(line: &mut [u8], random: &mut Random) {
 
 /// One more or one less in a count of ENTER, with or without its file.
 fn change_count(line: &mut Vec<u8>, random: &mut Random) {
-    let at = [COUNT_W, COUNT_R][random.below(2)].end - 1;
+    let at = [COUNT_W, COUNT_R, COUNT_J][random.below(3)].end - 1;
     if line.len() >= BEFORE_FILES {
         line[at] = line[at].wrapping_add(if random.per_mille(500) { 1 } else { 255 });
         if random.per_mille(300) {
@@ -130,13 +143,15 @@ fn change_count(line: &mut Vec<u8>, random: &mut Random) {
 }
 
 fn change_verb(line: &mut [u8], random: &mut Random) {
-    const VERBS: [&[u8; 6]; 18] = [
+    const VERBS: [&[u8; 6]; 26] = [
         b"ENTER ",
         b"OPEN  ",
         b"CLOSE ",
         b"DROP  ",
         b"LEAVE ",
         b"CANCEL",
+        b"FETCH ",
+        b"RETURN",
         b"enter ",
         b"OPENS ",
         b"LEAVES",
@@ -149,6 +164,12 @@ fn change_verb(line: &mut [u8], random: &mut Random) {
         b" CANCE",
         b"cancel",
         b"Cancel",
+        b"FETCH\0",
+        b" FETCH",
+        b"FETCHS",
+        b"fetch ",
+        b"RETUR ",
+        b"return",
     ];
     if line.len() >= VERB.end {
         line[VERB].copy_from_slice(VERBS[random.below(VERBS.len())]);

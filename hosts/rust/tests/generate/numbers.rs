@@ -1,10 +1,10 @@
-//! Numbers of programs and files, in range and out of it.
+//! Numbers of programs, files and records, in range and out of it.
 
 use super::random::Random;
 
-/// Numbers at the edges of programs and files, and such as would be in range
-/// if they lost their upper bits.
-pub const NUMBERS: [usize; 21] = [
+/// Numbers at the edges of programs, files and records, and such as would be in
+/// range if they lost their upper bits.
+pub const NUMBERS: [usize; 23] = [
     0,
     1,
     2,
@@ -19,6 +19,8 @@ pub const NUMBERS: [usize; 21] = [
     256,
     256 + 1,
     256 + 64,
+    (1 << 16) - 1,
+    1 << 16,
     (1 << 16) + 1,
     1 << 32,
     (1 << 32) + 1,

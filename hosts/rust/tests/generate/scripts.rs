@@ -1,13 +1,15 @@
 //! Sessions with a plan: many programs given at once, many admitted at once,
-//! and waiters that many pass. Programs, files and sizes are random.
+//! and waiters for a file or a record that many pass. Programs, files and sizes are
+//! random.
 
 use super::random::Random;
+use super::sessions::record;
 use crate::model::board::{only, Files, FILES, PROGRAMS};
 use crate::model::events::Request;
 
 pub type Script = fn(&mut Random) -> Vec<Request>;
 
-pub const SCRIPTS: [Script; 7] = [
+pub const SCRIPTS: [Script; 9] = [
     readers_behind_writer,
     readers_behind_waiter,
     held_behind_favoured,
@@ -15,6 +17,8 @@ pub const SCRIPTS: [Script; 7] = [
     writers_behind_a_stream,
     held_beside_a_waiter,
     many_beside_a_waiter,
+    clerks_behind_a_record,
+    held_beside_a_clerk,
 ];
 
 /// How many programs take part; in many cases all.
@@ -27,14 +31,25 @@ fn up_to_all(random: &mut Random) -> usize {
 }
 
 fn writer(p: usize, v: Files) -> Request {
-    Request::Enter { p, v, q: 0 }
+    let (q, j) = (0, 0);
+    Request::Enter { p, v, q, j }
 }
 
 /// All enter as readers of a file and open it.
 fn open_all(readers: &[usize], f: usize) -> Vec<Request> {
-    let (v, q) = (0, only(f));
-    let both = |&p: &usize| [Request::Enter { p, v, q }, Request::Open { p, f }];
+    let (v, q, j) = (0, only(f), 0);
+    let both = |&p: &usize| [Request::Enter { p, v, q, j }, Request::Open { p, f }];
     readers.iter().flat_map(both).collect()
+}
+
+/// All enter for inquiry into a file, open it and fetch one record.
+fn fetch_all(clerks: &[usize], f: usize, n: usize) -> Vec<Request> {
+    let (v, q, j) = (0, 0, only(f));
+    let all = |&p: &usize| {
+        let enter = Request::Enter { p, v, q, j };
+        [enter, Request::Open { p, f }, Request::Fetch { p, f, n }]
+    };
+    clerks.iter().flat_map(all).collect()
 }
 
 fn leave_all(programs: &[usize]) -> Vec<Request> {
@@ -189,5 +204,41 @@ fn many_beside_a_waiter(random: &mut Random) -> Vec<Request> {
     );
     requests.push(Request::Leave { p: user });
     requests.extend(leave_all(others));
+    requests
+}
+
+/// Clerks wait for one record. Others come and go until the oldest clerk is favoured
+/// in place of the next one; then each who has the record returns it or leaves.
+fn clerks_behind_a_record(random: &mut Random) -> Vec<Request> {
+    let (programs, f) = (random.shuffled(PROGRAMS), random.within(1, FILES));
+    let (clerks, others) = programs.split_at(random.within(2, 6));
+    let mut requests = fetch_all(clerks, f, record(random));
+    for &p in &others[..random.within(7, 12)] {
+        requests.extend([writer(p, 0), Request::Leave { p }]);
+    }
+    for &p in clerks {
+        if random.per_mille(300) {
+            requests.push(Request::Cancel { p });
+        }
+        if random.per_mille(500) {
+            requests.push(Request::Return { p });
+        }
+        requests.push(Request::Leave { p });
+    }
+    requests
+}
+
+/// The held ones are admitted until they have passed a clerk that waits for a record;
+/// when that is returned, the rest are admitted.
+fn held_beside_a_clerk(random: &mut Random) -> Vec<Request> {
+    let (programs, files) = (random.shuffled(PROGRAMS), random.shuffled(FILES));
+    let (clerks, others) = programs.split_at(2);
+    let mut requests = fetch_all(clerks, files[FILES - 1], record(random));
+    let script = held(others, &files, random);
+    requests.extend(script.requests);
+    requests.push(Request::Leave { p: script.user });
+    requests.push(Request::Return { p: clerks[0] });
+    requests.extend(leave_all(&script.held));
+    requests.extend(leave_all(clerks));
     requests
 }

@@ -4,42 +4,48 @@
 use super::lines;
 use super::numbers::astray;
 use super::random::Random;
+use super::sessions::record;
 use crate::model::board::{only, Files, FILES, PROGRAMS};
 use crate::model::line::{BEFORE_FILES, LONGEST};
-use crate::model::writer::Writing;
+use crate::model::writer::{self, Writing, CLAIMS};
 
 /// Verbs, numbers in range in most cases, claims and a label. What the verb
 /// does not use may be anything.
 pub fn writing(random: &mut Random) -> Writing {
-    let verb = random.weighted(&[0, 8, 2, 2, 2, 2, 2]);
+    let verb = random.weighted(&[0, 8, 2, 2, 2, 2, 2, 4, 2]);
     let program = random.within(1, PROGRAMS);
     let file = random.within(1, FILES);
-    let [verb, program, file] = [verb, program, file].map(|number| match random.below(8) {
+    let numbers = [verb, program, file, record(random)];
+    let [verb, program, file, record] = numbers.map(|number| match random.below(10) {
         0 => astray(number, random) as u64,
         _ => number as u64,
     });
-    let (v, q) = claims(random);
+    let [v, q, j] = claims(random);
+    let mut claims = writer::claims(v, q, j);
+    if random.per_mille(30) {
+        claims.resize(random.below(2 * CLAIMS), 1);
+    }
     Writing {
         verb,
         program,
         file,
-        v,
-        q,
+        record,
+        claims,
         label: label(random),
     }
 }
 
 /// Claims of any size; they meet in many cases, and are all files in some.
-pub fn claims(random: &mut Random) -> (Files, Files) {
-    let v = claim(random);
-    let q = claim(random);
+pub fn claims(random: &mut Random) -> [Files; 3] {
+    let [v, q, j] = [0; 3].map(|_: Files| claim(random));
     match random.below(8) {
-        0 => (v, v),
-        1 => (v, !v),
-        2 => (v, 0),
-        3 => (0, q),
-        4 => (Files::MAX, Files::MAX),
-        _ => (v, q),
+        0 => [v, v, j],
+        1 => [v, !v, 0],
+        2 => [v, 0, v],
+        3 => [0, q, !q],
+        4 => [Files::MAX; 3],
+        5 => [0, 0, j],
+        _ => [v, q, j],
     }
 }
 
