@@ -77,7 +77,7 @@ pub struct Request {
 pub struct Group {
     pub good: bool,
     pub rising: bool,
-    pub last: u8,
+    pub last: u16,
     pub files: FileSet,
 }
 
@@ -260,7 +260,7 @@ fn join(g: Group, part: &[u8]) -> Group
             files: before,
         };
     };
-    let f = n as u8;
+    let f = n as u16;
     let files = before.with(f);
     if g.last < f {
         return Group {
