@@ -136,7 +136,7 @@ returns c = rw (sym (c .before .programs-sound .ensures) ∙ not-true (c .before
 returns-2 : tie.Need-returns-2
 unfolding sound
 returns-2 c = let s = s1 (c .before) in let n = sym (s .pre .1 .is-ordered) ∙ not-true (s .args .ordered) (c .if2 .taken) in
-    by-test (noConflict (board s)) (λ t. rw (past1 (c .before), t, n)) (λ t. rw (past1 (c .before), t, n))
+    by-test (noConflict (board s)) (λ t. rw (past1 (c .before), t, n)) (λ t. rw (past1 (c .before), t))
 
 returns-3 : tie.Need-returns-3
 unfolding sound
