@@ -367,7 +367,10 @@ fn writings_agree_in_every_buffer() {
     let mut met = Counters::default();
     let full = enters(32, b"        ", Files::MAX, Files::MAX, Files::MAX);
     let any = |_| writings::writing(&mut random);
-    let all: Vec<Writing> = std::iter::once(full).chain((0..200).map(any)).collect();
+    let all: Vec<Writing> = [full, fetch(1, 1, 0)]
+        .into_iter()
+        .chain((0..200).map(any))
+        .collect();
     for writing in all {
         let len = writing
             .line(usize::MAX)
