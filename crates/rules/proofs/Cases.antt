@@ -1,4 +1,4 @@
--- The cases (a) to (j) of 01, and more, with those of 02's CR 2 and CR 5, as one table with one theorem over it: each case is computed
+-- The cases (a) to (j) of 01, and more, with those of 02's CR 2, CR 5 and CR 7, as one table with one theorem over it: each case is computed
 -- from the definitions. That direct calls come to the same is proved in theory/proofs/Cases.
 -- Assumes nothing.
 use Prim.Native.Nat.{ℕ}
@@ -855,11 +855,72 @@ ll =
       favoured = 0 ∷ 0 ∷ 0 ∷ [];
     }
 
+-- (mm) a file open for inquiry: 15 while it is open, 16 and 14 once it is closed and dropped; a file that is claimed, or open for reading, gives no
+-- record, 20; a return leaves the file open
+mm : Case
+unfolding yes no set nobody
+mm =
+    record {
+      told =
+          yes (Enter 3 noFiles (set (8 ∷ [])) (set (9 ∷ []))) Answer.Admit []
+          ∷ yes (Open 3 8) Answer.Given []
+          ∷ no (Fetch 3 8 1) Refusal.NoRecord
+          ∷ no (Fetch 3 9 1) Refusal.NoRecord
+          ∷ yes (Open 3 9) Answer.Given []
+          ∷ no (Open 3 9) Refusal.IsOpen
+          ∷ no (Drop 3 9) Refusal.IsOpen
+          ∷ yes (Fetch 3 9 1) Answer.Given []
+          ∷ yes (Return 3) Answer.Done []
+          ∷ yes (Fetch 3 9 2) Answer.Given []
+          ∷ yes (Return 3) Answer.Done []
+          ∷ yes (Close 3 9) Answer.Done []
+          ∷ no (Close 3 9) Refusal.NotOpen
+          ∷ yes (Drop 3 9) Answer.Done []
+          ∷ no (Open 3 9) Refusal.NotClaimed
+          ∷ [];
+      order = 3 ∷ [];
+      favoured = nobody;
+    }
+
+-- (nn) a fetch does not settle, given or waiting; a record's user enters, 9; 8, 11 and 12 of FETCH and RETURN, 8 before 19; a held program keeps
+-- its inquiry claim
+nn : Case
+unfolding yes no set writer gets nobody
+nn =
+    record {
+      told =
+          writer 1 (1 ∷ 2 ∷ [])
+          ∷ writer 2 (1 ∷ 2 ∷ [])
+          ∷ yes (Enter 3 noFiles noFiles (set (9 ∷ []))) Answer.Admit []
+          ∷ yes (Enter 5 noFiles noFiles (set (9 ∷ []))) Answer.Admit []
+          ∷ gets 3 9
+          ∷ gets 5 9
+          ∷ gets 1 1
+          ∷ yes (Open 2 2) Answer.Unsafe []
+          ∷ yes (Fetch 3 9 1) Answer.Given []
+          ∷ yes (Fetch 5 9 1) Answer.Wait []
+          ∷ no (Enter 3 noFiles noFiles noFiles) Refusal.NotAbsent
+          ∷ yes (Return 3) Answer.Done (lineOf Word.Given 5 9 1 ∷ line Word.Favour 2 2 ∷ [])
+          ∷ yes (Enter 6 noFiles noFiles (set (9 ∷ []))) Answer.Held []
+          ∷ no (Fetch 6 9 2) Refusal.IsHeld
+          ∷ no (Return 6) Refusal.IsHeld
+          ∷ no (Return 7) Refusal.IsAbsent
+          ∷ no (Return 0) Refusal.OutOfRange
+          ∷ no (Return 33) Refusal.OutOfRange
+          ∷ no (Fetch 3 0 1) Refusal.OutOfRange
+          ∷ no (Fetch 3 65 0) Refusal.OutOfRange
+          ∷ yes (Leave 1) Answer.Done (line Word.Given 2 2 ∷ line Word.Admit 6 0 ∷ [])
+          ∷ gets 6 9
+          ∷ [];
+      order = 2 ∷ 3 ∷ 5 ∷ 6 ∷ [];
+      favoured = nobody;
+    }
+
 pub table : List Case
-unfolding a b c d e f g h i j k l m n o p q r s t u v w x y z aa bb cc dd ee ff gg hh ii jj kk ll
+unfolding a b c d e f g h i j k l m n o p q r s t u v w x y z aa bb cc dd ee ff gg hh ii jj kk ll mm nn
 table =
     a ∷ b ∷ c ∷ d ∷ e ∷ f ∷ g ∷ h ∷ i ∷ j ∷ k ∷ l ∷ m ∷ n ∷ o ∷ p ∷ q ∷ r ∷ s ∷ t ∷ u ∷ v ∷ w ∷ x ∷ y ∷ z
-    ∷ aa ∷ bb ∷ cc ∷ dd ∷ ee ∷ ff ∷ gg ∷ hh ∷ ii ∷ jj ∷ kk ∷ ll ∷ []
+    ∷ aa ∷ bb ∷ cc ∷ dd ∷ ee ∷ ff ∷ gg ∷ hh ∷ ii ∷ jj ∷ kk ∷ ll ∷ mm ∷ nn ∷ []
 
 -- the calls of a case
 pub calls : Case → List Call
