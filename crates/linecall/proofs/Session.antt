@@ -1,4 +1,4 @@
--- 01's session through the line call, bytes in and bytes out, and 02's CANCEL after it: antt computes them from the definitions.
+-- 01's session through the line call, bytes in and bytes out, 02's CANCEL after it, and a session with 02's FETCH and RETURN: antt computes them from the definitions.
 -- Assumes nothing.
 use Prim.Native.Nat.{ℕ}
 use mathlib.Core.Path.{_≡_, refl}

@@ -1,4 +1,4 @@
--- Lines that are refused with 3 to 7, as one table, and CANCEL lines that are taken: antt computes each from the definitions. Assumes nothing.
+-- Lines that are refused with 3 to 7, as one table, and CANCEL, FETCH and RETURN lines that are taken: antt computes each from the definitions. Assumes nothing.
 use Prim.Native.Nat.{ℕ}
 use mathlib.Core.Path.{_≡_, refl}
 use mathlib.Core.List.{List, [], _∷_, map}

@@ -107,7 +107,7 @@ abbrev pub linesOf : Reply → List Line
 linesOf r = take (r .count) (r .lines)
 
 -- the lines of settling: "The answer comes first, then settling's GIVEN lines, then FAVOUR .. or ADMIT lines."; after an enter's HELD the
--- FAVOUR line of a waiter
+-- FAVOUR line of a waiter, and after a DONE the GIVEN line of one to whom a record is handed on
 abbrev pub settlingLines : Reply → List Line
 settlingLines r = drop 1 (linesOf r)
 

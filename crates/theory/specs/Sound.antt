@@ -33,7 +33,7 @@ use Rattle.theory.specs.Records.{Uses, Wants, uses-of, of-uses, wants-of
 use Rattle.theory.specs.Loose.{Awaits, Asks, Loose, waiting-in, OnLine, Asked, Good, waiting-file}
 use Rattle.theory.specs.Calls.{apply-stepped}
 
--- "W is within V, R within Q, V and Q share nothing"
+-- "W is within V, R within Q, V and Q share nothing"; I is within J, "a third claim J, disjoint from V and Q"
 pub record SetsAsAbove (q : Program) : Type 0 where
   pub inside : (m : Mode) → within (openOf m q) (claimOf m q) ≡ true
   pub claims-apart : claimsMeet (q .writable) (q .readable) (q .inquirable) ≡ false
