@@ -22,7 +22,8 @@ use Rattle.rules.specs.Calls.{countLeave, withdrawn}
 use Rattle.theory.specs.Programs.{Is, Sized}
 use Rattle.theory.specs.Loose.{waitsIn, heldAt, Loose, Counts, Good, test-same, loose-close, loose-drop}
 use Rattle.theory.specs.Settling.{settle-settled, hand-settled}
-use Rattle.theory.specs.Calls.{crowd, enter-may, open-may, close-may, leave-may, leave-left, return-may, return-settled, item-loose, cancel-may, cancel-withdrawn}
+use Rattle.theory.specs.Calls.{crowd, enter-may, open-may, close-may, leave-may}
+use Rattle.theory.specs.Calls.{leave-left, return-may, return-settled, item-loose, cancel-may, cancel-withdrawn}
 use Rattle.theory.specs.Calls.{still-counts}
 use Rattle.theory.specs.Sound.{sound-iff, sound-good}
 

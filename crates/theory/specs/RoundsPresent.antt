@@ -194,7 +194,8 @@ empty-board P w e C f n l a b c d i j k = rw (a, b, c, d, i, j, k)
 -- "The empty board is a constant": the only sound board without programs.
 pub is-empty : (b : Board) → Good b → Counts32 b → ((i : ℕ) → Is i → absentIn (b .programs) i ≡ true) → b ≡ emptyBoard
 is-empty b g z h = empty-board (b .programs) (b .waiting) (b .entry) (b .passed) (b .favoured) (b .initial) (b .leaves)
-    (empty-programs (b .programs) (g .loose .base .size) (λ i c. gone-program (prog (b .programs) i) (g .loose .base .own i c) (g .counts .records .own i c) (h i c)))
+    (empty-programs (b .programs) (g .loose .base .size)
+    (λ i c. gone-program (prog (b .programs) i) (g .loose .base .own i c) (g .counts .records .own i c) (h i c)))
     (empty-line (b .waiting) _ (g .loose .waits) (λ p c. ap isWaiting (absent-is (stands (b .programs) p) (h p c))))
     (empty-line (b .entry) _ (g .loose .helds) (λ p c. ap isHeld (absent-is (stands (b .programs) p) (h p c))))
     nobody (g .loose .nobody nobody .0) (g .loose .nobody nobody .1)

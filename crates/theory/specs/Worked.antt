@@ -26,7 +26,8 @@ use Rattle.rules.specs.Orders.{heldBack, carriedFrom, carried, withGiven, inUse
 use Rattle.rules.specs.Soundness.{setsSound, standingSound, programSound, noConflict, lineSound, waiterSound, noneFavoured, someFavoured}
 use Rattle.rules.specs.Soundness.{mayHave, itemSound, usesDiffer, awaitedInUse, countSound, sound}
 use Rattle.rules.specs.Replies.{refused, blank, reply, refuse, linesOf, orderOf, number}
-use Rattle.rules.specs.Checks.{refuseIf, unlessRunning, unlessStopped, enterCheck, openCheck, closeCheck, leaveCheck, cancelCheck, isRecord, fetchCheck, returnCheck}
+use Rattle.rules.specs.Checks.{refuseIf, unlessRunning, unlessStopped, enterCheck, openCheck}
+use Rattle.rules.specs.Checks.{closeCheck, leaveCheck, cancelCheck, isRecord, fetchCheck, returnCheck}
 use Rattle.rules.specs.Calls.{enter, openFile, done, closeFile, dropFile, leave, Call, Enter, Open, Close, Drop, Leave, checked, accepted}
 use Rattle.rules.specs.Calls.{holdFor, Cancel, cancel, Fetch, fetch, Return, returnItem, finish, apply, direct}
 use Rattle.rules.specs.Settling.{overdue}
