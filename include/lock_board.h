@@ -9,7 +9,7 @@
 extern "C" {
 #endif
 
-#define LOCK_BOARD_VERSION "1.7.1" /* the image's form belongs to it; see CHANGELOG.md */
+#define LOCK_BOARD_VERSION "1.7.0" /* the image's form belongs to it; see CHANGELOG.md */
 
 #define LOCK_BOARD_IMAGE_LEN     1827 /* bytes of a board's image */
 #define LOCK_BOARD_JOURNAL_ROOM  672  /* bytes of journal that a call asks for from its place on */
@@ -30,19 +30,16 @@ extern "C" {
 /*
  * The answer for a refusal: 2^64 less its number. So the number of a refusal is
  * LOCK_BOARD_REFUSED(answer). No other answer is above LOCK_BOARD_HIGHEST_PLACE +
- * LOCK_BOARD_JOURNAL_ROOM: LOCK_BOARD_IS_REFUSAL(answer) asks that. It is 0 for the new
- * place after a REFUSE line.
+ * LOCK_BOARD_JOURNAL_ROOM.
  */
 #define LOCK_BOARD_REFUSED(number) (UINT64_MAX - (number) + 1)
-#define LOCK_BOARD_IS_REFUSAL(answer)                                                              \
-    ((answer) > (uint64_t)LOCK_BOARD_HIGHEST_PLACE + LOCK_BOARD_JOURNAL_ROOM)
-#define LOCK_BOARD_UNSOUND      LOCK_BOARD_REFUSED(LOCK_BOARD_REFUSAL_NOT_SOUND)
-#define LOCK_BOARD_JOURNAL_FULL LOCK_BOARD_REFUSED(LOCK_BOARD_REFUSAL_JOURNAL_FULL)
-#define LOCK_BOARD_NO_VERB      LOCK_BOARD_REFUSED(LOCK_BOARD_REFUSAL_NO_VERB)
-#define LOCK_BOARD_BAD_LABEL    LOCK_BOARD_REFUSED(LOCK_BOARD_REFUSAL_BAD_LABEL)
-#define LOCK_BOARD_OUT_OF_RANGE LOCK_BOARD_REFUSED(LOCK_BOARD_REFUSAL_OUT_OF_RANGE)
-#define LOCK_BOARD_BUFFER_SHORT LOCK_BOARD_REFUSED(LOCK_BOARD_REFUSAL_BUFFER_SHORT)
-#define LOCK_BOARD_BAD_RECORD   LOCK_BOARD_REFUSED(LOCK_BOARD_REFUSAL_BAD_RECORD)
+#define LOCK_BOARD_UNSOUND         LOCK_BOARD_REFUSED(LOCK_BOARD_REFUSAL_NOT_SOUND)
+#define LOCK_BOARD_JOURNAL_FULL    LOCK_BOARD_REFUSED(LOCK_BOARD_REFUSAL_JOURNAL_FULL)
+#define LOCK_BOARD_NO_VERB         LOCK_BOARD_REFUSED(LOCK_BOARD_REFUSAL_NO_VERB)
+#define LOCK_BOARD_BAD_LABEL       LOCK_BOARD_REFUSED(LOCK_BOARD_REFUSAL_BAD_LABEL)
+#define LOCK_BOARD_OUT_OF_RANGE    LOCK_BOARD_REFUSED(LOCK_BOARD_REFUSAL_OUT_OF_RANGE)
+#define LOCK_BOARD_BUFFER_SHORT    LOCK_BOARD_REFUSED(LOCK_BOARD_REFUSAL_BUFFER_SHORT)
+#define LOCK_BOARD_BAD_RECORD      LOCK_BOARD_REFUSED(LOCK_BOARD_REFUSAL_BAD_RECORD)
 
 /*
  * The numbers of the refusals; docs/REFUSALS.md has the words.
@@ -132,45 +129,6 @@ enum lock_board_verb {
     LOCK_BOARD_FETCH = 7,
     LOCK_BOARD_RETURN = 8
 };
-
-/*
- * What a request can be answered with, by its verb. A line that begins with no verb is
- * refused with 3.
- *
- *     verb    answer               lines after it        refused with
- *     ENTER   ADMIT, HELD          FAVOUR after HELD     4, 5, 6, 7, 9, 10
- *     OPEN    GIVEN, WAIT, UNSAFE  none                  4, 5, 11, 12, 13, 14, 15, 21
- *     CLOSE   DONE                 GIVEN, ADMIT, FAVOUR  4, 5, 11, 12, 13, 16, 21
- *     DROP    DONE                 GIVEN, ADMIT, FAVOUR  4, 5, 11, 12, 13, 14, 15, 21
- *     LEAVE   DONE                 GIVEN, ADMIT, FAVOUR  4, 5, 11, 12, 13
- *     CANCEL  DONE                 GIVEN, ADMIT, FAVOUR  4, 5, 11, 18
- *     FETCH   GIVEN, WAIT          none                  4, 5, 11, 12, 13, 20, 21
- *     RETURN  DONE                 GIVEN, ADMIT, FAVOUR  4, 5, 11, 12, 13, 20
- *
- * - OPEN does not say for what: the claim in which the file stands decides whether it is
- *   open for writing, for reading or for inquiry.
- * - LEAVE closes all files of the program and returns its record; so does CANCEL for one that
- *   waits or is held, which cannot leave.
- * - After WAIT, UNSAFE and HELD the program sends nothing until its GIVEN or ADMIT line, which
- *   stands after the answer to another program's request.
- * - In requests and in the journal, verbs and words are padded with blanks behind them to six
- *   columns, labels to eight; numbers with blanks before them to three columns, records to
- *   five, and have no leading zero. No line is padded at its end.
- */
-
-/*
- * The words of the journal in their six columns, to be compared with memcmp:
- * memcmp(line, LOCK_BOARD_WORD_GIVEN, LOCK_BOARD_WORD_LEN) == 0.
- */
-#define LOCK_BOARD_WORD_LEN    6
-#define LOCK_BOARD_WORD_ADMIT  "ADMIT "
-#define LOCK_BOARD_WORD_HELD   "HELD  "
-#define LOCK_BOARD_WORD_GIVEN  "GIVEN "
-#define LOCK_BOARD_WORD_WAIT   "WAIT  "
-#define LOCK_BOARD_WORD_UNSAFE "UNSAFE"
-#define LOCK_BOARD_WORD_DONE   "DONE  "
-#define LOCK_BOARD_WORD_FAVOUR "FAVOUR"
-#define LOCK_BOARD_WORD_REFUSE "REFUSE"
 
 /*
  * Where the numbers of a journal line begin, three columns each, the record's five; its word

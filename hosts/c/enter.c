@@ -13,10 +13,11 @@
  * Exit status: 0 if the line was written; 1 if there is no such line, or writing failed; 2 for
  * wrong arguments.
  */
-#include "lock_board_host.h"
+#include "lock_board.h"
 #include "phrases.h"
 #include "session.h"
 #include "version.h"
+#include "words.h"
 
 #include <errno.h>
 #include <stdio.h>
@@ -44,7 +45,7 @@ static struct text about(const char *what, const char *argument) {
 }
 
 static void say_refusal(struct text *text, int refusal) {
-    say(text, "refusal %d: %s", refusal, lock_board_refusal_words((uint64_t)refusal));
+    say(text, "refusal %d: %s", refusal, refusal_words(refusal));
 }
 
 /* Tells what was said; answers -1. */

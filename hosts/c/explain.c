@@ -64,24 +64,9 @@ static size_t claimed_at(size_t n) { return FILES_AT + NUMBER_LEN * n; }
 
 /* ---- refusals 3 to 7: what is wrong in the line */
 
-/* The byte order marks of UTF-8 and UTF-16, which some editors write before a text. */
-static const char *const marks[] = {"\xef\xbb\xbf", "\xff\xfe", "\xfe\xff"};
-
-static int has_mark(const struct refused *r) {
-    for (size_t i = 0; i < sizeof marks / sizeof marks[0]; i++)
-        if (r->len >= strlen(marks[i]) && memcmp(r->line, marks[i], strlen(marks[i])) == 0)
-            return 1;
-    return 0;
-}
-
 static void explain_verb(struct text *text, const struct refused *r) {
     if (r->len == 0) {
         say(text, "the line is empty");
-        return;
-    }
-    if (has_mark(r)) {
-        say(text, "the line begins with a byte order mark; write the requests without it, one byte"
-                  " for each column");
         return;
     }
     say(text, r->len < VERB_LEN ? "the line has only \"" : "columns 1-6 have \"");
@@ -382,33 +367,13 @@ static explanation *const explanations[] = {
     [LOCK_BOARD_REFUSAL_HAS_RECORD] = explain_has_record,
 };
 
-int explain_program(const uint8_t *journal) {
-    return number_at(journal + LOCK_BOARD_JOURNAL_PROGRAM);
-}
-
-int explain_refusal(const uint8_t *journal) {
-    return number_at(journal + LOCK_BOARD_JOURNAL_REFUSAL);
-}
-
-const uint8_t *explain_sender(const uint8_t *labels, const uint8_t *line, const uint8_t *journal) {
-    const int program = explain_program(journal);
-    if (program < 1)
-        return NULL;
-    if (is_verb(line, "ENTER"))
-        return line + LABEL_AT;
-    return labels + (program - 1) * LOCK_BOARD_LABEL_LEN;
-}
-
 /* Keeps the label of a program that has entered, and forgets that of one that is gone. */
-int explain_keep(uint8_t *labels, const uint8_t *line, const uint8_t *journal) {
-    uint8_t *label = labels + (explain_program(journal) - 1) * LOCK_BOARD_LABEL_LEN;
+static void keep_label(uint8_t *labels, const uint8_t *line, int program) {
+    uint8_t *label = labels + (program - 1) * LOCK_BOARD_LABEL_LEN;
     if (is_verb(line, "ENTER"))
         memcpy(label, line + LABEL_AT, LOCK_BOARD_LABEL_LEN);
     else if (removes_program(line))
         memset(label, 0, LOCK_BOARD_LABEL_LEN);
-    else
-        return 0;
-    return 1;
 }
 
 /* ` (program 2, file 1, record 17)`: what the journal line names. */
@@ -426,15 +391,15 @@ static void say_about(struct text *text, const struct refused *r) {
 size_t explain_answer(char *text, size_t text_len, unsigned long number, const uint8_t *image,
                       uint8_t *labels, const uint8_t *line, size_t line_len,
                       const uint8_t *journal) {
-    const int program = explain_program(journal);
+    const int program = number_at(journal + LOCK_BOARD_JOURNAL_PROGRAM);
     const int file = number_at(journal + LOCK_BOARD_JOURNAL_FILE);
-    const int refusal = explain_refusal(journal);
+    const int refusal = number_at(journal + LOCK_BOARD_JOURNAL_REFUSAL);
     const int record = number_in(journal + LOCK_BOARD_JOURNAL_RECORD, RECORD_LEN);
     struct text all = {text, text_len, 0};
     struct board_view view;
     struct refused refused = {line, line_len, program, file, record, &view, labels};
     if (refusal == 0) {
-        explain_keep(labels, line, journal);
+        keep_label(labels, line, program);
         return 0;
     }
     board_view_read(&view, image);

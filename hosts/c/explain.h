@@ -24,20 +24,4 @@ size_t explain_answer(char *text, size_t text_len, unsigned long number, const u
                       uint8_t *labels, const uint8_t *line, size_t line_len,
                       const uint8_t *journal);
 
-/* The program and the refusal that the first line of a journal names; 0 for none. */
-int explain_program(const uint8_t *journal);
-int explain_refusal(const uint8_t *journal);
-
-/*
- * The label of whoever has sent a line that was served, LOCK_BOARD_LABEL_LEN bytes: that of an
- * ENTER line itself, else that of the program; NULL if its journal names no program.
- */
-const uint8_t *explain_sender(const uint8_t *labels, const uint8_t *line, const uint8_t *journal);
-
-/*
- * Keeps the labels after a line that was not refused, as above. Answers whether a program
- * has entered or is gone by it.
- */
-int explain_keep(uint8_t *labels, const uint8_t *line, const uint8_t *journal);
-
 #endif

@@ -1,10 +1,5 @@
-/* Tests that the names of lock_board.h for verbs, answers, refusals, counts, records and words
- * stand for what the board answers, and for what its image holds. With an argument it lists
- * instead:
- *
- *     header_test words              the journal's words
- *     header_test verbs < REQUESTS   for each verb its answers, refusals and the lines after them
- */
+/* Tests that the names of lock_board.h for verbs, answers, refusals, counts and records stand for
+ * what the board answers, and for what its image holds. */
 #include "lock_board.h"
 
 #include <stdio.h>
@@ -47,7 +42,7 @@ static void test_verb(uint64_t verb, const char *expected) {
 static void test_refused(const char *what, uint64_t answer, uint64_t name, int refusal,
                          uint64_t number) {
     if (answer != name || answer + number != 0 || (uint64_t)refusal != number ||
-        LOCK_BOARD_REFUSED(answer) != number || !LOCK_BOARD_IS_REFUSAL(answer) || line[0] != '#')
+        LOCK_BOARD_REFUSED(answer) != number || line[0] != '#')
         fail(what);
 }
 
@@ -130,53 +125,8 @@ static void test_passed(uint8_t *image, uint8_t *journal) {
         fail("most passed");
 }
 
-/* The macro that asks for a refusal: up to the highest place that a call can answer it is none. */
-static void test_is_refusal(void) {
-    const uint64_t highest = (uint64_t)LOCK_BOARD_HIGHEST_PLACE + LOCK_BOARD_JOURNAL_ROOM;
-    if (LOCK_BOARD_IS_REFUSAL(0) || LOCK_BOARD_IS_REFUSAL(highest) ||
-        !LOCK_BOARD_IS_REFUSAL(highest + 1) ||
-        !LOCK_BOARD_IS_REFUSAL(LOCK_BOARD_REFUSED(LOCK_BOARD_REFUSAL_HAS_RECORD)))
-        fail("is a refusal");
-}
-
-static const char *const words[] = {
-    LOCK_BOARD_WORD_ADMIT,  LOCK_BOARD_WORD_HELD, LOCK_BOARD_WORD_GIVEN,  LOCK_BOARD_WORD_WAIT,
-    LOCK_BOARD_WORD_UNSAFE, LOCK_BOARD_WORD_DONE, LOCK_BOARD_WORD_FAVOUR, LOCK_BOARD_WORD_REFUSE};
-
-static int list_words(void) {
-    for (size_t i = 0; i < sizeof words / sizeof words[0]; i++)
-        printf("%.*s\n", LOCK_BOARD_WORD_LEN, words[i]);
-    return 0;
-}
-
-static int is_word(const uint8_t *journal, const char *word) {
-    return memcmp(journal, word, LOCK_BOARD_WORD_LEN) == 0;
-}
-
-/* Serves standard input; lists `VERB WORD`, `VERB REFUSE NUMBER` or `VERB then WORD` of each line.
- */
-static int list_verbs(void) {
+int main(void) {
     uint8_t image[LOCK_BOARD_IMAGE_LEN], journal[LOCK_BOARD_JOURNAL_ROOM];
-    char request[LOCK_BOARD_CUT_LINE + 1];
-    lock_board_empty(image, sizeof image);
-    while (fgets(request, sizeof request, stdin)) {
-        uint64_t place;
-        request[strcspn(request, "\n")] = 0;
-        place = serve(image, request, journal);
-        for (uint64_t at = 0; at < place; at += LOCK_BOARD_JOURNAL_LINE)
-            if (is_word(journal + at, LOCK_BOARD_WORD_REFUSE))
-                printf("%.6s REFUSE %.3s\n", request, journal + at + LOCK_BOARD_JOURNAL_REFUSAL);
-            else
-                printf("%.6s %s%.6s\n", request, at > 0 ? "then " : "", journal + at);
-    }
-    return 0;
-}
-
-int main(int argc, char **argv) {
-    uint8_t image[LOCK_BOARD_IMAGE_LEN], journal[LOCK_BOARD_JOURNAL_ROOM];
-    if (argc == 2)
-        return strcmp(argv[1], "words") == 0 ? list_words() : list_verbs();
-    test_is_refusal();
     test_verb(LOCK_BOARD_ENTER, "ENTER   7LABEL     2  1  2  1 64  2  9 33");
     test_verb(LOCK_BOARD_OPEN, "OPEN    7  9");
     test_verb(LOCK_BOARD_CLOSE, "CLOSE   7  9");

@@ -33,11 +33,6 @@ void say_label(struct text *text, const char *before, const uint8_t *labels, int
     say(text, "%s", after);
 }
 
-void say_program(struct text *text, const uint8_t *labels, int program) {
-    say(text, "program %d", program);
-    say_label(text, " (", labels, program, ")");
-}
-
 void say_programs(struct text *text, const uint8_t *labels, const uint8_t *programs) {
     const char *before = programs[0] && programs[1] ? "programs " : "program ";
     for (; *programs; programs++) {

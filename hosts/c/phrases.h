@@ -25,9 +25,6 @@ void say_bytes(struct text *text, const uint8_t *bytes, size_t len);
 void say_label(struct text *text, const char *before, const uint8_t *labels, int program,
                const char *after);
 
-/* `program 2`, or `program 3 (LISTS)`. */
-void say_program(struct text *text, const uint8_t *labels, int program);
-
 /* `program 2`, or `programs 2, 3 (LISTS)`: the programs of a list that ends with 0. */
 void say_programs(struct text *text, const uint8_t *labels, const uint8_t *programs);
 

@@ -1,15 +1,11 @@
 /*
  * For tests, loaded into a host by LD_PRELOAD: keeps a copy of what a power cut
- * would leave of an image file and of its record, and lets calls fail.
+ * would leave of an image file, and lets calls fail.
  *
- *     LOCK_BOARD_FILE     the image file; its record is beside it
- *     LOCK_BOARD_DISK     its copy: what is sure to be on the disk; that of the
- *                         record is beside it
+ *     LOCK_BOARD_FILE     the image file
+ *     LOCK_BOARD_DISK     its copy: what is sure to be on the disk
  *     LOCK_BOARD_FAILS    the call of a save that fails: openat, write, fsync,
- *                         renameat, renamed for one that is done all the same,
- *                         or folder for the fsync of the folder; or line, half
- *                         for the write of a record's line, which is not or half
- *                         done, or fdatasync for that of the record
+ *                         renameat, or folder for the fsync of the folder
  *
  * Sure to be on the disk is what a name held when its folder was last brought
  * there, if the file had been before; else nothing of the file is (the copy is
@@ -54,30 +50,9 @@ int openat(int folder, const char *path, int flags, ...) {
     return (int)syscall(SYS_openat, folder, path, flags, mode);
 }
 
-/* Whether a descriptor is that of the record. */
-static int is_record(int fd) {
-    const char *file = getenv("LOCK_BOARD_FILE");
-    char name[4096];
-    struct stat found, named;
-    if (!file)
-        return 0;
-    snprintf(name, sizeof name, "%s.record", file);
-    return fstat(fd, &found) == 0 && stat(name, &named) == 0 && found.st_ino == named.st_ino;
-}
-
-/* Writes so much of a record's line as the disk has room for, all in all 40 bytes or none. */
-static ssize_t write_half(int fd, const void *bytes, size_t room) {
-    if (room > 0)
-        return syscall(SYS_write, fd, bytes, room);
-    errno = ENOSPC;
-    return -1;
-}
-
 ssize_t write(int fd, const void *bytes, size_t len) {
     if (len == LOCK_BOARD_IMAGE_LEN && is_to_fail("write"))
         return -1;
-    if (is_record(fd) && (is_to_fail("line") || is_to_fail("half")))
-        return write_half(fd, bytes, is_to_fail("half") && len > 40 ? 40 : 0);
     return syscall(SYS_write, fd, bytes, len);
 }
 
@@ -85,9 +60,7 @@ int renameat(int from_folder, const char *from, int to_folder, const char *to) {
     if (is_to_fail("renameat"))
         return -1;
     reached = RENAMED;
-    if (syscall(SYS_renameat, from_folder, from, to_folder, to) < 0 || is_to_fail("renamed"))
-        return -1;
-    return 0;
+    return (int)syscall(SYS_renameat, from_folder, from, to_folder, to);
 }
 
 /* Copies what the image file holds, or nothing of it if it was not brought to the disk. */
@@ -109,38 +82,6 @@ static void copy_image(void) {
         rename(name, disk) < 0)
         abort();
     close(fd);
-}
-
-/* Copies the record, of which all is on the disk now. */
-static void copy_record(int fd) {
-    const char *disk = getenv("LOCK_BOARD_DISK");
-    char bytes[65536], name[4096], new_name[4096];
-    off_t at = 0;
-    ssize_t len;
-    int to;
-    if (!disk)
-        return;
-    snprintf(name, sizeof name, "%s.record", disk);
-    snprintf(new_name, sizeof new_name, "%s.record.new", disk);
-    to = open(new_name, O_WRONLY | O_CREAT | O_TRUNC, 0666);
-    while ((len = pread(fd, bytes, sizeof bytes, at)) > 0) {
-        if (syscall(SYS_write, to, bytes, (size_t)len) != len)
-            abort();
-        at += len;
-    }
-    if (to < 0 || len < 0 || rename(new_name, name) < 0)
-        abort();
-    close(to);
-}
-
-int fdatasync(int fd) {
-    static int asked; /* the first is for what a session before has left */
-    if (!is_record(fd))
-        return (int)syscall(SYS_fdatasync, fd);
-    if ((is_to_fail("fdatasync") && ++asked > 1) || syscall(SYS_fdatasync, fd) < 0)
-        return -1;
-    copy_record(fd);
-    return 0;
 }
 
 int fsync(int fd) {

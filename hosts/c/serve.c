@@ -1,52 +1,72 @@
 /*
  * An example host, installed as lockboard: serves request lines from standard input.
  *
- *     lockboard [--image FILE] [--strict] [--notify COMMAND]
- *     lockboard [--image FILE] --listen SOCKET [--mode MODE] [--strict] [--notify COMMAND]
- *     lockboard --send SOCKET [--wait] [--strict]
- *     lockboard --image FILE --show [--json] | --dot | --plan | --replay RECORD
- *     lockboard --refusals | --version | --help
+ *     lockboard [--image FILE]         serve; FILE keeps the board from session to session
+ *     lockboard --image FILE --show    show what stands on the board, and why somebody waits
+ *     lockboard --image FILE --dot     show who holds back whom, for Graphviz
+ *     lockboard --image FILE --plan    write the requests that empty the board
+ *     lockboard --refusals             list the refusals and their words
+ *     lockboard --version              show the version, and the kit that proved the board
  *
- * --help says what each option does. The journal goes to standard output, last the
- * ORDER line, as the program `board` writes them. Each refusal is also shown in words
- * on standard error, and at the end once more who had requests refused.
+ * The journal goes to standard output, last the ORDER line, as the program
+ * `board` writes them. Each refusal is also shown in words on standard error.
  *
- * Exit status: 0 if every line was served, refused ones too; 1 if the image, its
- * record, reading or writing failed; 2 for wrong options; 3 with --strict if a
- * request was refused.
+ * Exit status: 0 if every line was served, refused ones too; 1 if the image,
+ * reading or writing failed; 2 for wrong arguments.
  */
-#include "listen.h"
-#include "options.h"
+#include "explain.h"
+#include "image_file.h"
+#include "lock_board.h"
 #include "plan.h"
-#include "replay.h"
-#include "send.h"
-#include "serving.h"
 #include "session.h"
 #include "show.h"
+#include "version.h"
+#include "words.h"
 
 #include <errno.h>
 #include <stdio.h>
 #include <string.h>
 
 struct session {
-    struct serving serving;
+    uint8_t image[LOCK_BOARD_IMAGE_LEN];
     uint8_t line[LOCK_BOARD_CUT_LINE]; /* the line that is being read, cut */
     size_t len;
+    unsigned long number; /* lines served, the one at work among them */
+    uint8_t labels[EXPLAIN_LABELS_LEN];
 };
 
+/* Shows a text of the operator's, if there is one. */
+static void show_text(const char *text, size_t len) {
+    if (len > 0)
+        fprintf(stderr, "%.*s\n", (int)len, text);
+}
+
+/* Shows the refusal that an answer tells, one that has no journal line; answers -1. */
+static int show_refusal(const struct session *s, uint64_t answer) {
+    char text[EXPLAIN_TEXT_LEN];
+    show_text(text, refusal_text(text, sizeof text, s->number, (int)(0 - answer)));
+    return -1;
+}
+
 /*
- * Serves the line that was read. Its journal lines are written at once, so that each
- * answer is seen before the next request.
+ * Serves the line that was read. Its effect is on the disk before its journal lines are
+ * written, and these at once, so that each answer is seen before the next request.
  */
 static int serve_line(struct session *s) {
-    struct served served;
-    if (serving_line(&s->serving, s->line, s->len, &served) < 0)
+    uint8_t journal[LOCK_BOARD_JOURNAL_ROOM];
+    char text[EXPLAIN_TEXT_LEN];
+    uint64_t place;
+    s->number++;
+    place = lock_board_line(s->image, sizeof s->image, s->line, s->len, journal, sizeof journal, 0);
+    if (place == LOCK_BOARD_UNSOUND || place == LOCK_BOARD_JOURNAL_FULL)
+        return show_refusal(s, place);
+    if (image_file_save(s->image, s->number) < 0)
         return -1;
-    fwrite(served.journal, 1, served.journal_len, stdout);
-    if (session_flush(s->serving.number) < 0)
+    fwrite(journal, 1, place, stdout);
+    if (session_flush(s->number) < 0)
         return -1;
-    if (served.text_len > 0)
-        session_tell(served.text, (int)served.text_len);
+    show_text(text, explain_answer(text, sizeof text, s->number, s->image, s->labels, s->line,
+                                   s->len, journal));
     s->len = 0;
     return 0;
 }
@@ -70,11 +90,11 @@ static int serve_input(struct session *s) {
 }
 
 /* The ORDER line, which ends a session that has served all its input. */
-static int write_order(const struct serving *s) {
+static int write_order(const struct session *s) {
     uint8_t order[LOCK_BOARD_PROGRAMS];
     uint64_t count = lock_board_order(s->image, sizeof s->image, order, sizeof order);
     if (count > sizeof order) /* not met: the board is sound and the buffer long enough */
-        return serving_refusal(s, count);
+        return show_refusal(s, count);
     fputs("ORDER ", stdout);
     for (uint64_t i = 0; i < count; i++)
         printf("%3d", order[i]);
@@ -82,36 +102,30 @@ static int write_order(const struct serving *s) {
     return session_flush(s->number);
 }
 
-/* Serves all input. */
-static int serve(const struct options *options) {
-    struct session s = {.len = 0};
-    if (serving_begin(&s.serving, options->image) < 0)
-        return 1;
-    return session_end(serve_input(&s) < 0 || write_order(&s.serving) < 0);
-}
+/* The options that look at an image file and change nothing. */
+static const struct {
+    const char *option;
+    int (*look)(const char *path);
+} looks[] = {{"--show", show_board}, {"--dot", show_digraph}, {"--plan", write_plan}};
 
 int main(int argc, char **argv) {
-    int status;
+    struct session s = {.len = 0};
     session_begin();
-    for (int i = 1; i < argc; i++)
-        options_take(argv[i]);
-    status = options_done("lockboard");
-    if (status >= 0)
-        return status;
-    switch (options()->action) {
-    case SHOW:
-        return show_board(options()->image, options()->json);
-    case DOT:
-        return show_digraph(options()->image);
-    case PLAN:
-        return write_plan(options()->image);
-    case LISTEN:
-        return listen_serve(options()->image, options()->listen, options()->mode);
-    case SEND:
-        return send_lines(options()->send, options()->wait, options()->strict);
-    case REPLAY:
-        return replay(options()->image, options()->replay);
-    default:
-        return serve(options());
+    if (argc == 2 && strcmp(argv[1], "--refusals") == 0)
+        return list_refusals();
+    if (argc == 2 && strcmp(argv[1], "--version") == 0)
+        return show_version();
+    for (size_t i = 0; i < sizeof looks / sizeof looks[0]; i++)
+        if (argc == 4 && strcmp(argv[1], "--image") == 0 && strcmp(argv[3], looks[i].option) == 0)
+            return looks[i].look(argv[2]);
+    if (argc != 1 && !(argc == 3 && strcmp(argv[1], "--image") == 0)) {
+        fprintf(stderr, "usage: lockboard [--image FILE [--show | --dot | --plan] | --refusals |"
+                        " --version]\n");
+        return 2;
     }
+    if (argc == 1)
+        lock_board_empty(s.image, sizeof s.image);
+    else if (image_file_open(argv[2], s.image) < 0)
+        return 1;
+    return serve_input(&s) < 0 || write_order(&s) < 0 ? 1 : 0;
 }

@@ -1,9 +1,8 @@
 #include "show.h"
 
-#include "json.h"
+#include "image_file.h"
 #include "loop.h"
 #include "phrases.h"
-#include "picture.h"
 
 #include <errno.h>
 #include <stdio.h>
@@ -33,12 +32,20 @@ static void write_paragraph(const char *text) {
     putchar('\n');
 }
 
-/* `program 1 (STOCK) runs: inquires into file 1; has record 17 of file 1; may still write file 2`
- */
-static void show_admitted(const struct picture *picture) {
+/* The files that a program claims and has not open. */
+static struct file_sets not_open(const struct program_view *program) {
+    struct file_sets left = program->claims;
+    left.write &= ~program->open.write;
+    left.read &= ~program->open.read;
+    left.inquiry &= ~program->open.inquiry;
+    return left;
+}
+
+/* `program 1 runs: inquires into file 1; has record 17 of file 1; may still write files 2, 3` */
+static void show_admitted(const struct board_view *view) {
     int any = 0;
     for (int p = 1; p <= LOCK_BOARD_PROGRAMS; p++) {
-        const struct program_view *program = &picture->view.programs[p];
+        const struct program_view *program = &view->programs[p];
         const struct file_sets left = not_open(program);
         const char *standing = program->standing == LOCK_BOARD_RUNNING ? "runs" : "waits";
         char bytes[PARAGRAPH_LEN];
@@ -48,9 +55,7 @@ static void show_admitted(const struct picture *picture) {
         if (!any)
             puts("Admitted:");
         any = 1;
-        say(&text, "  ");
-        say_program(&text, picture->told.labels, p);
-        say(&text, " %s: ", standing);
+        say(&text, "  program %d %s: ", p, standing);
         say_open(&text, program);
         say_record(&text, "; ", program);
         say(&text, files_of_all(&left) ? "; may still " : "; may open nothing more");
@@ -61,19 +66,17 @@ static void show_admitted(const struct picture *picture) {
         puts("Admitted: nobody");
 }
 
-/* `; held back by program 1 (STOCK) in file 1, program 3 (BILLS) in files 2, 4` */
-static void say_holders(struct text *text, const struct picture *picture, int p) {
-    const struct program_view *programs = picture->view.programs;
-    const char *before = "; held back by ";
+/* `; held back by program 1 (file 1), program 3 (files 2, 4)` */
+static void say_holders(struct text *text, const struct board_view *view, int p) {
+    const char *before = "; held back by";
     for (int i = 1; i <= LOCK_BOARD_PROGRAMS; i++) {
-        const uint64_t files = holds_back_in(&programs[i], &programs[p]);
+        const uint64_t files = holds_back_in(&view->programs[i], &view->programs[p]);
         if (i == p || !files)
             continue;
-        say(text, "%s", before);
-        say_program(text, picture->told.labels, i);
-        say(text, " in ");
+        say(text, "%s program %d (", before, i);
         say_files(text, files);
-        before = ", ";
+        say(text, ")");
+        before = ",";
     }
 }
 
@@ -93,42 +96,34 @@ static void say_loop(struct text *text, const struct board_view *view, const str
 }
 
 /* `program 2 waits for file 1, which program 3 reads; passed by 2 of at most 8 programs` */
-static void show_waiter(const struct picture *picture, int p) {
-    const struct loop loop = loop_of(&picture->view, picture->image, p);
-    char bytes[PARAGRAPH_LEN];
-    struct text text = {bytes, sizeof bytes, 0};
-    say(&text, "  ");
-    say_program(&text, picture->told.labels, p);
-    say(&text, " ");
-    say_wait(&text, picture->told.labels, &picture->view, p);
-    if (loop.count > 0) {
-        say_loop(&text, &picture->view, &loop);
-        say_holders(&text, picture, p);
+static void show_waiting(const struct board_view *view, const uint8_t *image) {
+    puts(view->waiting_line[0] ? "Waiting, oldest first:" : "Waiting: nobody");
+    for (const uint8_t *p = view->waiting_line; *p; p++) {
+        const struct loop loop = loop_of(view, image, *p);
+        char bytes[PARAGRAPH_LEN];
+        struct text text = {bytes, sizeof bytes, 0};
+        say(&text, "  program %d ", *p);
+        say_wait(&text, NULL, view, *p);
+        if (loop.count > 0) {
+            say_loop(&text, view, &loop);
+            say_holders(&text, view, *p);
+        }
+        say(&text, "; passed by %d of at most %d programs", view->programs[*p].passed,
+            LOCK_BOARD_MOST_PASSED);
+        write_paragraph(bytes);
     }
-    say(&text, "; passed by %d of at most %d programs", picture->view.programs[p].passed,
-        LOCK_BOARD_MOST_PASSED);
-    write_paragraph(bytes);
 }
 
-static void show_waiting(const struct picture *picture) {
-    const uint8_t *line = picture->view.waiting_line;
-    puts(line[0] ? "Waiting, oldest first:" : "Waiting: nobody");
-    for (; *line; line++)
-        show_waiter(picture, *line);
-}
-
-/* `Favoured: program 2 (BILLS): gets file 1 after at most 3 leaves or waiters' cancels` */
-static void show_favoured(const struct picture *picture) {
-    const struct board_view *view = &picture->view;
+/* `Favoured: program 2 (gets file 1 after at most 3 leaves or waiters' cancels)` */
+static void show_favoured(const struct board_view *view) {
     const int leaves = leaves_to_come(view);
     char bytes[PARAGRAPH_LEN];
     struct text text = {bytes, sizeof bytes, 0};
     say(&text, "Favoured: ");
     if (view->favoured) {
-        say_program(&text, picture->told.labels, view->favoured);
-        say(&text, ": gets ");
+        say(&text, "program %d (gets ", view->favoured);
         say_awaited(&text, &view->programs[view->favoured]);
-        say(&text, " after at most %d %s", leaves,
+        say(&text, " after at most %d %s)", leaves,
             leaves == 1 ? "leave or waiter's cancel" : "leaves or waiters' cancels");
     } else {
         say(&text, "nobody");
@@ -136,58 +131,16 @@ static void show_favoured(const struct picture *picture) {
     write_paragraph(bytes);
 }
 
-/* `NAME: programs 1 (STOCK), 2`: the programs of a list that ends with 0. */
-static void show_list(const char *name, const uint8_t *labels, const uint8_t *programs) {
+/* `NAME: programs 1, 2`: the programs of a list that ends with 0. */
+static void show_list(const char *name, const uint8_t *programs) {
     char bytes[PARAGRAPH_LEN];
     struct text text = {bytes, sizeof bytes, 0};
     say(&text, "%s: ", name);
     if (programs[0])
-        say_programs(&text, labels, programs);
+        say_programs(&text, NULL, programs);
     else
         say(&text, "nobody");
     write_paragraph(bytes);
-}
-
-/* `  program 2 (ORDERS) at 2031-05-12T20:31:07Z: refusal 14: WORDS` */
-static void show_refusal(const struct picture *picture, int p) {
-    char bytes[PARAGRAPH_LEN];
-    struct text text = {bytes, sizeof bytes, 0};
-    say(&text, "  ");
-    say_program(&text, picture->told.labels, p);
-    say(&text, " at %s: refusal %d: %s", picture->told.refused[p].time,
-        picture->told.refused[p].refusal, picture->told.refused[p].words);
-    write_paragraph(bytes);
-}
-
-/* The last refusal of each program on the board, since the record was begun. */
-static void show_refused(const struct picture *picture) {
-    static const char *const unknown[] = {
-        [RECORD_ABSENT] = "there is no record",
-        [RECORD_OTHER] = "the record is one of another image",
-        [RECORD_DAMAGED] = "the record is damaged, or cannot be read",
-    };
-    int any = 0;
-    if (picture->record != RECORD_FITS) {
-        printf("Refused: not known, %s\n", unknown[picture->record]);
-        return;
-    }
-    for (int p = 1; p <= LOCK_BOARD_PROGRAMS; p++) {
-        if (!was_refused(picture, p))
-            continue;
-        if (!any)
-            printf("Refused since %s:\n", picture->scan.since);
-        any = 1;
-        show_refusal(picture, p);
-    }
-    if (!any)
-        puts("Refused: nobody");
-}
-
-/* `Nobody speaks for: programs 2 (ORDERS), 5`, where a session serves clients. */
-static void show_unspoken(const struct picture *picture) {
-    uint8_t unspoken[LOCK_BOARD_PROGRAMS + 1];
-    if (unspoken_for(picture, unspoken) > 0 && picture->is_listening)
-        show_list("Nobody speaks for", picture->told.labels, unspoken);
 }
 
 int shown(const char *if_not) {
@@ -198,21 +151,18 @@ int shown(const char *if_not) {
     return 1;
 }
 
-int show_board(const char *path, int as_json) {
-    static struct picture picture;
-    if (picture_read(&picture, path) < 0)
+int show_board(const char *path) {
+    uint8_t image[LOCK_BOARD_IMAGE_LEN], order[LOCK_BOARD_PROGRAMS + 1] = {0};
+    struct board_view view;
+    if (image_file_read(path, image) < 0)
         return 1;
-    if (as_json) {
-        write_json(&picture);
-        return shown(not_shown);
-    }
-    show_admitted(&picture);
-    show_waiting(&picture);
-    show_favoured(&picture);
-    show_list("Held at entry, oldest first", picture.told.labels, picture.view.entry_line);
-    show_list("Completion order", picture.told.labels, picture.order);
-    show_refused(&picture);
-    show_unspoken(&picture);
+    board_view_read(&view, image);
+    lock_board_order(image, sizeof image, order, LOCK_BOARD_PROGRAMS);
+    show_admitted(&view);
+    show_waiting(&view, image);
+    show_favoured(&view);
+    show_list("Held at entry, oldest first", view.entry_line);
+    show_list("Completion order", order);
     return shown(not_shown);
 }
 
@@ -265,55 +215,35 @@ static void show_record_waits(const struct board_view *view) {
     }
 }
 
-/* How a program stands: `waits for file 2, favoured`. */
-static void say_standing(struct text *text, const struct board_view *view, int p) {
-    const struct program_view *program = &view->programs[p];
-    if (program->standing == LOCK_BOARD_WAITING) {
-        say(text, "waits for ");
-        say_awaited(text, program);
-    } else if (program->standing == LOCK_BOARD_RUNNING) {
-        say(text, "runs");
-        say_record(text, ", ", program);
-    } else {
-        say(text, "held at entry");
+/* The programs: `1 [label="program 1\nruns"];` */
+static void show_nodes(const struct board_view *view) {
+    for (int p = 1; p <= LOCK_BOARD_PROGRAMS; p++) {
+        const struct program_view *program = &view->programs[p];
+        char bytes[PARAGRAPH_LEN];
+        struct text text = {bytes, sizeof bytes, 0};
+        if (!is_admitted(program))
+            continue;
+        if (program->standing == LOCK_BOARD_WAITING) {
+            say(&text, "waits for ");
+            say_awaited(&text, program);
+        } else {
+            say(&text, "runs");
+            say_record(&text, ", ", program);
+        }
+        printf("    %d [label=\"program %d\\n%s\"];\n", p, p, bytes);
     }
-    if (view->favoured == p)
-        say(text, ", favoured");
-}
-
-/* Writes text between the quotes of Graphviz. */
-static void write_quoted(const char *text) {
-    for (; *text; text++) {
-        if (*text == '"' || *text == '\\')
-            putchar('\\');
-        putchar(*text);
-    }
-}
-
-/* A program: `1 [label="program 1 (STOCK)\nruns"];`, favoured framed twice, held dashed. */
-static void show_node(const struct picture *picture, int p) {
-    const struct board_view *view = &picture->view;
-    char bytes[PARAGRAPH_LEN];
-    struct text text = {bytes, sizeof bytes, 0};
-    say_program(&text, picture->told.labels, p);
-    printf("    %d [label=\"", p);
-    write_quoted(bytes);
-    text.len = 0;
-    say_standing(&text, view, p);
-    printf("\\n%s\"%s%s];\n", bytes, view->favoured == p ? ", peripheries=2" : "",
-           view->programs[p].standing == LOCK_BOARD_HELD ? ", style=dashed" : "");
 }
 
 int show_digraph(const char *path) {
-    static struct picture picture;
-    if (picture_read(&picture, path) < 0)
+    uint8_t image[LOCK_BOARD_IMAGE_LEN];
+    struct board_view view;
+    if (image_file_read(path, image) < 0)
         return 1;
+    board_view_read(&view, image);
     puts("digraph lock_board {");
-    for (int p = 1; p <= LOCK_BOARD_PROGRAMS; p++)
-        if (picture.view.programs[p].standing != LOCK_BOARD_ABSENT)
-            show_node(&picture, p);
-    show_edges(&picture.view, picture.image);
-    show_record_waits(&picture.view);
+    show_nodes(&view);
+    show_edges(&view, image);
+    show_record_waits(&view);
     puts("}");
     return shown(not_shown);
 }

@@ -3,18 +3,17 @@
 #define SHOW_H
 
 /*
- * Each reads the file and its record, without locking or changing them, and writes to standard
+ * Each reads the file, without locking or changing it, and writes to standard
  * output. Answers 0, or 1 after a message on standard error: there is no such
  * file, it holds no sound board (refusal 1), or the output fails. A reader that
- * goes away, as in `lockboard --image FILE --show | head -n 3`, is not told.
+ * goes away, as in `serve --image FILE --show | head -n 3`, is not told.
  */
 
-/* For a person, in at most 80 columns, or as one JSON document (json.h). */
-int show_board(const char *path, int as_json);
+/* For a person, in at most 80 columns. */
+int show_board(const char *path);
 
 /*
- * Who holds back whom among the admitted programs, and in which files, for Graphviz. Framed twice
- * is who is favoured; who is held at entry is there too, dashed, with no edge. Red is a
+ * Who holds back whom among the admitted programs, and in which files, for Graphviz. Red is a
  * loop of somebody who waits for want of an order, dashed its step that only the awaited file
  * makes; dotted leads from a record's user to who waits for the record.
  */

@@ -1,8 +1,11 @@
-/* The words of lock_board_host.h as all three hosts show them. */
+/* The refusals in words, as docs/REFUSALS.md has them; all three hosts show these. */
 #ifndef WORDS_H
 #define WORDS_H
 
 #include <stddef.h>
+
+/* The words of a refusal; NULL for a number that is none. */
+const char *refusal_words(int refusal);
 
 /*
  * What the operator sees of a refused line: writes `line N: refusal R: WORDS` into the

@@ -2,16 +2,17 @@
        PROGRAM-ID. COUNTER.
       * An example host: a counter's driver, which serves request
       * lines from standard input.
-      *     COUNTER [--image FILE] [--strict] [--notify COMMAND]
-      *     COUNTER --refusals | --version | --help
-      * --help says what each option does. The journal goes to
-      * standard output, last the ORDER line. The operator sees each
-      * refusal in words on standard error, and at the end once more
-      * who had requests refused.
+      *     COUNTER [--image FILE] serve; FILE keeps the board from
+      *                            session to session
+      *     COUNTER --refusals     list the refusals and their words
+      *     COUNTER --version      show the version and the kit
+      * The journal goes to standard output, last the ORDER line.
+      * The operator sees each refusal in words on standard error.
       * RETURN-CODE: 0 if every line was served, refused ones too;
-      * 1 if the image, its record, reading or writing failed; 2 for
-      * wrong options; 3 with --strict if a request was refused.
-      * The functions options, session and refusal_text are those of
+      * 1 if the image, reading or writing failed; 2 for wrong
+      * arguments.
+      * The functions image_file, session, refusal_text,
+      * explain_answer, list_refusals and show_version are those of
       * the host in C (hosts/c).
        ENVIRONMENT DIVISION.
        INPUT-OUTPUT SECTION.
@@ -28,11 +29,9 @@
            COPY LOCKBRD.
 
        01  ARGUMENT-COUNT          PIC 9(4) COMP-5.
-       01  ARGUMENT                PIC X(4096).
-      * An argument with a byte 0 after it, as C has it.
-       01  C-ARGUMENT              PIC X(4097).
-       01  HOST-NAME               PIC X(8) VALUE Z"COUNTER".
-       01  IMAGE-PATH              USAGE POINTER.
+       01  ARGUMENT                PIC X(80).
+       01  IMAGE-ARGUMENT          PIC X(4096).
+       01  IMAGE-PATH              PIC X(4097).
        01  NEXT-BYTE               PIC X.
            88  END-OF-LINE         VALUE X"0A".
        01  BYTES-READ              BINARY-LONG SIGNED.
@@ -40,8 +39,6 @@
            88  READ-FAILED         VALUE -1.
       * What a function of the host in C answers: 0 if all went well.
        01  OUTCOME                 BINARY-LONG SIGNED.
-           88  GO-ON               VALUE -1.
-           88  FAILED              VALUE 1.
        01  LINE-NUMBER             BINARY-DOUBLE UNSIGNED VALUE 0.
        01  LINE-COUNT              PIC 9(4) COMP-5.
        01  I                       PIC 9(4) COMP-5.
@@ -61,37 +58,40 @@
        PROCEDURE DIVISION.
        MAIN-PART.
            CALL STATIC "session_begin" RETURNING OMITTED
-           PERFORM TAKE-OPTIONS
-           IF GO-ON
-               PERFORM OPEN-IMAGE
-               PERFORM SERVE-INPUT
-               MOVE 0 TO OUTCOME
-               PERFORM END-SESSION
-           END-IF
-           MOVE OUTCOME TO RETURN-CODE
+           ACCEPT ARGUMENT-COUNT FROM ARGUMENT-NUMBER
+           ACCEPT ARGUMENT FROM ARGUMENT-VALUE
+           EVALUATE ARGUMENT-COUNT ALSO ARGUMENT
+               WHEN 0 ALSO ANY
+                   CALL STATIC "lock_board_empty" USING
+                       BY REFERENCE LB-IMAGE
+                       BY VALUE SIZE AUTO LB-IMAGE-LEN
+                       RETURNING LB-ANSWER
+                   PERFORM SERVE-INPUT
+               WHEN 2 ALSO "--image"
+                   PERFORM OPEN-IMAGE
+                   PERFORM SERVE-INPUT
+               WHEN 1 ALSO "--refusals"
+                   CALL STATIC "list_refusals" RETURNING RETURN-CODE
+               WHEN 1 ALSO "--version"
+                   CALL STATIC "show_version" RETURNING RETURN-CODE
+               WHEN OTHER
+                   DISPLAY "usage: COUNTER "
+                       "[--image FILE | --refusals | --version]"
+                       UPON SYSERR
+                   MOVE 2 TO RETURN-CODE
+           END-EVALUATE
            STOP RUN.
 
-      * OUTCOME is then the exit status, or says to go on.
-       TAKE-OPTIONS.
-           ACCEPT ARGUMENT-COUNT FROM ARGUMENT-NUMBER
-           PERFORM ARGUMENT-COUNT TIMES
-               ACCEPT ARGUMENT FROM ARGUMENT-VALUE
-               MOVE X"00" TO C-ARGUMENT
-               IF ARGUMENT NOT = SPACES
-                   STRING FUNCTION TRIM (ARGUMENT TRAILING) X"00"
-                       DELIMITED BY SIZE INTO C-ARGUMENT
-               END-IF
-               CALL STATIC "options_take" USING
-                   BY REFERENCE C-ARGUMENT RETURNING OMITTED
-           END-PERFORM
-           CALL STATIC "options_done" USING BY REFERENCE HOST-NAME
-               RETURNING OUTCOME.
-
+      * The path ends with a byte 0, as C has it.
        OPEN-IMAGE.
-           CALL STATIC "options_image" RETURNING IMAGE-PATH
-           CALL STATIC "session_open" USING
-               BY VALUE IMAGE-PATH BY REFERENCE LB-IMAGE
-               BY REFERENCE LABELS
+           ACCEPT IMAGE-ARGUMENT FROM ARGUMENT-VALUE
+           MOVE X"00" TO IMAGE-PATH
+           IF IMAGE-ARGUMENT NOT = SPACES
+               STRING FUNCTION TRIM (IMAGE-ARGUMENT TRAILING) X"00"
+                   DELIMITED BY SIZE INTO IMAGE-PATH
+           END-IF
+           CALL STATIC "image_file_open" USING
+               BY REFERENCE IMAGE-PATH BY REFERENCE LB-IMAGE
                RETURNING OUTCOME
            PERFORM STOP-IF-FAILED.
 
@@ -117,7 +117,8 @@
            IF READ-FAILED
                DISPLAY "COUNTER: the requests cannot be read"
                    UPON SYSERR
-               PERFORM STOP-FAILED
+               MOVE 1 TO RETURN-CODE
+               STOP RUN
            END-IF.
 
       * A line up to its byte 10, which the last one may lack. One
@@ -152,24 +153,25 @@
                    PERFORM WRITE-JOURNAL
            END-EVALUATE.
 
-      * The effect of the line is on the disk, and the line in the
-      * record, before its journal lines are written.
+      * The effect of the line is on the disk before its journal
+      * lines are written.
        WRITE-JOURNAL.
-           CALL STATIC "session_keep" USING
-               BY REFERENCE LB-IMAGE BY REFERENCE LABELS
-               BY VALUE SIZE AUTO LINE-NUMBER
-               BY REFERENCE LB-REQUEST BY VALUE SIZE AUTO LB-REQUEST-LEN
-               BY REFERENCE LB-JOURNAL BY VALUE SIZE AUTO LB-ANSWER
-               BY REFERENCE MESSAGE-TEXT BY VALUE SIZE AUTO MESSAGE-ROOM
-               RETURNING MESSAGE-LEN
-           IF MESSAGE-LEN < 0
-               PERFORM STOP-FAILED
-           END-IF
+           CALL STATIC "image_file_save" USING
+               BY REFERENCE LB-IMAGE BY VALUE SIZE AUTO LINE-NUMBER
+               RETURNING OUTCOME
+           PERFORM STOP-IF-FAILED
            DIVIDE LB-ANSWER BY LB-JOURNAL-LINE-LEN GIVING LINE-COUNT
            PERFORM VARYING I FROM 1 BY 1 UNTIL I > LINE-COUNT
                WRITE JOURNAL-RECORD FROM LB-COLUMNS (I)
            END-PERFORM
            PERFORM FLUSH-JOURNAL
+           CALL STATIC "explain_answer" USING
+               BY REFERENCE MESSAGE-TEXT BY VALUE SIZE AUTO MESSAGE-ROOM
+               BY VALUE SIZE AUTO LINE-NUMBER BY REFERENCE LB-IMAGE
+               BY REFERENCE LABELS
+               BY REFERENCE LB-REQUEST BY VALUE SIZE AUTO LB-REQUEST-LEN
+               BY REFERENCE LB-JOURNAL
+               RETURNING MESSAGE-LEN
            PERFORM SHOW-MESSAGE.
 
       * The ORDER line ends a session that has served all its input.
@@ -202,29 +204,13 @@
       * The function that failed has said why.
        STOP-IF-FAILED.
            IF OUTCOME NOT = 0
-               PERFORM STOP-FAILED
+               MOVE 1 TO RETURN-CODE
+               STOP RUN
            END-IF.
 
-       STOP-FAILED.
-           SET FAILED TO TRUE
-           PERFORM END-SESSION
-           MOVE OUTCOME TO RETURN-CODE
-           STOP RUN.
-
-      * OUTCOME says whether something has failed, and is then the
-      * exit status.
-       END-SESSION.
-           CALL STATIC "session_end" USING BY VALUE SIZE AUTO OUTCOME
-               RETURNING OUTCOME.
-
-      * As one piece: DISPLAY would write it byte by byte, and what
-      * others write there could come in between.
        SHOW-MESSAGE.
            IF MESSAGE-LEN > 0
-               CALL STATIC "session_tell" USING
-                   BY REFERENCE MESSAGE-TEXT
-                   BY VALUE SIZE AUTO MESSAGE-LEN
-                   RETURNING OMITTED
+               DISPLAY MESSAGE-TEXT (1:MESSAGE-LEN) UPON SYSERR
            END-IF.
 
       * Refusals 1 and 2 have no journal line and end the session.
@@ -236,4 +222,5 @@
                BY VALUE SIZE AUTO REFUSED-WITH
                RETURNING MESSAGE-LEN
            PERFORM SHOW-MESSAGE
-           PERFORM STOP-FAILED.
+           MOVE 1 TO RETURN-CODE
+           STOP RUN.

@@ -1,7 +1,6 @@
 //! Links the board's archive: the one in the directory that LOCK_BOARD_LIB names, else the one that
 //! `rt staticlib host` has built in this repository, else the one that hosts/install has installed.
-//! The example host also links the C functions that the hosts share and those for makers of hosts
-//! (hosts/c/common builds them).
+//! The example host also links the C functions that the hosts share (hosts/c/common builds them).
 
 use std::env;
 use std::path::{Path, PathBuf};
@@ -35,11 +34,9 @@ fn main() {
         "cargo:rustc-link-lib=static={}",
         name.trim_start_matches("lib")
     );
-    for name in ["libcommon.a", "liblockboard-host.a"] {
-        let common = here.join("../../target/hosts").join(name);
-        if common.exists() {
-            println!("cargo:rerun-if-changed={}", common.display());
-            println!("cargo:rustc-link-arg-examples={}", common.display());
-        }
+    let common = here.join("../../target/hosts/libcommon.a");
+    if common.exists() {
+        println!("cargo:rerun-if-changed={}", common.display());
+        println!("cargo:rustc-link-arg-examples={}", common.display());
     }
 }

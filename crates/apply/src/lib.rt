@@ -1,3 +1,5 @@
+#![tactic(auto)]
+
 // The rules applied to a sound board, which is its sets, lent, and the rest: each of the eight calls, with checks 8 to 16 and 18 to 21.
 ghost use Rattle.std.specs.Prelude.{◌≡◌, true, ◌≤◌, ◌<◌, length};
 ghost use Rattle.rules.specs.declared.Check.{Check};
@@ -26,7 +28,7 @@ pub mod replies;
 
 // What a call comes to: the rest of the board after it, with the number of lines written, the answer, and the order of that board
 // if the call found it on its way, otherwise none.
-#[derive(Drop)]
+#[derive(Clone, Copy)]
 pub struct Changed {
     pub progress: Progress,
     pub answer: Answer,

@@ -9,7 +9,7 @@ use linecall::Posted;
 use rules::Board;
 
 // What the call gives back, and the board that was lent as the call left it.
-#[derive(Drop)]
+#[derive(Clone, Copy)]
 pub struct Lent {
     pub posted: Posted,
     pub board: Board,

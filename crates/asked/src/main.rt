@@ -1,3 +1,5 @@
+#![tactic(auto)]
+
 // The program `asked`: what no host can ask, for the tests. It reads records from standard input and answers each on standard output.
 //
 // A record has 49 bytes: its kind, then six numbers of 8 bytes each, lowest first: program, file, record of the file, V, Q and J.

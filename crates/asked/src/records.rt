@@ -9,7 +9,7 @@ use libc::STDIN_FILENO;
 use rules::{Board, Claims};
 
 // A record: its kind and its six numbers.
-#[derive(Drop)]
+#[derive(Clone, Copy)]
 pub struct Record {
     pub kind: u8,
     pub program: u64,

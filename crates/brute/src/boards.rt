@@ -9,7 +9,7 @@ use rules::{Board, Program, Standing};
 // `ways` is how many ways a program may have a file. 4: in V, in V and W, in Q and R, in J and I.
 // 7: also in Q, in J, or not at all. 64: in any of the six sets. Another number above 7: as 7, the rest being not at all.
 // `standings` is 1 (running), 2 (also waiting), 4 (also running with a record in use, waiting for a record) or 6 (also held or absent).
-#[derive(Drop)]
+#[derive(Clone, Copy)]
 pub struct Family {
     pub places: usize,
     pub program: [usize; 6],
@@ -21,7 +21,7 @@ pub struct Family {
 }
 
 // V, Q, J, W, R and I of a program, and what is left of the number.
-#[derive(Drop)]
+#[derive(Clone, Copy)]
 struct Sets {
     v: u64,
     q: u64,
@@ -33,7 +33,7 @@ struct Sets {
 }
 
 // A board, and what is left of the number: not 0 where the number is past the family's last board.
-#[derive(Drop)]
+#[derive(Clone, Copy)]
 pub struct Made {
     pub board: Board,
     pub left: u64,

@@ -7,7 +7,7 @@ use search::Search;
 use store::sets::PLACES;
 
 // Whether the board has a completion order, whether it has one by rising number, and whether search, matrix and loop agree.
-#[derive(Drop)]
+#[derive(Clone, Copy)]
 pub struct Outcome {
     pub some: bool,
     pub rising: bool,
@@ -16,7 +16,7 @@ pub struct Outcome {
 
 // Boards, those with a completion order, those of them where the order by rising number is none,
 // those without a completion order, and those on which the brute search and the others differ.
-#[derive(Drop)]
+#[derive(Clone, Copy)]
 pub struct Tally {
     pub boards: u64,
     pub with: u64,

@@ -1,3 +1,5 @@
+#![tactic(auto)]
+
 // Tries every order of the admitted programs on many small boards, and compares what it finds with the carried order of the search,
 // with the matrix of who reaches whom and with the loop that is found.
 mod boards;

@@ -3,7 +3,7 @@ use rules::{Board, Program, Standing};
 
 // The admitted programs of a board, lowest number first: the first `count` places of `name` and `who`.
 // A count of 7 says that there are more than six, of which no order is tried.
-#[derive(Drop)]
+#[derive(Clone, Copy)]
 pub struct Admitted {
     pub count: usize,
     pub name: [u8; 6],
@@ -12,7 +12,7 @@ pub struct Admitted {
 
 // What came of all orders: how many are completion orders, whether the one by rising number is among them,
 // how many of them are the expected one, and whether the first of them is.
-#[derive(Drop)]
+#[derive(Clone, Copy)]
 pub struct Tried {
     pub orders: u64,
     pub rising: bool,
@@ -21,7 +21,7 @@ pub struct Tried {
 }
 
 // The places taken so far, the set of them, and what is left of the order's number.
-#[derive(Drop)]
+#[derive(Clone, Copy)]
 struct Partial {
     place: [usize; 6],
     taken: u64,

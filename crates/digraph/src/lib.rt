@@ -1,3 +1,5 @@
+#![tactic(auto)]
+
 // Which admitted program holds back which, closed over paths, of any board, and loops of programs that hold back each other.
 // In place p - 1 of the rows stands the set of the admitted programs that hold p back; closed, of those that reach p.
 ghost use Rattle.std.specs.Prelude.{◌≡◌, ◌≤◌, length, replicate};
@@ -16,7 +18,7 @@ pub mod answers;
 pub mod loops;
 
 // A loop: its programs stand in the first `count` places of `at`.
-#[derive(Drop)]
+#[derive(Clone, Copy)]
 pub struct Loop {
     pub at: [u8; 32],
     pub count: usize,

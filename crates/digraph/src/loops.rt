@@ -99,7 +99,7 @@ fn loop_at(at: [u8; 32], k: usize, n: usize) -> Loop
     ensures { (named result ≡ take n (drop k at)) × (result.count ≤ 32) }
 {
     let mut first = [0u8; 32];
-    bytes::copy(&at[k..k + n], &mut first);
+    copies::copy(&at[k..k + n], &mut first);
     Loop {
         at: first,
         count: n,

@@ -1,3 +1,5 @@
+#![tactic(auto)]
+
 // The eight direct calls, each with the board by value: check 1, then the rules; an UNSAFE answer carries a loop.
 ghost use Rattle.std.specs.Prelude.{◌≡◌, true};
 ghost use Rattle.rules.specs.Digraph.{may_carry};
@@ -11,7 +13,7 @@ use rules::{Asked, Board, Claims, Reply, Verb};
 use store::sets::{PLACES, Sets};
 
 // What a direct call gives back: the reply, and the loop that its answer carries, none unless UNSAFE.
-#[derive(Drop)]
+#[derive(Clone, Copy)]
 pub struct Answered {
     pub reply: Reply,
     pub carries: Loop,

@@ -1,3 +1,5 @@
+#![tactic(auto)]
+
 // Sets of files: by value here, as rows of words in `words`.
 ghost use Rattle.std.specs.Prelude.{◌≡◌};
 ghost use Rattle.files.specs.Sets.{member, adding, removing, meets, within, is_empty};
@@ -8,7 +10,7 @@ pub mod words;
 pub const WORDS: usize = 1;
 
 // A set of the files 1 to 64: bit f - 1 says whether file f is in it. No other number is a file.
-#[derive(Drop)]
+#[derive(Clone, Copy)]
 pub struct FileSet {
     pub bits: u64,
 }

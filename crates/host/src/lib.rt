@@ -1,3 +1,5 @@
+#![tactic(auto)]
+
 // The calls of a C host.
 ghost use Rattle.std.specs.Prelude.{◌≡◌, ◌≤◌, take};
 ghost use Rattle.store.specs.Sets.{IsStore};
@@ -126,7 +128,7 @@ fn put_order(at: [u8; 32], n: usize, buffer: &mut [u8]) -> u64
     if buffer.len() < n {
         return refusal_answer(17);
     }
-    bytes::copy(&at[..n], buffer);
+    copies::copy(&at[..n], buffer);
     n as u64
 }
 

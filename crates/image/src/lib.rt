@@ -1,3 +1,5 @@
+#![tactic(auto)]
+
 // The image of a board, section by section, written and read.
 // The sets of a board are lent and its rest goes by value; the board of the rules, whole, is read and written at the edges, by `load` and `put_image`.
 ghost use Rattle.std.specs.Prelude.{◌≡◌, ◌++◌, map, true, ◌+◌, ◌-◌, ◌*◌, ◌≤◌, ◌<◌, length, get_or, set, drop};
@@ -55,14 +57,14 @@ const INQUIRIES_AT: usize = COUNTS_AT + 32;
 pub const IMAGE_LEN: usize = INQUIRIES_AT + INQUIRY_LEN * 32;
 
 // What reading an image finds: whether it is of the layout, and the board, empty if not.
-#[derive(Drop)]
+#[derive(Clone, Copy)]
 pub struct Loaded {
     pub ok: bool,
     pub board: Board,
 }
 
 // What reading an image into sets finds: whether it is of the layout, and the rest, that of the empty board if not.
-#[derive(Drop)]
+#[derive(Clone, Copy)]
 pub struct LoadedRest {
     pub ok: bool,
     pub rest: Rest,
@@ -145,7 +147,7 @@ pub fn put_at(out: &mut [u8], at: usize, src: &[u8])
     requires { at + length src.now ≤ length out.old }
     ensures { out.new ≡ put_at at src.now out.old }
 {
-    bytes::copy(src, &mut out[at..]);
+    copies::copy(src, &mut out[at..]);
 }
 
 // Writes the set in place k from a byte on.
@@ -526,7 +528,7 @@ fn read_places(s: &[u8]) -> [u8; 32]
     ensures { result ≡ s.now }
 {
     let mut a = [0u8; 32];
-    bytes::copy(s, &mut a);
+    copies::copy(s, &mut a);
     a
 }
 

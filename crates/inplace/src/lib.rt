@@ -1,3 +1,5 @@
+#![tactic(auto)]
+
 // The line call on a lent board, for a Rattle host.
 ghost use Rattle.std.specs.Prelude.{◌≡◌, true};
 ghost use Rattle.rules.specs.Digraph.{may_carry};

@@ -20,7 +20,7 @@ use store::Rest;
 use store::sets::Sets;
 
 // What the call comes to, and the new place in the journal.
-#[derive(Drop)]
+#[derive(Clone, Copy)]
 pub struct Served {
     pub changed: Changed,
     pub place: u64,

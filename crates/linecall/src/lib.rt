@@ -1,3 +1,5 @@
+#![tactic(auto)]
+
 // The line call, tested: check 1, then the line on the board, which is then known to be sound (`known`).
 ghost use Rattle.std.specs.Prelude.{◌≡◌, true};
 ghost use Rattle.rules.specs.Digraph.{may_carry};
@@ -15,7 +17,7 @@ pub mod known;
 
 // What a line call gives back: the reply, with the board after it, the new place in the journal,
 // and the loop that the answer carries, none unless UNSAFE.
-#[derive(Drop)]
+#[derive(Clone, Copy)]
 pub struct Posted {
     pub reply: Reply,
     pub place: u64,

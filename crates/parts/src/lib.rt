@@ -1,3 +1,5 @@
+#![tactic(auto)]
+
 // Functions on the parts of a board: the table of modes, a standing, a refusal, a journal line as bytes.
 pub mod entries;
 pub mod modes;

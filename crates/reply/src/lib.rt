@@ -1,3 +1,5 @@
+#![tactic(auto)]
+
 // The reply with the board by value, made of what a call comes to; at the edges only.
 ghost use Rattle.std.specs.Prelude.{◌≡◌, true};
 ghost use Rattle.rules.specs.Orders.{carried};

@@ -1,3 +1,5 @@
+#![tactic(auto)]
+
 // Request lines: what a line says, and its label.
 ghost use Rattle.std.specs.Prelude.{◌≡◌, ◌+◌, ◌*◌, ◌≤◌, ◌<◌, length, get_or, drop};
 ghost use Rattle.laws.specs.Lists.{all};
@@ -38,21 +40,21 @@ pub const LONGEST_LINE: usize = FILES_AT + columns::FILE_WIDTH * 192;
 pub const CUT_LINE: usize = LONGEST_LINE + 1;
 
 // Whether a line is taken.
-#[derive(Drop)]
+#[derive(Clone, Copy)]
 pub enum Reading {
     Taken,
     Refused(Refusal),
 }
 
 // With which verb a line begins.
-#[derive(Drop)]
+#[derive(Clone, Copy)]
 pub enum Beginning {
     With(Verb),
     Unknown,
 }
 
 // How a line goes on after its verb: as ENTER, with program and file, with program, file and record, or with the program alone.
-#[derive(Drop)]
+#[derive(Clone, Copy)]
 pub enum Shape {
     Entry,
     File,
@@ -61,21 +63,21 @@ pub enum Shape {
 }
 
 // A row of the table of verbs: the columns of the verb, and how a line with it goes on.
-#[derive(Drop)]
+#[derive(Clone, Copy)]
 pub struct Row {
     pub word: [u8; 6],
     pub shape: Shape,
 }
 
 // What a line says: whether it is taken, and the call that it asks for. What does not apply is 0 or empty.
-#[derive(Drop)]
+#[derive(Clone, Copy)]
 pub struct Request {
     pub reading: Reading,
     pub asked: Asked,
 }
 
 // The files of a group as far as they are read: whether all numbers were files, and rising, the last one, and the set.
-#[derive(Drop)]
+#[derive(Clone, Copy)]
 pub struct Group {
     pub good: bool,
     pub rising: bool,

@@ -1,10 +1,12 @@
+#![tactic(auto)]
+
 // The types of the lock board. The rules themselves stand in specs/; there is no function here.
 use files::FileSet;
 
 mod boards;
 
 // A program's standing: absent, held at entry, running or waiting; waiting carries its file.
-#[derive(Drop)]
+#[derive(Clone, Copy)]
 pub enum Standing {
     Absent,
     Running,
@@ -14,7 +16,7 @@ pub enum Standing {
 
 // V, Q and J, the claims for writing, reading and inquiry; W, R and I, the files open in these ways.
 // item is a record's number and file its file: the record in use if the program runs, the awaited one if it waits; 0 for none.
-#[derive(Drop)]
+#[derive(Clone, Copy)]
 pub struct Program {
     pub writable: FileSet,
     pub readable: FileSet,
@@ -31,7 +33,7 @@ pub struct Program {
 // favoured is the favoured program or 0, initial the number admitted when it was favoured, leaves the accepted leaves since,
 // with the cancels that count as leaves.
 // passed has for each waiting program the number of programs admitted since it began to wait, and 0 for all others.
-#[derive(Drop)]
+#[derive(Clone, Copy)]
 pub struct Board {
     pub programs: [Program; 32],
     pub waiting: [u8; 32],
@@ -43,7 +45,7 @@ pub struct Board {
 }
 
 // The eight calls.
-#[derive(Drop)]
+#[derive(Clone, Copy)]
 pub enum Verb {
     Enter,
     Open,
@@ -56,7 +58,7 @@ pub enum Verb {
 }
 
 // What a program claims: V for writing, Q for reading and J for inquiry.
-#[derive(Drop)]
+#[derive(Clone, Copy)]
 pub struct Claims {
     pub writable: FileSet,
     pub readable: FileSet,
@@ -64,7 +66,7 @@ pub struct Claims {
 }
 
 // What a call asks. The file counts for open, close, drop and fetch only, the record for fetch only, the claims for enter only.
-#[derive(Drop)]
+#[derive(Clone, Copy)]
 pub struct Asked {
     pub verb: Verb,
     pub program: u64,
@@ -74,7 +76,7 @@ pub struct Asked {
 }
 
 // Why a call is refused, in the order of their numbers: 01's 1 to 16, 18 for a cancel of a running program, and 19 to 21 for records.
-#[derive(Drop)]
+#[derive(Clone, Copy)]
 pub enum Refusal {
     NotSound,
     JournalFull,
@@ -99,14 +101,14 @@ pub enum Refusal {
 }
 
 // Whether the checks of a call refuse it.
-#[derive(Drop)]
+#[derive(Clone, Copy)]
 pub enum Check {
     Passed,
     Failed(Refusal),
 }
 
 // What a call answers.
-#[derive(Drop)]
+#[derive(Clone, Copy)]
 pub enum Answer {
     Admit,
     Held,
@@ -118,7 +120,7 @@ pub enum Answer {
 }
 
 // The word of a journal line.
-#[derive(Drop)]
+#[derive(Clone, Copy)]
 pub enum Word {
     Admit,
     Held,
@@ -131,7 +133,7 @@ pub enum Word {
 }
 
 // A journal line; 0 where there is no file, no refusal or no record.
-#[derive(Drop)]
+#[derive(Clone, Copy)]
 pub struct Line {
     pub word: Word,
     pub program: u16,
@@ -142,7 +144,7 @@ pub struct Line {
 
 // What a direct call gives back: the board after it, the answer, its lines (the first `count` of 32 places)
 // and the carried order (the first `placed` of 32 places).
-#[derive(Drop)]
+#[derive(Clone, Copy)]
 pub struct Reply {
     pub board: Board,
     pub answer: Answer,

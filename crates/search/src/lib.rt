@@ -1,3 +1,5 @@
+#![tactic(auto)]
+
 // The carried order of a board, by its sets and the rest, and whether a file can be given (`gives`).
 ghost use Rattle.std.specs.Prelude.{◌≡◌, ◌+◌, ◌≤◌, length, replicate};
 ghost use Rattle.rules.specs.Orders.{carried};
@@ -14,21 +16,21 @@ use tables::shared::OpenFiles;
 pub mod gives;
 
 // The admitted programs, and what all programs have open.
-#[derive(Drop)]
+#[derive(Clone, Copy)]
 pub struct Uses {
     pub admitted: ProgramSet,
     pub files: OpenFiles,
 }
 
 // What a search comes back with: an order of so many programs, or none.
-#[derive(Drop)]
+#[derive(Clone, Copy)]
 pub enum Search {
     Found(usize),
     Stuck,
 }
 
 // The order that was found stands in the first places of `at`.
-#[derive(Drop)]
+#[derive(Clone, Copy)]
 pub struct Order {
     pub kind: Search,
     pub at: [u8; 32],

@@ -1,3 +1,5 @@
+#![tactic(auto)]
+
 // Settling, on the sets of the programs, which are lent, and the rest of the board; each line is written where it stands.
 ghost use Rattle.std.specs.Prelude.{◌≡◌, true, not, cond, ◌&&◌, eqb, ◌+◌, ◌≤◌, ◌<◌, length, get_or, drop};
 ghost use Rattle.std.proofs.Math.Option;
@@ -21,7 +23,7 @@ use store::{Rest, Seat};
 pub mod counts;
 
 // The rest of a board whose sets are lent, and how many lines are written so far.
-#[derive(Drop)]
+#[derive(Clone, Copy)]
 pub struct Progress {
     pub rest: Rest,
     pub count: u8,

@@ -1,3 +1,5 @@
+#![tactic(auto)]
+
 // The test of a sound board: by the sets of its programs, which are lent, and the rest.
 ghost use Rattle.std.specs.Prelude.{◌≡◌, true, false, cond, ◌&&◌, ◌-◌, ◌≤◌, ◌<◌, eqb, length};
 ghost use Rattle.files.specs.Sets.{is_empty, within, meets};
@@ -24,7 +26,7 @@ use store::{Rest, Seat, sets};
 use tables::ProgramSet;
 
 // Whether a board is sound, and its carried order.
-#[derive(Drop)]
+#[derive(Clone, Copy)]
 pub struct Judged {
     pub sound: bool,
     pub order: Order,

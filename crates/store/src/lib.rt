@@ -1,3 +1,5 @@
+#![tactic(auto)]
+
 // A board as two things: the sets of its programs in an array that is lent and not copied (`sets`), and the small rest by value.
 // The board of the rules stands at the edges: `sets::take` takes it apart.
 ghost use Rattle.std.specs.Prelude.{◌≡◌, ◌≤◌};
@@ -10,7 +12,7 @@ pub mod sets;
 
 // What is kept of a program beside its sets: its standing, and its record (item) with the file: in use if the program runs, awaited if it
 // waits; 0 for none.
-#[derive(Drop)]
+#[derive(Clone, Copy)]
 pub struct Seat {
     pub standing: Standing,
     pub file: u16,
@@ -18,7 +20,7 @@ pub struct Seat {
 }
 
 // A board but for its programs' sets; program p has seat p - 1.
-#[derive(Drop)]
+#[derive(Clone, Copy)]
 pub struct Rest {
     pub seats: [Seat; 32],
     pub waiting: [u8; 32],

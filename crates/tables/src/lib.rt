@@ -1,3 +1,5 @@
+#![tactic(auto)]
+
 // Which admitted program holds back which, in an array that is lent and not copied, by the sets of a board's programs (`store::sets`):
 // in `rows` the set of the admitted programs that the admitted program p holds back stands in place p - 1.
 ghost use Rattle.std.specs.Prelude.{◌≡◌, ◌≤◌};
@@ -14,7 +16,7 @@ pub mod rows;
 pub mod shared;
 
 // A set of the programs 1 to 32: bit p - 1 says whether program p is in it.
-#[derive(Drop)]
+#[derive(Clone, Copy)]
 pub struct ProgramSet {
     pub bits: u32,
 }

@@ -7,14 +7,14 @@ ghost use Rattle.tables.specs.Shared.{sharing, others_of, opened_in};
 use files::{WORDS, words};
 use store::sets::Sets;
 
-#[derive(Drop)]
+#[derive(Clone, Copy)]
 pub struct Shared {
     pub once: [u64; WORDS],
     pub twice: [u64; WORDS],
 }
 
 // What all programs have open, for writing, for reading and for inquiry.
-#[derive(Drop)]
+#[derive(Clone, Copy)]
 pub struct OpenFiles {
     pub writing: [u64; WORDS],
     pub reading: [u64; WORDS],

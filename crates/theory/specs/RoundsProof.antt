@@ -29,8 +29,8 @@ use Rattle.theory.specs.Carried.{holds_on}
 use Rattle.theory.specs.Sound.{sound_iff, sound_good}
 use Rattle.theory.specs.Worked.{worked_good, worked_from-append, direct-worked, order-carried, carried-order, AwaitsInUse, first_runs}
 use Rattle.theory.specs.Sizes.{Counts32, apply_32}
-use Rattle.theory.specs.Rounds.{Latest, start, after, to_open, finishing, round_with, round, rounds, answers_from, present}
-use Rattle.theory.specs.Rounds.{programs_on, NoneInUse, Round, Emptied, RunsThrough, SoundEmptied}
+use Rattle.theory.specs.Rounds.{answered, Latest, start, after, to_open, finishing, round_with, round, rounds, answers_from, present}
+use Rattle.theory.specs.Rounds.{answered, programs_on, NoneInUse, Round, Emptied, RunsThrough, SoundEmptied}
 use Rattle.theory.specs.RoundsOpens.{Opened, opens, to_open_asked, to_open_once}
 use Rattle.theory.specs.RoundsPresent.{absent_in, in_there, mem-present, present-mem, present_once, programs_on_lem, one_gone}
 use Rattle.theory.specs.RoundsPresent.{settle_there, none_there, is_empty_lem}
@@ -161,12 +161,12 @@ finishes b p o g n r = record {
 after-board : (l : Latest) (cs : List Call) → (after l cs).board ≡ worked_from l.board cs
 unfolding after worked_from
 after-board l [] = refl
-after-board l (c ∷ cs) = after-board _ cs
+after-board l (c ∷ cs) = after-board (answered (apply l.board c)) cs
 
 after-append : (l : Latest) (cs ds : List Call) → after l (cs ++ ds) ≡ after (after l cs) ds
 unfolding after
 after-append l [] ds = refl
-after-append l (c ∷ cs) ds = after-append _ cs ds
+after-append l (c ∷ cs) ds = after-append (answered (apply l.board c)) cs ds
 
 -- It is the carried order of the board.
 abbrev Carries : Latest → Type 0
@@ -175,12 +175,12 @@ Carries l = l.order ≡ get_or (carried l.board) []
 after_carries : (l : Latest) (cs : List Call) → Carries l → Carries (after l cs)
 unfolding after
 after_carries l [] e = e
-after_carries l (c ∷ cs) e = after_carries _ cs (order-carried l.board c)
+after_carries l (c ∷ cs) e = after_carries (answered (apply l.board c)) cs (order-carried l.board c)
 
 after_32 : (l : Latest) (cs : List Call) → Counts32 l.board → Counts32 (after l cs).board
 unfolding after
 after_32 l [] z = z
-after_32 l (c ∷ cs) z = after_32 _ cs (apply_32 l.board c z)
+after_32 l (c ∷ cs) z = after_32 (answered (apply l.board c)) cs (apply_32 l.board c z)
 
 start_carries : Carries start
 unfolding any all keep first rising everyone admitted held_back carried_from carried

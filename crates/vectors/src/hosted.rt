@@ -4,7 +4,7 @@ ghost use Rattle.std.specs.Prelude.{◌<◌};
 use crate::text;
 
 // The place in the expected lines, the number of lines, and the line of the first difference, 0 if there is none.
-#[derive(Drop)]
+#[derive(Clone, Copy)]
 pub struct Hosted {
     pub at: usize,
     pub lines: u64,
@@ -12,7 +12,7 @@ pub struct Hosted {
 }
 
 // Whether all so far stood in the expected text, and the place after it.
-#[derive(Drop)]
+#[derive(Clone, Copy)]
 struct Found {
     ok: bool,
     at: usize,

@@ -2,7 +2,7 @@
 use crate::text;
 
 // A file that was read: whether all of it was, and its length.
-#[derive(Drop)]
+#[derive(Clone, Copy)]
 pub struct Loaded {
     pub ok: bool,
     pub len: usize,

@@ -1,3 +1,5 @@
+#![tactic(auto)]
+
 // The program `vectors`: replays every set of data/ and says where it differs from what the set expects.
 mod hosted;
 mod load;
@@ -8,7 +10,7 @@ use hosted::Hosted;
 use program::Replayed;
 
 // The sets so far, their lines, and how many sets are equal to what they expect.
-#[derive(Drop)]
+#[derive(Clone, Copy)]
 struct Totals {
     sets: u64,
     lines: u64,

@@ -4,7 +4,7 @@ use rules::Board;
 
 // The board so far with its order, the place in the expected output, the number of lines,
 // and the line of the first difference, 0 if there is none.
-#[derive(Drop)]
+#[derive(Clone, Copy)]
 struct Session {
     board: Board,
     order: [u8; 32],
@@ -14,7 +14,7 @@ struct Session {
 }
 
 // What a replay found: the number of lines, the line of the first difference, and whether the ORDER line is right.
-#[derive(Drop)]
+#[derive(Clone, Copy)]
 pub struct Replayed {
     pub lines: u64,
     pub bad: u64,

@@ -1,3 +1,5 @@
+#![tactic(auto)]
+
 // A board of the rules, whole, made of its sets and the rest; at the edges only.
 // That a set is one word is known here alone.
 ghost use Rattle.std.specs.Prelude.{◌≡◌, ◌-◌, ◌≤◌, ◌<◌, length, get_or};

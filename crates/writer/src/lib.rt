@@ -1,3 +1,5 @@
+#![tactic(auto)]
+
 // Request lines, written: from a call's numbers, claims and label to the line in a lent buffer.
 ghost use Rattle.std.specs.Prelude.{◌≡◌, [], ◌++◌, ◌+◌, ◌*◌, ◌≤◌, length};
 ghost use Rattle.columns.specs.Columns.{program_width, file_width, columns_of};
@@ -17,7 +19,7 @@ use request::Shape;
 use rules::{Asked, Claims, Verb};
 
 // Why no line is written.
-#[derive(Drop)]
+#[derive(Clone, Copy)]
 pub enum Unwritten {
     OutOfRange,
     BadRecord,
@@ -26,7 +28,7 @@ pub enum Unwritten {
 }
 
 // What writing comes to: the length of the line that was written, or the refusal.
-#[derive(Drop)]
+#[derive(Clone, Copy)]
 pub enum Writing {
     Wrote(usize),
     Refused(Unwritten),
@@ -54,7 +56,7 @@ fn put(line: &mut [u8], at: usize, row: &[u8]) -> usize
     ensures value { result ≡ at + length row.now }
     ensures line_after { line.new ≡ put_at at row.now line.old }
 {
-    bytes::copy(row, &mut line[at..]);
+    copies::copy(row, &mut line[at..]);
     at + row.len()
 }
 

@@ -1,20 +1,20 @@
 //! An example host: serves request lines from standard input.
 //!
-//!     serve [--image FILE] [--strict] [--notify COMMAND]
-//!     serve --refusals | --version | --help
+//!     serve [--image FILE]    serve; FILE keeps the board from session to session
+//!     serve --refusals        list the refusals and their words
+//!     serve --version         show the version, and the kit that proved the board
 //!
-//! `--help` says what each option does. The journal goes to standard output, last the ORDER line, as
-//! the program `board` writes them. Each refusal is also shown in words on standard error, and at the
-//! end once more who had requests refused.
+//! The journal goes to standard output, last the ORDER line, as the program `board` writes them.
+//! Each refusal is also shown in words on standard error.
 //!
-//! Exit status: 0 if every line was served, refused ones too; 1 if the image, its record, reading or
-//! writing failed; 2 for wrong options; 3 with --strict if a request was refused.
+//! Exit status: 0 if every line was served, refused ones too; 1 if the image, reading or writing
+//! failed; 2 for wrong arguments.
 
 mod common;
 
 use common::{Labels, Told};
 use lock_board::{Board, CUT_LINE};
-use std::io::{BufRead, Write};
+use std::io::{self, BufRead, Write};
 use std::process::ExitCode;
 
 /// The session so far.
@@ -26,18 +26,19 @@ struct Session<W> {
 }
 
 impl<W: Write> Session<W> {
-    /// Serves one line. Its effect is on the disk, and the line in the record, before its journal
-    /// lines are written, and these at once, so that each answer is seen before the next request.
+    /// Serves one line. Its effect is on the disk before its journal lines are written, and these
+    /// at once, so that each answer is seen before the next request.
     fn serve(&mut self, line: &[u8]) -> Result<(), Told> {
         self.number += 1;
         let reply = self.board.serve(line).map_err(|error| {
-            common::tell(format_args!("line {}: {error}", self.number));
+            eprintln!("line {}: {error}", self.number);
             Told
         })?;
-        let text = common::keep(&self.board, &mut self.labels, self.number, line, &reply)?;
+        common::save_image(&self.board, self.number)?;
         self.write(reply.journal())?;
+        let text = common::explain(&self.board, &mut self.labels, self.number, line, &reply);
         if !text.is_empty() {
-            common::tell(text);
+            eprintln!("{text}");
         }
         Ok(())
     }
@@ -62,10 +63,19 @@ impl<W: Write> Session<W> {
 }
 
 /// Serves each line as soon as its byte 10 is read; the last line may lack it.
-fn serve(mut session: Session<impl Write>, input: impl BufRead) -> Result<(), Told> {
+fn serve(board: Board, input: impl BufRead, output: impl Write) -> Result<(), Told> {
+    let mut session = Session {
+        board,
+        output,
+        number: 0,
+        labels: [0; 256],
+    };
     let mut line = Vec::with_capacity(CUT_LINE);
     for byte in input.bytes() {
-        let byte = byte.map_err(common::requests_failed)?;
+        let byte = byte.map_err(|error| {
+            eprintln!("the requests cannot be read: {error}");
+            Told
+        })?;
         match byte {
             b'\n' => {
                 session.serve(&line)?;
@@ -83,20 +93,20 @@ fn serve(mut session: Session<impl Write>, input: impl BufRead) -> Result<(), To
 
 fn main() -> ExitCode {
     common::begin();
-    if let Some(status) = common::take_options() {
-        return ExitCode::from(status);
+    let arguments: Vec<_> = std::env::args_os().skip(1).collect();
+    let result = match arguments.as_slice() {
+        [] => serve(Board::new(), io::stdin().lock(), io::stdout().lock()),
+        [image, path] if image == "--image" => common::open_image(path.into())
+            .and_then(|board| serve(board, io::stdin().lock(), io::stdout().lock())),
+        [refusals] if refusals == "--refusals" => common::list_refusals(),
+        [version] if version == "--version" => common::show_version(),
+        _ => {
+            eprintln!("usage: serve [--image FILE | --refusals | --version]");
+            return ExitCode::from(2);
+        }
+    };
+    match result {
+        Ok(()) => ExitCode::SUCCESS,
+        Err(Told) => ExitCode::FAILURE,
     }
-    let mut labels = [0; 256];
-    let (Ok(board), Ok(input), Ok(output)) =
-        (common::open(&mut labels), common::input(), common::output())
-    else {
-        return ExitCode::FAILURE;
-    };
-    let session = Session {
-        board,
-        output,
-        number: 0,
-        labels,
-    };
-    ExitCode::from(common::end(serve(session, input)))
 }

@@ -24,72 +24,72 @@ passed s e = subst (λ (x : Verb). checked (board s) (asked s x) ≡ Check.Passe
 does : (s : tie.Start) {v : Verb} → s.args.verb ≡ v → accepted (board s) (asked s v) ≡ accepted (board s) (asked s s.args.verb)
 does s e = ap (λ (x : Verb). accepted (board s) (asked s x)) (sym e)
 
-do-enter-requires : tie.Need-do-enter-requires
-do-enter-requires c κs = let t = c.before.before in let s = t.before.before in
-    (s.requires.0, s.requires.1, passed s t.enum_told.given.1, s.requires.4, s.requires.5)
+do-enter-requires : tie.Need-do_enter-requires
+do-enter-requires c κs = let t = c.before.before in let s = t.before in
+    (s.requires.0, s.requires.1, passed s t.in-Enter.is, s.requires.4, s.requires.5)
 
-do-open-requires : tie.Need-do-open-requires
-do-open-requires c κs = let t = c.before.before in let s = t.before.before in
-    (s.requires.0, s.requires.1, passed s t.enum-told2.given.1, s.requires.4, s.requires.5)
+do-open-requires : tie.Need-do_open-requires
+do-open-requires c κs = let t = c.before.before in let s = t.before in
+    (s.requires.0, s.requires.1, passed s t.in-Open.is, s.requires.4, s.requires.5)
 
-do-close-requires : tie.Need-do-close-requires
-do-close-requires c κs = let t = c.before.before in let s = t.before.before in
-    (s.requires.0, s.requires.1, passed s t.enum-told3.given.1, s.requires.4, s.requires.5)
+do-close-requires : tie.Need-do_close-requires
+do-close-requires c κs = let t = c.before.before in let s = t.before in
+    (s.requires.0, s.requires.1, passed s t.in-Close.is, s.requires.4, s.requires.5)
 
-do-drop-requires : tie.Need-do-drop-requires
-do-drop-requires c κs = let t = c.before.before in let s = t.before.before in
-    (s.requires.0, s.requires.1, passed s t.enum-told4.given.1, s.requires.4, s.requires.5)
+do-drop-requires : tie.Need-do_drop-requires
+do-drop-requires c κs = let t = c.before.before in let s = t.before in
+    (s.requires.0, s.requires.1, passed s t.in-Drop.is, s.requires.4, s.requires.5)
 
-do-leave-requires : tie.Need-do-leave-requires
-do-leave-requires c κs = let t = c.before.before in let s = t.before.before in
-    (s.requires.0, s.requires.1, passed s t.enum-told5.given.1, s.requires.4, s.requires.5)
+do-leave-requires : tie.Need-do_leave-requires
+do-leave-requires c κs = let t = c.before.before in let s = t.before in
+    (s.requires.0, s.requires.1, passed s t.in-Leave.is, s.requires.4, s.requires.5)
 
-do-cancel-requires : tie.Need-do-cancel-requires
-do-cancel-requires c κs = let t = c.before.before in let s = t.before.before in
-    (s.requires.0, s.requires.1, passed s t.enum-told6.given.1, s.requires.3, s.requires.4, s.requires.5)
+do-cancel-requires : tie.Need-do_cancel-requires
+do-cancel-requires c κs = let t = c.before.before in let s = t.before in
+    (s.requires.0, s.requires.1, passed s t.in-Cancel.is, s.requires.3, s.requires.4, s.requires.5)
 
-do-fetch-requires : tie.Need-do-fetch-requires
-do-fetch-requires c κs = let t = c.before.before in let s = t.before.before in
-    (s.requires.0, s.requires.1, passed s t.enum-told7.given.1, s.requires.4, s.requires.5)
+do-fetch-requires : tie.Need-do_fetch-requires
+do-fetch-requires c κs = let t = c.before in let s = t.before in
+    (s.requires.0, s.requires.1, passed s c.before.in-Fetch.is, s.requires.4, s.requires.5)
 
-do-return-requires : tie.Need-do-return-requires
-do-return-requires c κs = let t = c.before.before in let s = t.before.before in
-    (s.requires.0, s.requires.1, passed s t.enum-told8.given.1, s.requires.4, s.requires.5)
+do-return-requires : tie.Need-do_return-requires
+do-return-requires c κs = let t = c.before.before in let s = t.before in
+    (s.requires.0, s.requires.1, passed s t.in-Return.is, s.requires.4, s.requires.5)
 
-returns : tie.Need-returns
+returns : tie.Need-returns-in-Enter
 returns c = let t = c.before.before.before in
-    (c.do-enter.ensures.0 ∙ does t.before.before t.enum_told.given.1, c.do-enter.ensures.1)
+    (c.do_enter.ensures.comes_to ∙ does t.before t.in-Enter.is, c.do_enter.ensures.in_form)
 
-returns-2 : tie.Need-returns-2
+returns-2 : tie.Need-returns-in-Open
 returns-2 c = let t = c.before.before.before in
-    (c.do-open.ensures.0 ∙ does t.before.before t.enum-told2.given.1, c.do-open.ensures.1)
+    (c.do_open.ensures.comes_to ∙ does t.before t.in-Open.is, c.do_open.ensures.in_form)
 
-returns-3 : tie.Need-returns-3
+returns-3 : tie.Need-returns-in-Close
 returns-3 c = let t = c.before.before.before in
-    (c.do-close.ensures.0 ∙ does t.before.before t.enum-told3.given.1, c.do-close.ensures.1)
+    (c.do_close.ensures.comes_to ∙ does t.before t.in-Close.is, c.do_close.ensures.in_form)
 
-returns-4 : tie.Need-returns-4
+returns-4 : tie.Need-returns-in-Drop
 returns-4 c = let t = c.before.before.before in
-    (c.do-drop.ensures.0 ∙ does t.before.before t.enum-told4.given.1, c.do-drop.ensures.1)
+    (c.do_drop.ensures.comes_to ∙ does t.before t.in-Drop.is, c.do_drop.ensures.in_form)
 
-returns-5 : tie.Need-returns-5
+returns-5 : tie.Need-returns-in-Leave
 returns-5 c = let t = c.before.before.before in
-    (c.do-leave.ensures.0 ∙ does t.before.before t.enum-told5.given.1, c.do-leave.ensures.1)
+    (c.do_leave.ensures.comes_to ∙ does t.before t.in-Leave.is, c.do_leave.ensures.in_form)
 
-returns-6 : tie.Need-returns-6
+returns-6 : tie.Need-returns-in-Cancel
 returns-6 c = let t = c.before.before.before in
-    (c.do-cancel.ensures.0 ∙ does t.before.before t.enum-told6.given.1, c.do-cancel.ensures.1)
+    (c.do_cancel.ensures.comes_to ∙ does t.before t.in-Cancel.is, c.do_cancel.ensures.in_form)
 
-returns-7 : tie.Need-returns-7
-returns-7 c = let t = c.before.before.before in let s = t.before.before in
-    (c.do-fetch.ensures.0 ∙ does s t.enum-told7.given.1, (s.requires.4, c.do-fetch.ensures.1.0, c.do-fetch.ensures.1.1))
+returns-7 : tie.Need-returns-in-Fetch
+returns-7 c = let t = c.before.before in let s = t.before in
+    (c.do_fetch.ensures.comes_to ∙ does s c.before.before.in-Fetch.is, (s.requires.4, c.do_fetch.ensures.entries.0, c.do_fetch.ensures.entries.1))
 
-returns-8 : tie.Need-returns-8
+returns-8 : tie.Need-returns-in-Return
 returns-8 c = let t = c.before.before.before in
-    (c.do-return.ensures.0 ∙ does t.before.before t.enum-told8.given.1, c.do-return.ensures.1)
+    (c.do_return.ensures.comes_to ∙ does t.before t.in-Return.is, c.do_return.ensures.in_form)
 
-pub accept-spec : {M : Type 1} → statement M
-accept-spec =
+pub accept_spec : {M : Type 1} → statement M
+accept_spec =
     tie.close
     (tie.spec
     (λ c. search rules)

@@ -30,7 +30,7 @@ done-requires c κs = let k = c.before.before in let s = k.before.before in let 
 returns : tie.Need-returns
 unfolding close_file
 returns c = let k = c.before.before.before in let a = k.before.before.args in
-    (c.done.ensures.0 ∙ ap (λ (x : Board). done x a.p a.f) (changed k), c.done.ensures.1)
+    (c.done.ensures.comes_to ∙ ap (λ (x : Board). done x a.p a.f) (changed k), c.done.ensures.in_form)
 
-pub do-close-spec : {M : Type 1} → statement M
-do-close-spec = tie.close (tie.spec (λ c κs. search rules) done-requires returns)
+pub do_close_spec : {M : Type 1} → statement M
+do_close_spec = tie.close (tie.spec (λ c κs. search rules) done-requires returns)

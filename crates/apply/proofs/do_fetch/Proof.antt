@@ -18,29 +18,29 @@ abbrev board : tie.Start → Board
 board s = board_of s.args.sets.now s.args.rest
 
 -- whether another has it
-has : (t : tie.After-is-taken) → let s = t.before in let a = s.args in t.is-taken.result ≡ taken (board s) a.p a.f a.n
-has t = let a = t.before.args in t.is-taken.ensures ∙ seats-taken a.sets.now a.rest a.p a.f a.n
+has : (t : tie.After-is_taken) → let s = t.before in let a = s.args in t.is-taken.result ≡ taken (board s) a.p a.f a.n
+has t = let a = t.before.args in t.is_taken.ensures ∙ seats-taken a.sets.now a.rest a.p a.f a.n
 
-put-waiting-requires : tie.Need-put-waiting-requires
+put-waiting-requires : tie.Need-put_waiting-c-requires
 put-waiting-requires c κs = let s = c.before.before in let a = s.args in
     (s.requires.0, fetching-free a.sets.now a.rest a.p a.f a.n s.requires.1 s.requires.2, s.requires.3)
 
-returns : tie.Need-returns
+returns : tie.Need-returns-then-is_taken
 returns c = let w = c.before.before in let i = w.before in let t = i.before in let s = t.before in let a = s.args in (
-  c.answered.ensures.0 ∙ ap (λ (x : Board). reply x Answer.Wait (line_of Word.Wait a.p a.f a.n ∷ [])) w.put-waiting.ensures
-      ∙ fetch_waits (board s) a.p a.f a.n (sym (has t) ∙ i.if1.true),
-  c.answered.ensures.1,
+  c.answered.ensures.comes_to ∙ ap (λ (x : Board). reply x Answer.Wait (line_of Word.Wait a.p a.f a.n ∷ [])) w.put_waiting-c.ensures
+      ∙ fetch_waits (board s) a.p a.f a.n (sym (has t) ∙ i.if-is_taken.true),
+  c.answered.ensures.entries,
 )
 
-returns-2 : tie.Need-returns-2
+returns-2 : tie.Need-returns
 returns-2 c = let w = c.before.before in let i = w.before in let t = i.before in let s = t.before in let a = s.args in (
-  c.answered2.ensures.0 ∙ ap (λ (x : Board). reply x Answer.Given (line_of Word.Given a.p a.f a.n ∷ [])) w.put_record.ensures
-      ∙ fetch-gets (board s) a.p a.f a.n (sym (has t) ∙ i.if1.false),
-  c.answered2.ensures.1,
+  c.answered-2.ensures.comes_to ∙ ap (λ (x : Board). reply x Answer.Given (line_of Word.Given a.p a.f a.n ∷ [])) w.put_record-c.ensures
+      ∙ fetch-gets (board s) a.p a.f a.n (sym (has t) ∙ i.if-is_taken.false),
+  c.answered-2.ensures.entries,
 )
 
-pub do-fetch-spec : {M : Type 1} → statement M
-do-fetch-spec =
+pub do_fetch_spec : {M : Type 1} → statement M
+do_fetch_spec =
     tie.close
     (tie.spec
     (λ c κs. search rules)

@@ -8,20 +8,20 @@ use borrow.Author.Rules.{rules}
 use Rattle.apply.proofs.hold_for.Statement.{statement}
 use Rattle.apply.proofs.hold_for.Tie as tie
 
-put-held-requires : tie.Need-put-held-requires
+put-held-requires : tie.Need-put_held-c-requires
 put-held-requires c κs = let s = c.before in let a = s.args in
     (s.requires.0, entry_free a.sets.now a.rest a.p a.claims s.requires.1 s.requires.2, s.requires.4)
 
-favour-waiter-requires : tie.Need-favour-waiter-requires
+favour-waiter-requires : tie.Need-favour_waiter-progress-requires
 favour-waiter-requires c κs = let o = c.before.before in
-    let n = ap (λ (w : Written). w.count) o.one_line.ensures.0 in ((search rules, search rules), omega arith, o.one_line.ensures.1.1)
+    let n = ap (λ (w : Written). w.count) c.before.one_line-held.ensures.result_after in ((search rules, search rules), omega arith, c.before.one_line-held.ensures.rest_value.1)
 
 returns : tie.Need-returns
-returns c = let o = c.before.before.before in let h = o.before.before.before in let a = h.before.before.args in (
+returns c = let o = c.before.before.before in let h = o.before.before.before in let a = h.args in (
   held_for_is _ _ (board_of a.sets.now a.rest) _ a.p a.claims.writable a.claims.readable a.claims.inquirable a.w
-      h.put-held.ensures.0 o.one_line.ensures.0 c.favour-waiter.ensures.0,
-  (h.put-held.ensures.1, c.favour-waiter.ensures.1, none_carries _),
+      c.before.before.before.before.put_held-c.ensures.result_after c.before.before.one_line-held.ensures.result_after c.favour_waiter-progress.ensures.result_after,
+  (c.before.before.before.before.put_held-c.ensures.store, c.favour_waiter-progress.ensures.entries, none_carries _),
 )
 
-pub hold-for-spec : {M : Type 1} → statement M
-hold-for-spec = tie.close (tie.spec put-held-requires (λ c κs. search rules) favour-waiter-requires returns)
+pub hold_for_spec : {M : Type 1} → statement M
+hold_for_spec = tie.close (tie.spec put-held-requires (λ c κs. search rules) favour-waiter-requires returns)

@@ -11,11 +11,11 @@ use Rattle.apply.proofs.put_held.Tie as tie
 returns : tie.Need-returns
 unfolding board_of hold
 returns c = let n = c.before.before.before.before in let a = n.before.args in (
-  with-entry _ c.put.result _
-      (c.put.ensures.0 ∙ ap (set_program (board_of a.sets.now a.rest) a.p) n.new-program.ensures)
-      _ _ c.before.before.append.ensures,
-  c.put.ensures.1.1,
+  with-entry _ c.put-c.result _
+      (c.put-c.ensures.result_after ∙ ap (set_program (board_of a.sets.now a.rest) a.p) n.new_program-held.ensures)
+      _ _ c.before.before.append-longer.ensures,
+  c.put-c.ensures.value.1,
 )
 
-pub put-held-spec : {M : Type 1} → statement M
-put-held-spec = tie.close (tie.spec (λ c κs. search rules) (λ c κs. search rules) (λ c κs. search rules) returns)
+pub put_held_spec : {M : Type 1} → statement M
+put_held_spec = tie.close (tie.spec (λ c κs. search rules) (λ c κs. search rules) (λ c κs. search rules) returns)

@@ -15,11 +15,11 @@ seats-are t = sym (length-map t.args.rest.seats _) ∙ t.well-formed.1.0.1.1.0.1
 
 returns : tie.Need-returns
 returns c = let k = c.before in let s = k.before in let a = s.args in let b = board_of a.sets.now a.rest in
-    ap (λ (r : Rest). board_of a.sets.now r) c.put-seat.ensures
+    ap (λ (r : Rest). board_of a.sets.now r) c.put_seat.ensures
     ∙ reseat-board a.sets.now a.rest a.p s.requires.0.0 s.requires.0.1 s.requires.1
-    (record { standing = k.standing-at.result; file = a.f; item = a.n }) (seats-are s)
+    (record { standing = k.standing_at-s.result; file = a.f; item = a.n }) (seats-are s)
     ∙ ap (λ (x : Standing). set_program b a.p (set_item (set_standing (at b a.p) x) a.f a.n))
-    (k.standing-at.ensures ∙ sym (standing-is a.sets.now a.rest a.p s.requires.0.0 s.requires.0.1 s.requires.1))
+    (k.standing_at-s.ensures ∙ sym (standing-is a.sets.now a.rest a.p s.requires.0.0 s.requires.0.1 s.requires.1))
 
-pub put-record-spec : {M : Type 1} → statement M
-put-record-spec = tie.close (tie.spec (λ c κs. search rules) (λ c κs. search rules) returns)
+pub put_record_spec : {M : Type 1} → statement M
+put_record_spec = tie.close (tie.spec (λ c κs. search rules) (λ c κs. search rules) returns)

@@ -16,11 +16,11 @@ seats-are t = sym (length-map t.args.rest.seats _) ∙ t.well-formed.1.0.1.1.0.1
 returns : tie.Need-returns
 unfolding board_of
 returns c = let s = c.before.before.before in let a = s.args in
-    with-waiting a.sets.now c.put-seat.result _
-    (ap (λ (r : Rest). board_of a.sets.now r) c.put-seat.ensures
+    with-waiting a.sets.now c.put_seat-c.result _
+    (ap (λ (r : Rest). board_of a.sets.now r) c.put_seat-c.ensures
     ∙ reseat-board a.sets.now a.rest a.p s.requires.0.0 s.requires.0.1 s.requires.2
     (record { standing = Standing.Waiting a.f; file = a.g; item = a.n }) (seats-are s))
-    _ _ c.before.append.ensures
+    _ _ c.before.append-longer.ensures
 
-pub put-waiting-spec : {M : Type 1} → statement M
-put-waiting-spec = tie.close (tie.spec (λ c κs. search rules) (λ c κs. search rules) returns)
+pub put_waiting_spec : {M : Type 1} → statement M
+put_waiting_spec = tie.close (tie.spec (λ c κs. search rules) (λ c κs. search rules) returns)

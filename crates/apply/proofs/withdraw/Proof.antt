@@ -11,33 +11,33 @@ use borrow.Author.Rules.{rules}
 use Rattle.apply.proofs.withdraw.Statement.{statement}
 use Rattle.apply.proofs.withdraw.Tie as tie
 
-cancel-counted-requires : tie.Need-cancel-counted-requires
-cancel-counted-requires c κs = let k = c.before in let s = k.before.before.before.before.before.before in
-    subst (λ (r : Rest). r.leaves ≤ 32) (sym k.put.ensures.1.0) s.requires.1
+cancel-counted-requires : tie.Need-cancel_counted-requires
+cancel-counted-requires c κs = let k = c.before in let s = k.before.before.before.before in
+    subst (λ (r : Rest). r.leaves ≤ 32) (sym c.put-c.ensures.value.0) s.requires.1
 
-returns : tie.Need-returns
-returns c = let s = c.before.before in rw c.enum_told.given.1 (refl, s.requires.2)
+returns : tie.Need-returns-in-Absent
+returns c = let s = c.before in rw c.in-Absent.is (refl, s.requires.2)
 
-returns-2 : tie.Need-returns-2
-returns-2 c = let s = c.before.before in rw c.enum-told2.given.1 (refl, s.requires.2)
+returns-2 : tie.Need-returns-in-Running
+returns-2 c = let s = c.before in rw c.in-Running.is (refl, s.requires.2)
 
-returns-3 : tie.Need-returns-3
+returns-3 : tie.Need-returns-in-Waiting
 unfolding board_of
-returns-3 c = let k = c.before.before in let m = k.before.before in let t = m.before.before in let a = t.before.before.args in
-    rw t.enum-told3.given.1 (
-      c.cancel-counted.ensures ∙ ap (λ (x : Board). count_cancel x a.p)
-          (with-cancelled _ k.put.result _ k.put.ensures.0 a.p _ _ m.remove.ensures),
-      k.put.ensures.1.1,
+returns-3 c = let k = c.before.before in let m = k.before.before in let t = m.before in let a = t.before.args in
+    rw c.before.before.before.before.before.in-Waiting.is (
+      c.cancel_counted.ensures ∙ ap (λ (x : Board). count_cancel x a.p)
+          (with-cancelled _ c.before.put-c.result _ c.before.put-c.ensures.result_after a.p _ _ c.before.before.before.remove-waiters.ensures),
+      c.before.put-c.ensures.value.1,
     )
 
-returns-4 : tie.Need-returns-4
+returns-4 : tie.Need-returns-in-Held
 unfolding board_of
 returns-4 c = let m = c.before.before in let t = m.before.before in
-    rw t.enum-told4.given.1
-    (with-entry _ c.put2.result _ c.put2.ensures.0 _ _ m.remove2.ensures, c.put2.ensures.1.1)
+    rw t.in-Held.is
+    (with-entry _ c.put-c-in-Held.result _ c.put-c-in-Held.ensures.result_after _ _ m.remove-held.ensures, c.put-c-in-Held.ensures.value.1)
 
-pub withdraw-spec : {M : Type 1} → statement M
-withdraw-spec =
+pub withdraw_spec : {M : Type 1} → statement M
+withdraw_spec =
     tie.close
     (tie.spec
     (λ c. search rules)

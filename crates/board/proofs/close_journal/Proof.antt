@@ -10,37 +10,37 @@ use Rattle.board.proofs.close_journal.Statement.{statement}
 use Rattle.board.proofs.close_journal.Tie as tie
 
 -- where the journal of a last line ends
-abbrev placed : tie.After-order-line → tie.After-o
+abbrev placed : tie.After-order_line-len → tie.After-o-1
 placed k = k.before.before.before.before
 
 -- a last line is served
-abbrev last : tie.After-o → tie.After-last-line
+abbrev last : tie.After-o-1 → tie.After-last_line-last
 last p = p.before.before.before.before.before
 
-abbrev begin : tie.After-last-line → tie.Start
+abbrev begin : tie.After-last_line-last → tie.Start
 begin l = l.before.before.before.before.before.before
 
-order-line-requires : tie.Need-order-line-requires
-order-line-requires c κs = let u = last c.before.before.before in let l = u.last_Line in
-    (simp (length-take, length-drop) (omega (arith, l.ensures.1.0, l.kept.1.1.1.0, (begin u).pre.1.1)), l.ensures.1.2)
+order-line-requires : tie.Need-order_line-len-requires
+order-line-requires c κs = let u = last c.before.before.before in let l = u.last_line-last in
+    (simp (length-take, length-drop) (omega (arith, l.ensures.place_le_journal_room.0, l.kept.1.1.1.0, (begin u).requires.1.1)), l.ensures.place_le_journal_room.2)
 
 returns : tie.Need-returns
 returns c =
     let u = last (placed c.before.before) in
     let s = begin u in
-    let l = u.last_Line in
-    let o = c.before.before.order-line in
-    let h = l.ensures.1.0 in
+    let l = u.last_line-last in
+    let o = c.before.before.order_line-len in
+    let h = l.ensures.place_le_journal_room.0 in
     let j = l.kept.1.1.1.0 in
-    let m : order_columns < length o.new.1.1.0 = rw o.auto.1.1.0 (simp (length-take, length-drop) (omega (arith, h, j, s.pre.1.1))) in (
+    let m : order_columns < length o.new.1.1.0 = rw o.auto.1.1.0 (simp (length-take, length-drop) (omega (arith, h, j, s.requires.1.1))) in (
       close_is _ (board_of l.last.0 l.result.rest) l.last.1.1.1.0 o.new.1.1.0 l.result.out.place o.result
-          (omega (arith, h, j, s.pre.1.1)) (omega (arith, o.ensures.1, m))
-          l.ensures.0 o.ensures.0,
-      (omega (arith, h, o.ensures.1), l.ensures.1.1),
+          (omega (arith, h, j, s.requires.1.1)) (omega (arith, o.ensures.upper_bound, m))
+          l.ensures.journal_after o.ensures.out_after,
+      (omega (arith, h, o.ensures.upper_bound), l.ensures.place_le_journal_room.1),
     )
 
-pub close-journal-spec : {M : Type 1} → statement M
-close-journal-spec =
+pub close_journal_spec : {M : Type 1} → statement M
+close_journal_spec =
     tie.close
     (tie.spec
     (λ c κs. search rules)

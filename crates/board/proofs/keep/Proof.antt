@@ -11,27 +11,27 @@ use borrow.Author.Rules.{rules}
 use Rattle.board.proofs.keep.Statement.{statement}
 use Rattle.board.proofs.keep.Tie as tie
 
-abbrev invariant-loop : tie.invariant-loop
+abbrev invariant-loop : tie.invariant-loop-i
 invariant-loop kept₀ len part n₀ i₀ kept n i =
     (i ≤ length part) × (n ≡ len + i) × (n ≤ cut_line) × (length kept ≡ cut_line) × (take n kept ≡ take len kept₀ ++ take i part)
 
-abbrev decreases-loop : tie.decreases-loop
+abbrev decreases-loop : tie.decreases-loop-i
 decreases-loop kept₀ len part n₀ i₀ kept n i = length part - i
 
-loop-holds : tie.Need-loop-init invariant-loop decreases-loop
+loop-holds : tie.Need-loop-i-init invariant-loop decreases-loop
 loop-holds c = (omega arith, omega arith, omega arith, c.requires.1, sym (append-nil _))
 
-returns : tie.Need-returns invariant-loop decreases-loop
+returns : tie.Need-returns-then-n-gt-LONGEST_LINE invariant-loop decreases-loop
 returns c =
     let a = c.before.before.before.args in
-    let l = c.before.before.loop in
+    let l = c.before.before.loop-i in
     let p = length-take-le a.len a.kept.now (omega arith) in
     (l.invariant.4 ∙ keep_full (take a.len a.kept.now) a.part.now l.i (omega arith), omega arith)
 
-loop-again : tie.Need-loop-preserved invariant-loop decreases-loop
+loop-again : tie.Need-loop-i-preserved invariant-loop decreases-loop
 loop-again c =
     let a = c.before.before.before.before.args in
-    let l = c.before.before.before.loop in (
+    let l = c.before.before.before.loop-i in (
       omega arith,
       omega arith,
       omega arith,
@@ -39,10 +39,10 @@ loop-again c =
       keep_more l.auto (take a.len a.kept.now) a.part.now l.n l.i (omega arith) (omega arith) l.invariant.4,
     )
 
-returns-2 : tie.Need-returns-2 invariant-loop decreases-loop
+returns-2 : tie.Need-returns invariant-loop decreases-loop
 returns-2 c =
     let a = c.before.before.args in
-    let l = c.before.loop in
+    let l = c.before.loop-i in
     let p = length-take-le a.len a.kept.now (omega arith) in
     (l.invariant.4 ∙ keep_all (take a.len a.kept.now) a.part.now l.i (omega arith) (omega arith), omega arith)
 

@@ -9,35 +9,35 @@ use Rattle.board.proofs.Laws.{line-goes_on, line-ends, line_out}
 use Rattle.board.proofs.line_end.Statement.{statement}
 use Rattle.board.proofs.line_end.Tie as tie
 
-abbrev invariant-loop : tie.invariant-loop
+abbrev invariant-loop : tie.invariant-loop-i
 invariant-loop s from i₀ i = (i ≤ length s) × (from + length (first_line (drop from s)) ≡ i + length (first_line (drop i s)))
 
-abbrev decreases-loop : tie.decreases-loop
+abbrev decreases-loop : tie.decreases-loop-i
 decreases-loop s from i₀ i = length s - i
 
-returns : tie.Need-returns invariant-loop decreases-loop
+returns : tie.Need-returns-then-s-i-eq10 invariant-loop decreases-loop
 returns c =
     let s = c.before.before.before.before.args in
-    let l = c.before.before.before.loop in
-    let e = line-ends s.s.now l.i (omega arith) c.if1.true in
+    let l = c.before.before.before.loop-i in
+    let e = line-ends s.s.now l.i (omega arith) c.if-s-i-eq10.true in
     (omega arith, omega arith)
 
-loop-again : tie.Need-loop-preserved invariant-loop decreases-loop
+loop-again : tie.Need-loop-i-preserved invariant-loop decreases-loop
 loop-again c =
     let s = c.before.before.before.before.args in
-    let l = c.before.before.before.loop in
-    let e = line-goes_on s.s.now l.i (omega arith) c.if1.false in
+    let l = c.before.before.before.loop-i in
+    let e = line-goes_on s.s.now l.i (omega arith) c.if-s-i-eq10.false in
     (omega arith, omega arith)
 
-returns-2 : tie.Need-returns-2 invariant-loop decreases-loop
+returns-2 : tie.Need-returns invariant-loop decreases-loop
 returns-2 c =
     let s = c.before.before.args in
-    let l = c.before.loop in
+    let l = c.before.loop-i in
     let e = line_out s.s.now l.i (omega arith) in
     (omega arith, omega arith)
 
-pub line-end-spec : {M : Type 1} → statement M
-line-end-spec =
+pub line_end_spec : {M : Type 1} → statement M
+line_end_spec =
     tie.close
     (tie.spec
     invariant-loop

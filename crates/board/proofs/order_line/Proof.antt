@@ -10,13 +10,13 @@ use Rattle.board.proofs.order_line.Statement.{statement}
 use Rattle.board.proofs.order_line.Tie as tie
 
 -- the word is written
-abbrev worded : tie.After-put-programs → tie.After-copy
+abbrev worded : tie.After-put_programs-n → tie.After-copy
 worded k = k.before.before.before.before.before.before
 
-same_length : tie.Need-same-length
+same_length : tie.Need-shape_of-out
 same_length c =
     let u = c.before.before in
-    let k = u.put-programs in
+    let k = u.put_programs-n in
     length-set k.new.0 k.result 10 ∙ k.auto.0 ∙ (worded u).copy.auto.1.0
 
 returns : tie.Need-returns
@@ -26,16 +26,16 @@ returns c =
     let s = (worded u).before.before.before.before in
     let a = s.args in
     let w = (worded u).copy in
-    let o = u.before.before.before.carried-in in
-    let k = u.put-programs in (
-      order_is o.result.at a.out.now w.last.1.0 k.new.0 k.result w.ensures.1 k.ensures.0
-          (omega (arith, k.ensures.1, k.auto.0, w.kept.1.0, s.pre.0))
+    let o = u.before.before.before.carried_in-order in
+    let k = u.put_programs-n in (
+      order_is o.result.at a.out.now w.last.1.0 k.new.0 k.result w.ensures.1 k.ensures.out_after
+          (omega (arith, k.ensures.upper_bound, k.auto.0, w.kept.1.0, s.pre.0))
           ∙ ap (λ (x : Order). order_line x.at) o.ensures,
-      omega (arith, k.ensures.1),
+      omega (arith, k.ensures.upper_bound),
     )
 
-pub order-line-spec : {M : Type 1} → statement M
-order-line-spec =
+pub order_line_spec : {M : Type 1} → statement M
+order_line_spec =
     tie.close
     (tie.spec
     (λ c. search rules)

@@ -14,19 +14,19 @@ use Rattle.board.proofs.put_columns.Tie as tie
 sized : (s : tie.Start) → length (take program_width s.args.part.now) ≡ program_width
 sized s = length-take-le program_width s.args.part.now s.requires
 
-slice-aggregate-put-number : tie.Need-slice-aggregate-put-number
+slice-aggregate-put-number : tie.Need-slice_bounds-put_number-end-2
 slice-aggregate-put-number c = sym (sized c.before.before)
 
-put-number-requires : tie.Need-put-number-requires
+put-number-requires : tie.Need-put_number-requires
 put-number-requires c κs = omega (arith, sized c.before.before)
 
 returns : tie.Need-returns
 returns c = let s = c.before.before.before.before.before in
     ap (λ (l : List ℕ). l ++ drop program_width s.args.part.now)
-    (c.before.before.put-number.ensures ∙ ap (λ (w : ℕ). columns_of w s.args.p) (sized s))
+    (c.before.before.put_number.ensures ∙ ap (λ (w : ℕ). columns_of w s.args.p) (sized s))
 
-pub put-columns-spec : {M : Type 1} → statement M
-put-columns-spec =
+pub put_columns_spec : {M : Type 1} → statement M
+put_columns_spec =
     tie.close
     (tie.spec
     (λ c. search rules)

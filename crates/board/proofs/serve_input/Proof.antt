@@ -19,30 +19,30 @@ use borrow.Author.Rules.{rules}
 use Rattle.board.proofs.serve_input.Statement.{statement}
 use Rattle.board.proofs.serve_input.Tie as tie
 
-abbrev invariant-loop : tie.invariant-loop
+abbrev invariant-loop : tie.invariant-loop-turns
 invariant-loop input₀ journal₀ kept₀ sets₀ s₀ turns₀ input journal kept sets s turns =
     (s.kept ≤ cut_line) × (s.out.place ≡ 0) × (length input ≡ buffer_length) × (length kept ≡ cut_line) × (length journal ≡ buffer_length)
     × (sound (board_of sets s.rest) ≡ true) × IsStore sets
 
-abbrev decreases-loop : tie.decreases-loop
+abbrev decreases-loop : tie.decreases-loop-turns
 decreases-loop input₀ journal₀ kept₀ sets₀ s₀ turns₀ input journal kept sets s turns = turns
 
 empty_sound : sound empty_board ≡ true
 unfolding worked worked_from
 empty_sound = (sound_iff empty_board).1 (good_sound empty_board (worked_good []))
 
-loop-holds : tie.Need-loop-init invariant-loop decreases-loop
+loop-holds : tie.Need-loop-turns-init invariant-loop decreases-loop
 loop-holds c =
-    let s = c.start.ensures in
+    let s = c.start-s.ensures in
     (omega (arith, s.1), s.2, search rules, search rules, search rules, ap sound s.0 ∙ empty_sound, fresh_store)
 
-loop-again : tie.Need-loop-preserved invariant-loop decreases-loop
+loop-again : tie.Need-loop-turns-preserved invariant-loop decreases-loop
 loop-again c =
-    let k = c.before.before.before.before.take_Chunk.ensures.1 in
+    let k = c.before.before.before.before.take_chunk-s.ensures.rest_after in
     (k.1, k.2, search rules, search rules, search rules, k.0, k.4)
 
-pub serve-input-spec : {M : Type 1} → statement M
-serve-input-spec =
+pub serve_input_spec : {M : Type 1} → statement M
+serve_input_spec =
     tie.close
     (tie.spec
     invariant-loop

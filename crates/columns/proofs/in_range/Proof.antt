@@ -4,11 +4,11 @@ use borrow.Author.Rules.{rules}
 use Rattle.columns.proofs.in_range.Statement.{statement}
 use Rattle.columns.proofs.in_range.Tie as tie
 
-returns-3 : tie.Need-returns-3
-returns-3 c = c.within.ensures ∙ rw c.before.before.d.given.1
+returns-3 : tie.Need-returns-in-Value
+returns-3 c = c.within.ensures ∙ rw c.before.in-Value.is
 
-pub in-range-spec : {M : Type 1} → statement M
-in-range-spec =
+pub in_range_spec : {M : Type 1} → statement M
+in_range_spec =
     tie.close
     (tie.spec
     (λ c. search rules)

@@ -11,39 +11,39 @@ use Rattle.columns.proofs.Laws.{read_none, read_turn, read-ends}
 use Rattle.columns.proofs.read_number.Statement.{statement}
 use Rattle.columns.proofs.read_number.Tie as tie
 
-abbrev invariant-loop : tie.invariant-loop
+abbrev invariant-loop : tie.invariant-loop-i
 invariant-loop part width low high d₀ i₀ d i = (i ≤ length part) × Below high d
     × (ranged low high (read_all Digits.Blank part) ≡ ranged low high (read_all d (drop i part)))
 
-abbrev decreases-loop : tie.decreases-loop
+abbrev decreases-loop : tie.decreases-loop-i
 decreases-loop part width low high d₀ i₀ d i = length part - i
 
 -- where the part is known to have its width
-abbrev start : tie.Else1 invariant-loop decreases-loop → tie.Start invariant-loop decreases-loop
+abbrev start : tie.Else-part-width invariant-loop decreases-loop → tie.Start invariant-loop decreases-loop
 start e = e.before.before
 
-returns : tie.Need-returns invariant-loop decreases-loop
-returns c = let a = c.before.before.args in sym (read_none a.low a.high a.width a.part.now c.if1.true)
+returns : tie.Need-returns-then-part-width invariant-loop decreases-loop
+returns c = let a = c.before.before.args in sym (read_none a.low a.high a.width a.part.now c.if-part-width.true)
 
-loop-holds : tie.Need-loop-init invariant-loop decreases-loop
+loop-holds : tie.Need-loop-i-init invariant-loop decreases-loop
 loop-holds c = (omega arith, Prim.tt, refl)
 
-read-one-requires : tie.Need-read-one-requires invariant-loop decreases-loop
-read-one-requires c κs = let l = c.before.before in (l.loop.invariant.1, (start l.before).pre)
+read-one-requires : tie.Need-read_one-more-requires invariant-loop decreases-loop
+read-one-requires c κs = let l = c.before.before in (l.loop-i.invariant.1, (start l.before).requires)
 
-loop-again : tie.Need-loop-preserved invariant-loop decreases-loop
-loop-again c = let t = c.before.before.before in let l = t.loop in let a = (start t.before).args in (
+loop-again : tie.Need-loop-i-preserved invariant-loop decreases-loop
+loop-again c = let t = c.before.before.before in let l = t.loop-i in let a = (start t.before).args in (
   omega arith,
-  c.read_one.ensures.1,
-  l.invariant.2 ∙ rw (add-one l.i) (read_turn a.low a.high l.d _ a.part.now l.i (omega arith) c.read_one.ensures.0),
+  c.read_one-more.ensures.1,
+  l.invariant.2 ∙ rw (add-one l.i) (read_turn a.low a.high l.d _ a.part.now l.i (omega arith) c.read_one-more.ensures.0),
 )
 
-returns-2 : tie.Need-returns-2 invariant-loop decreases-loop
-returns-2 c = let t = c.before.before in let l = t.loop in let a = (start t.before).args in
-    c.in-range.ensures ∙ read-ends a.low a.high a.width l.d a.part.now l.i (omega arith) (omega arith) l.invariant.2
+returns-2 : tie.Need-returns invariant-loop decreases-loop
+returns-2 c = let t = c.before.before in let l = t.loop-i in let a = (start t.before).args in
+    c.in_range.ensures ∙ read-ends a.low a.high a.width l.d a.part.now l.i (omega arith) (omega arith) l.invariant.2
 
-pub read-number-spec : {M : Type 1} → statement M
-read-number-spec =
+pub read_number_spec : {M : Type 1} → statement M
+read_number_spec =
     tie.close
     (tie.spec
     invariant-loop

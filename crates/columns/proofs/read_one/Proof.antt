@@ -12,18 +12,18 @@ use Rattle.columns.proofs.read_one.Tie as tie
 good : (high b : ℕ) (d e r : Digits) → r ≡ capped_one high e b → d ≡ e → (r ≡ capped_one high d b) × Below high r
 good high b d e r h k = (rw k h, subst (Below high) (sym h) (capped_below high (read_one e b)))
 
-after-digits-requires : tie.Need-after-digits-requires
-after-digits-requires c κs = let s = c.before.before.before in
-    (subst (Below s.args.high) c.before.d.given.1 s.requires.0, s.requires.1)
+after-digits-requires : tie.Need-after_digits-requires
+after-digits-requires c κs = let s = c.before in
+    (subst (Below s.args.high) c.in-Value.is s.requires.0, s.requires.1)
 
-returns-2 : tie.Need-returns-2
-returns-2 c = good _ _ _ _ _ c.after-blanks.ensures c.before.enum-told2.given.1
+returns-2 : tie.Need-returns-in-Blank
+returns-2 c = good _ _ _ _ _ c.after_blanks.ensures c.before.in-Blank.is
 
-returns-3 : tie.Need-returns-3
-returns-3 c = good _ _ _ _ _ c.after-digits.ensures c.before.before.d.given.1
+returns-3 : tie.Need-returns-in-Value
+returns-3 c = good _ _ _ _ _ c.after_digits.ensures c.before.in-Value.is
 
-pub read-one-spec : {M : Type 1} → statement M
-read-one-spec =
+pub read_one_spec : {M : Type 1} → statement M
+read_one_spec =
     tie.close
     (tie.spec
     (λ c. search rules)

@@ -10,8 +10,8 @@ use Rattle.digraph.proofs.fill_steps.Tie as tie
 
 returns : tie.Need-returns
 returns c = let n = c.before.before in let s = n.before in let a = s.args in
-    c.fill-holders.ensures ∙ ap (holder_rows _) (n.admitted-seats.ensures ∙ seats_admitted a.sets.now a.rest)
+    c.fill_holders.ensures ∙ ap (holder_rows _) (n.admitted_seats-admitted.ensures ∙ seats_admitted a.sets.now a.rest)
     ∙ steps_are _ _ (board-sets a.sets.now a.rest s.requires.1)
 
-pub fill-steps-spec : {M : Type 1} → statement M
-fill-steps-spec = tie.close (tie.spec (λ c κs. search rules) (λ c κs. search rules) returns)
+pub fill_steps_spec : {M : Type 1} → statement M
+fill_steps_spec = tie.close (tie.spec (λ c κs. search rules) (λ c κs. search rules) returns)

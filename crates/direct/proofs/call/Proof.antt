@@ -6,7 +6,7 @@ use Rattle.direct.proofs.call.Statement.{statement}
 use Rattle.direct.proofs.call.Tie as tie
 
 returns : tie.Need-returns
-returns c = let k = c.before.reply-to in (k.ensures, c.loop-of.ensures (call_of c.before.before.args.a) (inl k.ensures))
+returns c = let k = c.before.reply_to-reply in (k.ensures, c.loop_of-carries.ensures (call_of c.before.before.args.a) (inl k.ensures))
 
-pub call-spec : {M : Type 1} → statement M
-call-spec = tie.close (tie.spec (λ c κs. search rules) (λ c κs. search rules) returns)
+pub call_spec : {M : Type 1} → statement M
+call_spec = tie.close (tie.spec (λ c κs. search rules) (λ c κs. search rules) returns)

@@ -5,14 +5,14 @@ use borrow.Author.Rules.{rules}
 use Rattle.host.proofs.answer_for.Statement.{statement}
 use Rattle.host.proofs.answer_for.Tie as tie
 
-returns : tie.Need-returns
-returns c = c.refusal-answer.ensures ∙ sym (answer_one _ _ c.before.if1.true)
+returns : tie.Need-returns-then-n-eq1
+returns c = c.refusal_answer.ensures ∙ sym (answer_one _ _ c.before.if-n-eq1.true)
 
-returns-2 : tie.Need-returns-2
-returns-2 c = c.refusal-answer2.ensures ∙ sym (answer_two _ _ c.before.if2.true)
+returns-2 : tie.Need-returns-then-n-eq2
+returns-2 c = c.refusal_answer-then-n-eq2.ensures ∙ sym (answer_two _ _ c.before.if-n-eq2.true)
 
-returns-3 : tie.Need-returns-3
-returns-3 c = sym (answer_more _ _ c.before.if1.false c.if2.false)
+returns-3 : tie.Need-returns
+returns-3 c = sym (answer_more _ _ c.before.if-n-eq1.false c.if-n-eq2.false)
 
-pub answer-for-spec : {M : Type 1} → statement M
-answer-for-spec = tie.close (tie.spec (λ c κs. search rules) returns (λ c κs. search rules) returns-2 returns-3)
+pub answer_for_spec : {M : Type 1} → statement M
+answer_for_spec = tie.close (tie.spec (λ c κs. search rules) returns (λ c κs. search rules) returns-2 returns-3)

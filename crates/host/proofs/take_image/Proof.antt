@@ -1,7 +1,6 @@
 -- `take_image` meets its contract. Assumes nothing.
 use mathlib.Core.Path.{◌≡◌, sym, ap, ◌∙◌}
 use mathlib.Core.Bool.{Bool}
-use borrow.Author.Tests.{not_true, not-false}
 use Rattle.laws.specs.Tests.{by_test}
 use Rattle.image.specs.declared.Loaded.{Loaded}
 use Rattle.image.specs.Stored.{loaded_in}
@@ -11,21 +10,21 @@ use Rattle.host.proofs.take_image.Statement.{statement}
 use Rattle.host.proofs.take_image.Tie as tie
 
 -- the board that was read
-abbrev found : tie.After-load-in → Loaded
-found k = loaded_in k.load-in.new.1.0 k.load-in.result
+abbrev found : tie.After-load_in-loaded → Loaded
+found k = loaded_in k.load_in-loaded.new.1.0 k.load_in-loaded.result
 
-returns : tie.Need-returns
-returns c = let k = c.before in let e = not_true k.load-in.result.ok c.if1.true in
-    (rw e (sym (Laws.image-layout _ (found k) k.load-in.ensures.0 e)), k.load-in.ensures.1)
+returns : tie.Need-returns-then-not-ok
+returns c = let k = c.before in let e = c.if-not-ok.true in
+    (rw e (sym (Laws.image_layout _ (found k) k.load_in-loaded.ensures.result_after e)), k.load_in-loaded.ensures.store)
 
-returns-2 : tie.Need-returns-2
-returns-2 c = let i = c.before.before.before in let k = i.before in let e = not-false k.load-in.result.ok i.if1.false in (
-  by_test c.is-sound.result
-      (λ t. rw t (sym (Laws.image-sound _ (found k) k.load-in.ensures.0 e (sym c.is-sound.ensures ∙ t)
+returns-2 : tie.Need-returns
+returns-2 c = let i = c.before.before.before in let k = i.before in let e = c.before.before.if-not-ok.false in (
+  by_test c.is_sound-sound.result
+      (λ t. rw t (sym (Laws.image_sound _ (found k) c.before.before.before.load_in-loaded.ensures.result_after e (sym c.is_sound-sound.ensures ∙ t)
       ∙ ap (λ (o : Bool). record { ok = o; board = (found k).board }) e)))
-      (λ t. rw t (sym (Laws.image-unsound _ (found k) k.load-in.ensures.0 e (sym c.is-sound.ensures ∙ t)))),
-  k.load-in.ensures.1,
+      (λ t. rw t (sym (Laws.image_unsound _ (found k) c.before.before.before.load_in-loaded.ensures.result_after e (sym c.is_sound-sound.ensures ∙ t)))),
+  c.before.before.before.load_in-loaded.ensures.store,
 )
 
-pub take-image-spec : {M : Type 1} → statement M
-take-image-spec = tie.close (tie.spec (λ c κs. search rules) returns (λ c κs. search rules) returns-2)
+pub take_image_spec : {M : Type 1} → statement M
+take_image_spec = tie.close (tie.spec (λ c κs. search rules) returns (λ c κs. search rules) returns-2)

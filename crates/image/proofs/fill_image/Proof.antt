@@ -29,20 +29,20 @@ returns c =
     let b = s.args.rest in
     let sets = s.args.sets.now in
     let n = lines s in
-    let e₁ = rows-put (made sets b.seats) s.args.out.now (made_size sets b.seats) p₁.put-rows.ensures in
-    let e₂ = put-after line_section b.waiting e₁ n.0 p₂.put-places.ensures in
-    let e₃ = put-after line_section b.entry e₂ n.1 p₃.put-places2.ensures in
-    let e₄ = put-after numbers_section ((b.favoured, b.initial), b.leaves) e₃ refl p₄.put-at.ensures in
-    let e₅ = put-after counts_section b.passed e₄ n.2 p₅.put-places3.ensures in
+    let e₁ = rows-put (made sets b.seats) s.args.out.now (made_size sets b.seats) p₁.put_rows.ensures in
+    let e₂ = put-after line_section b.waiting e₁ n.0 p₂.put_places.ensures in
+    let e₃ = put-after line_section b.entry e₂ n.1 p₃.put_places-2.ensures in
+    let e₄ = put-after numbers_section ((b.favoured, b.initial), b.leaves) e₃ refl p₄.put_at.ensures in
+    let e₅ = put-after counts_section b.passed e₄ n.2 p₅.put_places-3.ensures in
     let m = made sets b.seats in
     let k = rows-length inquiry_section inquiry_of 32 m inquiry_length (made_size sets b.seats) in
     let e₆ = put-after inquiries_section (map inquiry_of m) e₅ k
-    (put_part front_section.size (inquiries_section.write (map inquiry_of m)) p₅.put-places3.new.0 p₆.put-inquiries.new.0
-    (p₆.put-inquiries.ensures ∙ rw k)) in
+    (put_part front_section.size (inquiries_section.write (map inquiry_of m)) p₅.put_places-3.new.0 p₆.put_inquiries.new.0
+    (p₆.put_inquiries.ensures ∙ rw k)) in
     put_all e₆ s.requires.0
 
-pub fill-image-spec : {M : Type 1} → statement M
-fill-image-spec =
+pub fill_image_spec : {M : Type 1} → statement M
+fill_image_spec =
     tie.close
     (tie.spec
     (λ c κs. search rules)

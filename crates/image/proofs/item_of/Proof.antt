@@ -4,17 +4,17 @@ use borrow.Author.Tests.{eq-eqb, ne_eqb}
 use Rattle.image.proofs.item_of.Statement.{statement}
 use Rattle.image.proofs.item_of.Tie as tie
 
-returns : tie.Need-returns
+returns : tie.Need-returns-then-k-eq1
 unfolding item_of
-returns c = simp (eq-eqb _ _ c.if1.true)
+returns c = simp (eq-eqb _ _ c.if-k-eq1.true)
 
-returns-2 : tie.Need-returns-2
+returns-2 : tie.Need-returns-then-k-eq2
 unfolding item_of
-returns-2 c = simp (ne_eqb _ _ c.before.if1.false, eq-eqb _ _ c.if2.true)
+returns-2 c = simp (ne_eqb _ _ c.before.if-k-eq1.false, eq-eqb _ _ c.if-k-eq2.true)
 
-returns-3 : tie.Need-returns-3
+returns-3 : tie.Need-returns
 unfolding item_of
-returns-3 c = simp (ne_eqb _ _ c.before.if1.false, ne_eqb _ _ c.if2.false)
+returns-3 c = simp (ne_eqb _ _ c.before.if-k-eq1.false, ne_eqb _ _ c.if-k-eq2.false)
 
-pub item-of-spec : {M : Type 1} → statement M
-item-of-spec = tie.close (tie.spec returns returns-2 returns-3)
+pub item_of_spec : {M : Type 1} → statement M
+item_of_spec = tie.close (tie.spec returns returns-2 returns-3)

@@ -20,14 +20,14 @@ numbers_at = (rows_section ▸ line_section ▸ line_section).size
 untouched : (s : tie.Start) → IsStore s.args.sets.now
 untouched s = subst IsStore (sym s.requires) fresh_store
 
-returns : tie.Need-returns
+returns : tie.Need-returns-then-image-ne-IMAGE_LEN
 returns c = let s = c.before.before in let l = s.args.image.now in
-    (read_none l s.args.sets.now s.requires (load-long l c.if1.true), untouched s)
+    (read_none l s.args.sets.now s.requires (load-long l c.if-image-ne-IMAGE_LEN.true), untouched s)
 
-read-rows-requires : tie.Need-read-rows-requires
+read-rows-requires : tie.Need-read_rows-seats-requires
 read-rows-requires c κs = (omega arith, untouched c.before.before.before.before.before)
 
-returns-2 : tie.Need-returns-2
+returns-2 : tie.Need-returns-then-rows_fit
 returns-2 c =
     let counts = c.before.before.before in
     let entry = counts.before.before in
@@ -36,23 +36,23 @@ returns-2 c =
     let good = rows.before.before in
     let s = good.before.before.before.before in
     let l = s.args.image.now in (
-      read-good l rows.read-rows.new.1.0 _ (omega arith) (sym good.before.rows_fit.ensures ∙ good.if2.true)
-          rows.read-rows.ensures.1
+      read-good l rows.read_rows-seats.new.1.0 _ (omega arith) (sym good.before.rows_fit.ensures ∙ good.if-rows_fit.true)
+          rows.read_rows-seats.ensures.sets_of
           (record {
-            seats-are = rows.read-rows.ensures.0;
-            waiting-is = waiting.read-places.ensures;
-            entry-is = entry.read-places2.ensures;
+            seats-are = rows.read_rows-seats.ensures.seats_to;
+            waiting-is = waiting.read_places-waiting.ensures;
+            entry-is = entry.read_places-entry.ensures;
             favoured_is = sym (byte_at l numbers_at 0);
             initial-is = sym (byte_at l numbers_at 1);
             leaves-are = sym (byte_at l numbers_at 2);
-            passed-are = counts.read-places3.ensures;
+            passed-are = counts.read_places-passed.ensures;
           }),
-      rows.read-rows.ensures.1.0,
+      rows.read_rows-seats.ensures.sets_of.0,
     )
 
-returns-3 : tie.Need-returns-3
+returns-3 : tie.Need-returns
 returns-3 c = let s = c.before.before.before.before in let l = s.args.image.now in
-    (read_none l s.args.sets.now s.requires (load-bad l (omega arith) (sym c.before.rows_fit.ensures ∙ c.if2.false)), untouched s)
+    (read_none l s.args.sets.now s.requires (load-bad l (omega arith) (sym c.before.rows_fit.ensures ∙ c.if-rows_fit.false)), untouched s)
 
 pub load_in_spec : {M : Type 1} → statement M
 load_in_spec =

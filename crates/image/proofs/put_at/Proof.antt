@@ -17,6 +17,6 @@ returns c =
     put_part at src out c.before.before.copy.new.1.0 (c.before.before.copy.ensures.1
     ∙ ap (λ (l : List ℕ). l ++ drop (length src) (take (length out - at) (drop at out))) (take_all (length src) src (omega arith)))
 
-pub put-at-spec : {M : Type 1} → statement M
-put-at-spec =
+pub put_at_spec : {M : Type 1} → statement M
+put_at_spec =
     tie.close (tie.spec (λ c. search rules) (λ c. search rules) (λ c. search rules) (λ c κs. search rules) (λ c. search rules) returns)

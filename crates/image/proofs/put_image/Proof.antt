@@ -8,8 +8,8 @@ use Rattle.image.proofs.put_image.Tie as tie
 
 returns : tie.Need-returns
 returns c = let w = c.before.before in let t = w.before.before.before in let out = t.before.before.before.args.out.now in
-    (w.put-image-of.ensures.0, w.put-image-of.ensures.1 ∙ ap (image_in out) t.take.ensures.1)
+    (w.put_image_of.ensures.value, w.put_image_of.ensures.out_after ∙ ap (image_in out) t.take-rest.ensures.1)
 
-pub put-image-spec : {M : Type 1} → statement M
-put-image-spec =
-    tie.close (tie.spec (λ c κs. fresh_store) (λ c κs. c.before.before.take.ensures.0.0) (λ c. search rules) returns)
+pub put_image_spec : {M : Type 1} → statement M
+put_image_spec =
+    tie.close (tie.spec (λ c κs. fresh_store) (λ c κs. c.before.before.take-rest.ensures.0.0) (λ c. search rules) returns)

@@ -27,13 +27,13 @@ returns c =
     let j = set_in sets (claim_place Inquiry (a.p - 1)) in
     let i = set_in sets (open_place Inquiry (a.p - 1)) in
     let items : ℕ × ℕ = (used_by a.seat.standing a.seat.item, wanted_by a.seat.standing a.seat.item) in
-    let e₁ = put_first {s = set_section} {a = j} (set-length j) (set-placed sets _ _ k₁.inquirable-at.ensures.0 p₁.put-set.ensures) in
-    let e₂ = put-after set_section i e₁ (set-length i) (set-placed sets _ _ k₂.inquiring-at.ensures.0 p₂.put-set2.ensures) in
-    let e₃ = put-after items_section items e₂ refl (p₃.put-at.ensures ∙ rw (u.used.ensures, w.wanted.ensures)) in
+    let e₁ = put_first {s = set_section} {a = j} (set-length j) (set-placed sets _ _ k₁.inquirable_at-j.ensures.0 p₁.put_set.ensures) in
+    let e₂ = put-after set_section i e₁ (set-length i) (set-placed sets _ _ k₂.inquiring_at-i.ensures.0 p₂.put_set-2.ensures) in
+    let e₃ = put-after items_section items e₂ refl (p₃.put_at.ensures ∙ rw (u.used-u.ensures, w.wanted-a.ensures)) in
     e₃.front
 
-pub put-inquiry-spec : {M : Type 1} → statement M
-put-inquiry-spec =
+pub put_inquiry_spec : {M : Type 1} → statement M
+put_inquiry_spec =
     tie.close
     (tie.spec
     (λ c κs. search rules)

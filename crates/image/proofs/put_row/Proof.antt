@@ -31,16 +31,16 @@ returns c =
     let q = set_in sets (claim_place Read (a.p - 1)) in
     let w = set_in sets (open_place Write (a.p - 1)) in
     let r = set_in sets (open_place Read (a.p - 1)) in
-    let e₁ = put_first {s = set_section} {a = v} (set-length v) (set-placed sets _ _ k₁.writable-at.ensures.0 p₁.put-set.ensures) in
-    let e₂ = put-after set_section q e₁ (set-length q) (set-placed sets _ _ k₂.readable-at.ensures.0 p₂.put-set2.ensures) in
-    let e₃ = put-after set_section w e₂ (set-length w) (set-placed sets _ _ k₃.writing-at.ensures.0 p₃.put-set3.ensures) in
-    let e₄ = put-after set_section r e₃ (set-length r) (set-placed sets _ _ k₄.reading-at.ensures.0 p₄.put-set4.ensures) in
+    let e₁ = put_first {s = set_section} {a = v} (set-length v) (set-placed sets _ _ k₁.writable_at-v.ensures.0 p₁.put_set.ensures) in
+    let e₂ = put-after set_section q e₁ (set-length q) (set-placed sets _ _ k₂.readable_at-q.ensures.0 p₂.put_set-2.ensures) in
+    let e₃ = put-after set_section w e₂ (set-length w) (set-placed sets _ _ k₃.writing_at-w.ensures.0 p₃.put_set-3.ensures) in
+    let e₄ = put-after set_section r e₃ (set-length r) (set-placed sets _ _ k₄.reading_at-r.ensures.0 p₄.put_set-4.ensures) in
     let standing : ℕ × ℕ = (kind_of a.seat.standing, file_byte a.seat.standing a.seat.file) in
-    let e₅ = put-after (byte ▸ awaited_section) standing e₄ refl (p₅.put-at.ensures ∙ rw (k.before.kind.ensures, k.file-byte.ensures)) in
+    let e₅ = put-after (byte ▸ awaited_section) standing e₄ refl (p₅.put_at.ensures ∙ rw (k.before.kind-k.ensures, k.file_byte-b.ensures)) in
     e₅.front
 
-pub put-row-spec : {M : Type 1} → statement M
-put-row-spec =
+pub put_row_spec : {M : Type 1} → statement M
+put_row_spec =
     tie.close
     (tie.spec
     (λ c κs. search rules)

@@ -16,48 +16,48 @@ use Rattle.image.proofs.RoundTrip.{row_bytes, row-length}
 use Rattle.image.proofs.put_rows.Statement.{statement}
 use Rattle.image.proofs.put_rows.Tie as tie
 
-abbrev invariant-loop : tie.invariant-loop
+abbrev invariant-loop : tie.invariant-loop-i
 invariant-loop out₀ sets seats i₀ out i =
     (i ≤ 32) × (length out ≡ length out₀) × (out ≡ flat row_bytes (take i (made sets seats)) ++ drop (row_section.size * i) out₀)
 
-abbrev decreases-loop : tie.decreases-loop
+abbrev decreases-loop : tie.decreases-loop-i
 decreases-loop out₀ sets seats i₀ out i = 32 - i
 
-loop-holds : tie.Need-loop-init invariant-loop decreases-loop
+loop-holds : tie.Need-loop-i-init invariant-loop decreases-loop
 unfolding flat
 loop-holds c = (omega arith, refl, refl)
 
-put-row-requires : tie.Need-put-row-requires invariant-loop decreases-loop
+put-row-requires : tie.Need-put_row-requires invariant-loop decreases-loop
 put-row-requires c κs = (search rules, ((search rules, search rules), c.before.before.before.before.before.requires.1))
 
-loop-again : tie.Need-loop-preserved invariant-loop decreases-loop
+loop-again : tie.Need-loop-i-preserved invariant-loop decreases-loop
 loop-again c =
     let p = c.before.before in
     let t = p.before.before.before.before in
-    let l = t.loop in
+    let l = t.loop-i in
     let a = t.before.before.args in
-    let m = made a.sets.now a.t3 in
+    let m = made a.sets.now a.seats in
     let z : l.i + 1 - 1 ≡ l.i = omega arith in (
       omega arith,
       omega arith,
-      put-row_part row_bytes row_section.size row-length a.out.now l.out p.put-row.new.0 m no_program l.i
-          (omega (arith, made_size a.sets.now a.t3)) l.invariant.2
-          (rw (made_in a.sets.now a.t3 l.i (search rules)) (rw z at p.put-row.ensures)),
+      put-row_part row_bytes row_section.size row-length a.out.now l.out p.put_row.new.0 m no_program l.i
+          (omega (arith, made_size a.sets.now a.seats)) l.invariant.2
+          (rw (made_in a.sets.now a.seats l.i (search rules)) (rw z at p.put_row.ensures)),
     )
 
-same_length : tie.Need-same-length invariant-loop decreases-loop
-same_length c = c.before.loop.invariant.1
+same_length : tie.Need-shape_of-out invariant-loop decreases-loop
+same_length c = c.before.loop-i.invariant.1
 
 returns : tie.Need-returns invariant-loop decreases-loop
 returns c =
     let a = c.before.before.before.args in
-    let e : c.before.loop.i ≡ 32 = omega arith in
-    let n = made_size a.sets.now a.t3 in
-    let m = made a.sets.now a.t3 in
-    (rw e at c.before.loop.invariant.2) ∙ rw (take_all 32 m (omega (arith, n)), flat_map row_section.write row_of m)
+    let e : c.before.loop-i.i ≡ 32 = omega arith in
+    let n = made_size a.sets.now a.seats in
+    let m = made a.sets.now a.seats in
+    (rw e at c.before.loop-i.invariant.2) ∙ rw (take_all 32 m (omega (arith, n)), flat_map row_section.write row_of m)
 
-pub put-rows-spec : {M : Type 1} → statement M
-put-rows-spec =
+pub put_rows_spec : {M : Type 1} → statement M
+put_rows_spec =
     tie.close
     (tie.spec
     invariant-loop

@@ -7,10 +7,10 @@ returns : tie.Need-returns
 returns c =
     let p = c.before.before in
     let b = p.before.before.before in
-    rw (b.set-bytes.ensures, b.before.set_at.ensures) at p.put-at.ensures
+    rw (b.set_bytes-bytes.ensures, b.before.set_at-s.ensures) at p.put_at.ensures
 
-pub put-set-spec : {M : Type 1} → statement M
-put-set-spec =
+pub put_set_spec : {M : Type 1} → statement M
+put_set_spec =
     tie.close
     (tie.spec
     (λ c κs. search rules)

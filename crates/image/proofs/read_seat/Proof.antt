@@ -9,11 +9,11 @@ returns c =
     let a = c.before.before.before in
     let u = a.before.before.before in
     let s = u.before.before.before.before.before.before.before in
-    seat-read s.args.s.now s.args.x.now u.read-item.result a.read-item2.result s.requires.1
-    u.read-item.ensures a.read-item2.ensures _ _ _ c.before.before.standing-of.ensures c.before.file-of.ensures c.item_of.ensures
+    seat-read s.args.s.now s.args.x.now u.read_item-u.result a.read_item-a.result s.requires.1
+    u.read_item-u.ensures a.read_item-a.ensures _ _ _ c.before.before.standing_of-standing.ensures c.before.file_of-file.ensures c.item_of-item.ensures
 
-pub read-seat-spec : {M : Type 1} → statement M
-read-seat-spec =
+pub read_seat_spec : {M : Type 1} → statement M
+read_seat_spec =
     tie.close
     (tie.spec
     (λ c. search rules)

@@ -14,10 +14,10 @@ returns c =
     let p₁ = p₂.before.before.before in
     let s = p₁.before.before.before.before in
     ap {B = FileSet} (λ (x : ℕ). record { bits = x })
-    (word_eight s.args.s.now _ _ _ _ s.requires p₁.pair.ensures.0 p₂.pair2.ensures.0 p₃.pair3.ensures.0 c.pair4.ensures.0)
+    (word_eight s.args.s.now _ _ _ _ s.requires p₁.pair-a.ensures.0 p₂.pair-b.ensures.0 p₃.pair-c.ensures.0 c.pair-d.ensures.0)
 
-pub read-set-spec : {M : Type 1} → statement M
-read-set-spec =
+pub read_set_spec : {M : Type 1} → statement M
+read_set_spec =
     tie.close
     (tie.spec
     (λ c. search rules)

@@ -10,11 +10,11 @@ returns c =
     let a = c.before.before.before in
     let u = a.before.before.before in
     let s = u.before.before.before.before.before in
-    c.seat-fits.ensures ∙ seat-tested s.args.s.now s.args.x.now u.read-item.result a.read-item2.result s.requires.1
-    u.read-item.ensures a.read-item2.ensures
+    c.seat_fits.ensures ∙ seat-tested s.args.s.now s.args.x.now u.read_item-u.result a.read_item-a.result s.requires.1
+    u.read_item-u.ensures a.read_item-a.ensures
 
-pub row-fits-spec : {M : Type 1} → statement M
-row-fits-spec =
+pub row_fits_spec : {M : Type 1} → statement M
+row_fits_spec =
     tie.close
     (tie.spec
     (λ c. search rules)

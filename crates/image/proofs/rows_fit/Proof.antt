@@ -1,5 +1,4 @@
 -- `rows_fit` meets its contract. Assumes nothing.
-use borrow.Author.Tests.{not_true, not-false}
 use mathlib.Core.Path.{◌≡◌, refl, sym, ◌∙◌}
 use mathlib.Core.Bool.{true}
 use Prim.Native.Nat.{◌-◌, ◌≤◌}
@@ -15,50 +14,50 @@ use borrow.Author.Rules.{rules}
 use Rattle.image.proofs.rows_fit.Statement.{statement}
 use Rattle.image.proofs.rows_fit.Tie as tie
 
-abbrev invariant-loop : tie.invariant-loop
+abbrev invariant-loop : tie.invariant-loop-i
 invariant-loop s i₀ i = (i ≤ 32) × (agreeMany row_section inquiry_section rows_agree i s (inquiries_in s) ≡ true)
 
-abbrev decreases-loop : tie.decreases-loop
+abbrev decreases-loop : tie.decreases-loop-i
 decreases-loop s i₀ i = 32 - i
 
-loop-holds : tie.Need-loop-init invariant-loop decreases-loop
+loop-holds : tie.Need-loop-i-init invariant-loop decreases-loop
 unfolding readMany agree
 loop-holds c = (omega arith, refl)
 
-row-fits-requires : tie.Need-row-fits-requires invariant-loop decreases-loop
+row-fits-requires : tie.Need-row_fits-requires invariant-loop decreases-loop
 row-fits-requires c κs =
     (simp (add-sub_cancel_left, length-take, length-drop) (omega arith), simp (add-sub_cancel_left, length-take, length-drop) (omega arith))
 
 -- what the test of a program's rows says
-tested : (c : tie.After-row-fits invariant-loop decreases-loop)
+tested : (c : tie.After-row_fits invariant-loop decreases-loop)
     → agreeAt row_section inquiry_section rows_agree c.before.before.before.before.loop.i c.before.before.before.before.before.before.args.s.now
     (inquiries_in c.before.before.before.before.before.before.args.s.now) ≡ c.row-fits.result
 tested c =
-    let s = c.before.before.before.before.before.before.args.s.now in let i = c.before.before.before.before.loop.i in
-    rw (← row-part row_section s i, ← row-after-part inquiry_section s front_section.size i) (sym c.row-fits.ensures)
+    let s = c.before.before.before.before.before.before.args.s.now in let i = c.before.before.before.before.loop-i.i in
+    rw (← row-part row_section s i, ← row-after-part inquiry_section s front_section.size i) (sym c.row_fits.ensures)
 
-returns : tie.Need-returns invariant-loop decreases-loop
+returns : tie.Need-returns-then-not-row_fits invariant-loop decreases-loop
 returns c =
-    let l = c.before.before.before.before.before.loop in
+    let l = c.before.before.before.before.before.loop-i in
     let s = c.before.before.before.before.before.before.before.args.s.now in
-    sym (fits_is s ∙ agree-fail row_section inquiry_section rows_agree l.i 32 s (inquiries_in s) (tested c.before ∙ not_true _ c.if1.true) (omega arith))
+    sym (fits_is s ∙ agree-fail row_section inquiry_section rows_agree l.i 32 s (inquiries_in s) (tested c.before ∙ c.if-not-row_fits.true) (omega arith))
 
-loop-again : tie.Need-loop-preserved invariant-loop decreases-loop
+loop-again : tie.Need-loop-i-preserved invariant-loop decreases-loop
 loop-again c =
-    let l = c.before.before.before.before.before.loop in
+    let l = c.before.before.before.before.before.loop-i in
     let s = c.before.before.before.before.before.before.before.args.s.now in (
       omega arith,
       rw (add-one l.i)
-          (agree-more row_section inquiry_section rows_agree l.i s (inquiries_in s) l.invariant.1 (tested c.before ∙ not-false _ c.if1.false)),
+          (agree-more row_section inquiry_section rows_agree l.i s (inquiries_in s) l.invariant.1 (tested c.before ∙ c.if-not-row_fits.false)),
     )
 
-returns-2 : tie.Need-returns-2 invariant-loop decreases-loop
+returns-2 : tie.Need-returns invariant-loop decreases-loop
 returns-2 c =
-    let e : c.before.loop.i ≡ 32 = omega arith in
-    sym (fits_is c.before.before.before.args.s.now ∙ (rw e at c.before.loop.invariant.1))
+    let e : c.before.loop-i.i ≡ 32 = omega arith in
+    sym (fits_is c.before.before.before.args.s.now ∙ (rw e at c.before.loop-i.invariant.1))
 
-pub rows-fit-spec : {M : Type 1} → statement M
-rows-fit-spec =
+pub rows_fit_spec : {M : Type 1} → statement M
+rows_fit_spec =
     tie.close
     (tie.spec
     invariant-loop

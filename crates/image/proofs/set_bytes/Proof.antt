@@ -9,8 +9,8 @@ returns : tie.Need-returns
 unfolding bytes_n
 returns c = refl
 
-pub set-bytes-spec : {M : Type 1} → statement M
-set-bytes-spec =
+pub set_bytes_spec : {M : Type 1} → statement M
+set_bytes_spec =
     tie.close
     (tie.spec (λ c. search rules) (λ c. search rules) (λ c. search rules) (λ c. search rules) (λ c. search rules)
     (λ c. search rules) (λ c. search rules) (λ c. search rules) returns)

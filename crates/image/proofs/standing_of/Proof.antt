@@ -4,21 +4,21 @@ use borrow.Author.Tests.{eq-eqb, ne_eqb}
 use Rattle.image.proofs.standing_of.Statement.{statement}
 use Rattle.image.proofs.standing_of.Tie as tie
 
-returns : tie.Need-returns
+returns : tie.Need-returns-then-k-eq0
 unfolding standing_of
-returns c = simp (eq-eqb _ _ c.if1.true)
+returns c = simp (eq-eqb _ _ c.if-k-eq0.true)
 
-returns-2 : tie.Need-returns-2
+returns-2 : tie.Need-returns-then-k-eq1
 unfolding standing_of
-returns-2 c = simp (ne_eqb _ _ c.before.if1.false, eq-eqb _ _ c.if2.true)
+returns-2 c = simp (ne_eqb _ _ c.before.if-k-eq0.false, eq-eqb _ _ c.if-k-eq1.true)
 
-returns-3 : tie.Need-returns-3
+returns-3 : tie.Need-returns-then-k-eq2
 unfolding standing_of
-returns-3 c = simp (ne_eqb _ _ c.before.before.if1.false, ne_eqb _ _ c.before.if2.false, eq-eqb _ _ c.if3.true)
+returns-3 c = simp (ne_eqb _ _ c.before.before.if-k-eq0.false, ne_eqb _ _ c.before.if-k-eq1.false, eq-eqb _ _ c.if-k-eq2.true)
 
-returns-4 : tie.Need-returns-4
+returns-4 : tie.Need-returns
 unfolding standing_of
-returns-4 c = simp (ne_eqb _ _ c.before.before.if1.false, ne_eqb _ _ c.before.if2.false, ne_eqb _ _ c.if3.false)
+returns-4 c = simp (ne_eqb _ _ c.before.before.if-k-eq0.false, ne_eqb _ _ c.before.if-k-eq1.false, ne_eqb _ _ c.if-k-eq2.false)
 
-pub standing-of-spec : {M : Type 1} → statement M
-standing-of-spec = tie.close (tie.spec returns returns-2 returns-3 returns-4)
+pub standing_of_spec : {M : Type 1} → statement M
+standing_of_spec = tie.close (tie.spec returns returns-2 returns-3 returns-4)

@@ -245,9 +245,9 @@ line-call-in-meets {𝓤 = 𝓤} 𝓛 at_mem run 𝓣 known =
     (WpFn 𝓤 𝓛.H 𝓣.C 𝓣.Λ code.function) (WpFn-mono 𝓤 𝓛.H 𝓛.laws 𝓣 code.function)
     (line-call-in-walks 𝓛 at_mem run 𝓣.C 𝓣.Λ (fm_of 𝓤 𝓛.H 𝓛.laws 𝓣) known)
 
-pub line-call-in-spec : {M : Type 1} → stated.statement M
+pub line_call_in_spec : {M : Type 1} → stated.statement M
 unfolding code.routine tables_of
-line-call-in-spec 𝓤 𝓛 𝓜 𝓡 =
+line_call_in_spec 𝓤 𝓛 𝓜 𝓡 =
     entered 𝓤 𝓛.H (triple_of 𝓛 call-in.signature (call-in.spec 𝓛 𝓜.mem 𝓡.run))
     (tables 𝓤 𝓛.H 𝓜 𝓡 code.env).C (tables 𝓤 𝓛.H 𝓜 𝓡 code.env).Λ #inplace·line-call-in code.function (code.unfolded 𝓤 𝓛.H 𝓜 𝓡)
     (line-call-in-meets 𝓛 𝓜.mem 𝓡.run (tables_of 𝓤 𝓛.H 𝓜 (tables 𝓤 𝓛.H 𝓜 𝓡 code.env))

@@ -11,22 +11,22 @@ use Rattle.journal.proofs.put_line.Statement.{statement}
 use Rattle.journal.proofs.put_line.Tie as tie
 
 -- where the third number is written, the second, the first, the word, and where its columns are known
-abbrev third : tie.After-put-number4 → tie.After-put-number3
+abbrev third : tie.After-put_number-4 → tie.After-put_number-3
 third n = n.before.before.before.before.before
 
-abbrev second : tie.After-put-number3 → tie.After-put-number2
+abbrev second : tie.After-put_number-3 → tie.After-put_number-2
 second n = n.before.before.before.before.before
 
-abbrev first : tie.After-put-number2 → tie.After-put-number
+abbrev first : tie.After-put_number-2 → tie.After-put_number
 first n = n.before.before.before.before.before
 
-abbrev copied : tie.After-put-number → tie.After-copy
+abbrev copied : tie.After-put_number → tie.After-copy
 copied n = n.before.before.before.before.before
 
-abbrev worded : tie.After-copy → tie.After-word-bytes
+abbrev worded : tie.After-copy → tie.After-word_bytes-w
 worded k = k.before.before.before
 
-abbrev start : tie.After-put-number4 → tie.Start
+abbrev start : tie.After-put_number-4 → tie.Start
 start n = (worded (copied (first (second (third n))))).before.before
 
 returns : tie.Need-returns
@@ -39,27 +39,27 @@ returns c =
     let w = worded k in
     let a = (start n₄).args in
     line-put a.l a.part.now _ _ _ _ _ (start n₄).requires
-    (copied_front word_width (word_columns a.l.word) w.word_bytes.result a.part.now _
-    w.word_bytes.ensures (word_length a.l.word) k.copy.ensures.1)
-    n₁.put-number.ensures n₂.put-number2.ensures n₃.put-number3.ensures n₄.put-number4.ensures
+    (copied_front word_width (word_columns a.l.word) w.word_bytes-w.result a.part.now _
+    w.word_bytes-w.ensures (word_length a.l.word) k.copy.ensures.1)
+    n₁.put_number.ensures n₂.put_number-2.ensures n₃.put_number-3.ensures n₄.put_number-4.ensures
 
-end-there : tie.Need-slice-write-part
+end-there : tie.Need-bounds-part-20
 end-there c =
     let n₄ = c.before.before in
     let n₃ = third n₄ in
     let n₂ = second n₃ in
     let n₁ = first n₂ in
-    end_in (start n₄).args.part.now (copied n₁).copy.last.1.0 n₁.put-number.last.0 n₂.put-number2.last.0
-    n₃.put-number3.last.0 n₄.put-number4.new.0 (copied n₁).copy.kept.1.0 n₁.put-number.kept.0 n₂.put-number2.kept.0
-    n₃.put-number3.kept.0 n₄.put-number4.auto.0 (start n₄).requires
+    end_in (start n₄).args.part.now (copied n₁).copy.last.1.0 n₁.put_number.last.0 n₂.put_number-2.last.0
+    n₃.put_number-3.last.0 n₄.put_number-4.new.0 (copied n₁).copy.kept.1.0 n₁.put_number.kept.0 n₂.put_number-2.kept.0
+    n₃.put_number-3.kept.0 n₄.put_number-4.auto.0 (start n₄).requires
 
-same_length : tie.Need-same-length
+same_length : tie.Need-shape_of-part
 same_length c = let s = start c.before.before in let a = s.args in
     ap length (returns c) ∙ length_front a.part.now (line_bytes a.l) journal_line
-    (line-length a.l ∙ sym (length-take-le journal_line a.part.now s.pre))
+    (line-length a.l ∙ sym (length-take-le journal_line a.part.now s.requires))
 
-pub put-line-spec : {M : Type 1} → statement M
-put-line-spec =
+pub put_line_spec : {M : Type 1} → statement M
+put_line_spec =
     tie.close
     (tie.spec
     (λ c κs. search rules)

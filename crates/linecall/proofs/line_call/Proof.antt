@@ -1,6 +1,5 @@
 -- `line_call` meets its contract. Assumes nothing.
 use mathlib.Core.Path.{◌≡◌, refl, ap, sym, ◌∙◌}
-use borrow.Author.Tests.{not_true, not-false}
 use Rattle.rules.specs.declared.Board.{Board}
 use Rattle.rules.specs.declared.Reply.{Reply}
 use Rattle.rules.specs.Orders.{carried}
@@ -17,75 +16,75 @@ use borrow.Author.Rules.{rules}
 use Rattle.linecall.proofs.line_call.Statement.{statement}
 use Rattle.linecall.proofs.line_call.Tie as tie
 
-take-requires : tie.Need-take-requires
+take-requires : tie.Need-take-rest-requires
 take-requires c κs = fresh_store
 
-judge-requires : tie.Need-judge-requires
-judge-requires c κs = c.before.take.ensures.0.0
+judge-requires : tie.Need-judge-j-requires
+judge-requires c κs = c.before.take-rest.ensures.0.0
 
-abbrev begin : tie.After-judge → tie.Start
+abbrev begin : tie.After-judge-j → tie.Start
 begin j = j.before.before.before.before.before.before
 
 -- the board by its sets and the rest
-abbrev board : tie.After-judge → Board
-board j = let t = j.before.before.take in board_of t.new.1.0 t.result
+abbrev board : tie.After-judge-j → Board
+board j = let t = j.before.before.take-rest in board_of t.new.1.0 t.result
 
-same-board : (j : tie.After-judge) → board j ≡ (begin j).args.b
-same-board j = j.before.before.take.ensures.1
+same-board : (j : tie.After-judge-j) → board j ≡ (begin j).args.b
+same-board j = j.before.before.take-rest.ensures.1
 
 -- what the line call gives
 abbrev outcome : Board → tie.Start → Outcome
 outcome b s = let a = s.args in line_call b a.line.now a.journal.now a.place
 
 -- where the line call is known
-abbrev judged : tie.After-line → tie.After-judge
+abbrev judged : tie.After-line-s → tie.After-judge-j
 judged l = l.before.before.before.before.before.before
 
-returns : tie.Need-returns
+returns : tie.Need-returns-then-not-j
 returns c = let i = c.before in let j = i.before.before in let a = (begin j).args in
     let e = call_unsound a.b a.line.now a.journal.now a.place
-    (sym (j.judge.ensures.0 ∙ ap sound (same-board j)) ∙ not_true j.judge.result.sound i.if1.true) in (
-      rw e c.refused-unsound.ensures,
+    (sym (j.judge-j.ensures.0 ∙ ap sound (same-board j)) ∙ i.if-not-j.true) in (
+      rw e c.refused_unsound-reply.ensures,
       (
         rw e,
         (
           rw e,
-          unsound_carries a.b (request_call (request_of a.line.now)) c.refused-unsound.result
-              c.refused-unsound.ensures,
+          unsound_carries a.b (request_call (request_of a.line.now)) c.refused_unsound-reply.result
+              c.refused_unsound-reply.ensures,
         ),
       ),
     )
 
-line-requires : tie.Need-line-requires
+line-requires : tie.Need-line-s-requires
 line-requires c κs = let i = c.before.before.before in let j = i.before.before in
-    (sym j.judge.ensures.0 ∙ not-false j.judge.result.sound i.if1.false, j.before.before.take.ensures.0.0, refl)
+    (sym j.judge-j.ensures.0 ∙ i.if-not-j.false, j.before.before.take-rest.ensures.0.0, refl)
 
-complete-requires : tie.Need-complete-requires
-complete-requires c κs = let l = c.before.before.before.before.before in let j = judged l in let a = (begin j).args in let k = l.line.ensures in (
-  λ h. let n = sym (ap (λ (x : Reply). refused x.answer) k.0) ∙ h in
-      j.judge.ensures.1 ∙ sym (ap (λ (x : Board). as_order (carried x)) (ap (λ (x : Reply). x.board) k.0
+complete-requires : tie.Need-complete-reply-requires
+complete-requires c κs = let l = c.before.before.before.before.before in let j = judged l in let a = (begin j).args in let k = l.before.line-s.ensures in (
+  λ h. let n = sym (ap (λ (x : Reply). refused x.answer) k.comes_to) ∙ h in
+      j.judge-j.ensures.1 ∙ sym (ap (λ (x : Board). as_order (carried x)) (ap (λ (x : Reply). x.board) k.comes_to
       ∙ refused-same (board j) a.line.now a.journal.now a.place n)),
-  k.1.1.1.0,
-  k.1.1.1.1,
-  k.1.1.1.2,
+  k.place_value.1.1.0,
+  k.place_value.1.1.1,
+  k.place_value.1.1.2,
 )
 
-returns-2 : tie.Need-returns-2
-returns-2 c = let f = c.before in let l = f.before.before.before.before.before.before in let k = l.line.ensures in let j = judged l in
+returns-2 : tie.Need-returns
+returns-2 c = let f = c.before in let l = f.before.before.before.before.before.before in let k = l.before.line-s.ensures in let j = judged l in
     let s = begin j in let a = s.args in let e = same-board j in
-    let q = f.complete.ensures ∙ k.0 ∙ ap (λ (x : Board). (outcome x s).reply) e in (
+    let q = f.complete-reply.ensures ∙ k.comes_to ∙ ap (λ (x : Board). (outcome x s).reply) e in (
       q,
       (
-        k.1.0 ∙ ap (λ (x : Board). (outcome x s).place) e,
+        k.place_value.0 ∙ ap (λ (x : Board). (outcome x s).place) e,
         (
-          k.1.1.0 ∙ ap (λ (x : Board). (outcome x s).journal) e,
-          line_carries a.b a.line.now a.journal.now a.place f.complete.result c.loop-of.result q c.loop-of.ensures,
+          k.place_value.1.0 ∙ ap (λ (x : Board). (outcome x s).journal) e,
+          line_carries a.b a.line.now a.journal.now a.place f.complete-reply.result c.loop_of-carries.result q c.loop_of-carries.ensures,
         ),
       ),
     )
 
-pub line-call-spec : {M : Type 1} → statement M
-line-call-spec =
+pub line_call_spec : {M : Type 1} → statement M
+line_call_spec =
     tie.close
     (tie.spec
     take-requires

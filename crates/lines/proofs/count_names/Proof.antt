@@ -11,36 +11,36 @@ use Rattle.lines.proofs.Laws.{names-on, names-stop, names-end}
 use Rattle.lines.proofs.count_names.Statement.{statement}
 use Rattle.lines.proofs.count_names.Tie as tie
 
-abbrev invariant-loop : tie.invariant-loop
+abbrev invariant-loop : tie.invariant-loop-k
 invariant-loop line k₀ k = (k ≤ 32) × (k + length (names (drop k line)) ≡ length (names line))
 
-abbrev decreases-loop : tie.decreases-loop
+abbrev decreases-loop : tie.decreases-loop-k
 decreases-loop line k₀ k = 32 - k
 
-loop-holds : tie.Need-loop-init invariant-loop decreases-loop
-loop-holds c = (search rules, zero-add (length (names c.args.t1)))
+loop-holds : tie.Need-loop-k-init invariant-loop decreases-loop
+loop-holds c = (search rules, zero-add (length (names c.args.line)))
 
-returns : tie.Need-returns invariant-loop decreases-loop
-returns c = let l = c.before.before.loop in let a = c.before.before.before.args.t1 in
+returns : tie.Need-returns-then-line-k-eq0 invariant-loop decreases-loop
+returns c = let l = c.before.before.loop-k in let a = c.before.before.before.args.line in
     let m : length a ≡ 32 = search rules in
-    let e : length (names (drop l.k a)) ≡ 0 = ap length (names-stop a l.k (omega arith) c.if1.true) in
+    let e : length (names (drop l.k a)) ≡ 0 = ap length (names-stop a l.k (omega arith) c.if-line-k-eq0.true) in
     (omega (arith, e, l.invariant.1), search rules)
 
-loop-again : tie.Need-loop-preserved invariant-loop decreases-loop
-loop-again c = let l = c.before.before.loop in let a = c.before.before.before.args.t1 in
+loop-again : tie.Need-loop-k-preserved invariant-loop decreases-loop
+loop-again c = let l = c.before.before.loop-k in let a = c.before.before.before.args.line in
     let m : length a ≡ 32 = search rules in
     let e : length (names (drop l.k a)) ≡ suc (length (names (drop (suc l.k) a))) =
-    ap length (names-on a l.k (omega arith) c.if1.false) in
+    ap length (names-on a l.k (omega arith) c.if-line-k-eq0.false) in
     (search rules, rw (add-one l.k) (omega (arith, e, l.invariant.1)))
 
-returns-2 : tie.Need-returns-2 invariant-loop decreases-loop
-returns-2 c = let l = c.before.loop in let a = c.before.before.args.t1 in
+returns-2 : tie.Need-returns invariant-loop decreases-loop
+returns-2 c = let l = c.before.loop-k in let a = c.before.before.args.line in
     let m : length a ≡ 32 = search rules in
     let e : length (names (drop l.k a)) ≡ 0 = ap length (names-end a l.k (omega arith)) in
     (omega (arith, e, l.invariant.1), search rules)
 
-pub count-names-spec : {M : Type 1} → statement M
-count-names-spec =
+pub count_names_spec : {M : Type 1} → statement M
+count_names_spec =
     tie.close
     (tie.spec
     invariant-loop

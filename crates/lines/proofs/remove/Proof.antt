@@ -12,37 +12,37 @@ use Rattle.lines.proofs.Laws.{names-stop, names-end, keep-on, kept-stop}
 use Rattle.lines.proofs.remove.Statement.{statement}
 use Rattle.lines.proofs.remove.Tie as tie
 
-abbrev invariant-loop : tie.invariant-loop
+abbrev invariant-loop : tie.invariant-loop-k
 invariant-loop p line kept₀ k₀ kept k = (k ≤ 32) × (kept.count ≤ k) × (keep_others p (kept_as []) (names line) ≡ keep_others p kept (names (drop k line)))
 
-abbrev decreases-loop : tie.decreases-loop
+abbrev decreases-loop : tie.decreases-loop-k
 decreases-loop p line kept₀ k₀ kept k = 32 - k
 
-loop-holds : tie.Need-loop-init invariant-loop decreases-loop
+loop-holds : tie.Need-loop-k-init invariant-loop decreases-loop
 unfolding padded
 loop-holds c = (search rules, search rules, refl)
 
-returns : tie.Need-returns invariant-loop decreases-loop
-returns c = let l = c.before.before.before.loop in let s = c.before.before.before.before.args in
-    let m : length s.t1 ≡ 32 = search rules in
-    kept-stop s.p l.auto s.t1 l.k m l.invariant.2 (names-stop s.t1 l.k (omega arith) c.before.if1.true)
+returns : tie.Need-returns-then-x-eq0 invariant-loop decreases-loop
+returns c = let l = c.before.before.before.loop-k in let s = c.before.before.before.before.args in
+    let m : length s.line ≡ 32 = search rules in
+    kept-stop s.p l.kept s.line l.k m l.invariant.2 (names-stop s.line l.k (omega arith) c.before.if-x-eq0.true)
 
-loop-again : tie.Need-loop-preserved invariant-loop decreases-loop
-loop-again c = let l = c.before.before.before.loop in let s = c.before.before.before.before.args in
-    let m : length s.t1 ≡ 32 = search rules in (
+loop-again : tie.Need-loop-k-preserved invariant-loop decreases-loop
+loop-again c = let l = c.before.before.before.loop-k in let s = c.before.before.before.before.args in
+    let m : length s.line ≡ 32 = search rules in (
       search rules,
-      omega (arith, c.keep-other.ensures.1, l.invariant.1),
-      rw (add-one l.k, c.keep-other.ensures.0)
-          (l.invariant.2 ∙ keep-on s.p l.auto s.t1 l.k (omega arith) c.before.if1.false),
+      omega (arith, c.keep_other-kept.ensures.1, l.invariant.1),
+      rw (add-one l.k, c.keep_other-kept.ensures.0)
+          (l.invariant.2 ∙ keep-on s.p l.kept s.line l.k (omega arith) c.before.if-x-eq0.false),
     )
 
-returns-2 : tie.Need-returns-2 invariant-loop decreases-loop
-returns-2 c = let l = c.before.before.loop in let s = c.before.before.before.args in
-    let m : length s.t1 ≡ 32 = search rules in
-    kept-stop s.p l.auto s.t1 l.k m l.invariant.2 (names-end s.t1 l.k (omega arith))
+returns-2 : tie.Need-returns invariant-loop decreases-loop
+returns-2 c = let l = c.before.before.loop-k in let s = c.before.before.before.args in
+    let m : length s.line ≡ 32 = search rules in
+    kept-stop s.p l.kept s.line l.k m l.invariant.2 (names-end s.line l.k (omega arith))
 
-pub remove-spec : {M : Type 1} → statement M
-remove-spec =
+pub remove_spec : {M : Type 1} → statement M
+remove_spec =
     tie.close
     (tie.spec
     invariant-loop

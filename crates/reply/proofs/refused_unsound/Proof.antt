@@ -9,5 +9,5 @@ returns : tie.Need-returns
 unfolding refuse_unsound padded
 returns c = refl
 
-pub refused-unsound-spec : {M : Type 1} → statement M
-refused-unsound-spec = tie.close (tie.spec returns)
+pub refused_unsound_spec : {M : Type 1} → statement M
+refused_unsound_spec = tie.close (tie.spec returns)

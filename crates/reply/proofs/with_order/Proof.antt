@@ -9,20 +9,20 @@ use borrow.Author.Rules.{rules}
 use Rattle.reply.proofs.with_order.Statement.{statement}
 use Rattle.reply.proofs.with_order.Tie as tie
 
-returns : tie.Need-returns
-returns c = let s = c.before.before in let a = s.args in
-    replied-stuck _ a.answer (order-none (carried a.b) a.order s.requires c.enum_told.given.1)
+returns : tie.Need-returns-in_default
+returns c = let s = c.before in let a = s.args in
+    replied-stuck _ a.answer (order-none (carried a.b) a.order s.requires c.in_default.is)
 
-cast-t10 : tie.Need-overflow-cast-t10
-cast-t10 c = let k = c.before.before.kind in let s = c.before.before.before.before in let a = s.args in
+cast-t10 : tie.Need-overflow_cast-result
+cast-t10 c = let k = c.before.kind in let s = c.before.before in let a = s.args in
     let m : length a.order.at ≡ 32 = search rules in
     let h = order_short (carried a.b) a.order k.given.0.0 s.requires k.given.1 m in omega (arith, h)
 
-returns-2 : tie.Need-returns-2
-returns-2 c = let k = c.before.before.kind in let s = c.before.before.before.before in let a = s.args in
+returns-2 : tie.Need-returns
+returns-2 c = let k = c.before.kind in let s = c.before.before in let a = s.args in
     replied-found _ a.answer a.order.at k.given.0.0
     (order-at (carried a.b) a.order k.given.0.0 s.requires k.given.1)
     (order_count (carried a.b) a.order k.given.0.0 s.requires k.given.1)
 
-pub with-order-spec : {M : Type 1} → statement M
-with-order-spec = tie.close (tie.spec (λ c. search rules) (λ c. search rules) returns cast-t10 returns-2)
+pub with_order_spec : {M : Type 1} → statement M
+with_order_spec = tie.close (tie.spec (λ c. search rules) (λ c. search rules) returns cast-t10 returns-2)

@@ -9,36 +9,36 @@ use borrow.Author.Rules.{rules}
 use Rattle.request.proofs.join.Statement.{statement}
 use Rattle.request.proofs.join.Tie as tie
 
-returns : tie.Need-returns
+returns : tie.Need-returns-in_default
 returns c =
-    let a = c.before.before.before.before.before.args in
-    ap (joined a.g) (sym c.enum_told.given.1 ∙ c.before.before.read_number.ensures)
+    let a = c.before.before.before.before.args in
+    ap (joined a.g) (sym c.in_default.is ∙ c.before.read_number-field.ensures)
 
-cast_f : tie.Need-overflow-cast-f
+cast_f : tie.Need-overflow_cast-f
 cast_f c =
-    let h = Laws.at_most file_width 1 64 _ _ _ c.before.before.before.read_number.ensures c.before.field.given.1 in
+    let h = Laws.at_most file_width 1 64 _ _ _ c.before.read_number-field.ensures c.in-Number.is in
     search rules
 
 -- where the field's number is known
-abbrev numbered : tie.After-with → tie.After-field
-numbered w = w.before.before
+abbrev numbered : tie.After-with-files → tie.In-Number
+numbered w = w.before
 
-abbrev read : tie.After-field → tie.After-read-number
-read f = f.before.before
+abbrev read : tie.In-Number → tie.After-read_number-field
+read f = f.before
 
-number_is : (f : tie.After-field) → file_in (read f).before.before.before.args.part.now ≡ Field.Number f.field.given.0.0
-number_is f = sym (read f).read_number.ensures ∙ f.field.given.1
+number_is : (f : tie.In-Number) → file_in (read f).before.before.before.args.part.now ≡ Field.Number f.in-Number.f
+number_is f = sym (read f).read_number-field.ensures ∙ f.in-Number.is
 
-returns-2 : tie.Need-returns-2
+returns-2 : tie.Need-returns-then-g-f
 returns-2 c = let w = c.before.before in let f = numbered w in
-    Laws.join-rises (read f).before.before.before.args.g _ _ w.with.result (number_is f) w.with.ensures c.if1.true
+    Laws.join-rises (read f).before.before.before.args.g _ _ w.with-files.result (number_is f) w.with-files.ensures c.if-g-f.true
 
-returns-3 : tie.Need-returns-3
+returns-3 : tie.Need-returns
 returns-3 c = let w = c.before.before in let f = numbered w in
-    Laws.join-falls (read f).before.before.before.args.g _ _ w.with.result (number_is f) w.with.ensures c.if1.false
+    Laws.join-falls (read f).before.before.before.args.g _ _ w.with-files.result (number_is f) w.with-files.ensures c.if-g-f.false
 
-pub join-spec : {M : Type 1} → statement M
-join-spec =
+pub join_spec : {M : Type 1} → statement M
+join_spec =
     tie.close
     (tie.spec
     (λ c κs. search rules)

@@ -7,23 +7,23 @@ use borrow.Author.Rules.{rules}
 use Rattle.request.proofs.label.Statement.{statement}
 use Rattle.request.proofs.label.Tie as tie
 
-part-result-end : tie.Need-slice-bounds-result-end
+part-result-end : tie.Need-slice_bounds-result-end
 part-result-end c =
-    let h = Laws.entry-long _ (ap is_entry (sym c.before.before.read.ensures) ∙ sym c.before.is-entry.ensures ∙ c.if1.true) in
+    let h = Laws.entry_long _ (ap is_entry (sym c.before.before.read-q.ensures) ∙ sym c.before.is_entry.ensures ∙ c.if-is_entry.true) in
     omega arith
 
-returns : tie.Need-returns
+returns : tie.Need-returns-then-is_entry
 unfolding label_of label_part
 returns c =
-    rw (← c.before.before.before.read.ensures, ← c.before.before.is-entry.ensures, c.before.if1.true)
+    rw (← c.before.before.before.read-q.ensures, ← c.before.before.is_entry.ensures, c.before.if-is_entry.true)
 
-returns-2 : tie.Need-returns-2
+returns-2 : tie.Need-returns
 unfolding label_of
 returns-2 c =
-    rw (← c.before.before.before.read.ensures, ← c.before.before.is-entry.ensures, c.before.if1.false)
+    rw (← c.before.before.before.read-q.ensures, ← c.before.before.is_entry.ensures, c.before.if-is_entry.false)
 
-pub label-spec : {M : Type 1} → statement M
-label-spec =
+pub label_spec : {M : Type 1} → statement M
+label_spec =
     tie.close
     (tie.spec
     (λ c κs. search rules)

@@ -5,13 +5,13 @@ use borrow.Author.Rules.{rules}
 use Rattle.request.proofs.read.Statement.{statement}
 use Rattle.request.proofs.read.Tie as tie
 
-returns : tie.Need-returns
-returns c = let m = c.before.before in let v = m.before.before in
-    c.read_as.ensures ∙ sym (read_with v.before.before.args.line.now _ (sym v.verb-of.ensures ∙ m.beginning.given.1))
+returns : tie.Need-returns-in-With
+returns c = let m = c.before in let v = m.before in
+    c.read_as.ensures ∙ sym (read_with v.before.before.args.line.now _ (sym v.verb_of-beginning.ensures ∙ m.in-With.is))
 
-returns-2 : tie.Need-returns-2
-returns-2 c = let v = c.before.before.before in
-    c.refusing.ensures ∙ sym (read_unknown v.before.before.args.line.now (sym v.verb-of.ensures ∙ c.before.enum_told.given.1))
+returns-2 : tie.Need-returns-in-Unknown
+returns-2 c = let v = c.before.before in
+    c.refusing.ensures ∙ sym (read_unknown v.before.before.args.line.now (sym v.verb_of-beginning.ensures ∙ c.before.in-Unknown.is))
 
 pub read_spec : {M : Type 1} → statement M
 read_spec =

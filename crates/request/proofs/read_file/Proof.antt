@@ -9,48 +9,48 @@ use Rattle.request.proofs.read_file.Statement.{statement}
 use Rattle.request.proofs.read_file.Tie as tie
 
 -- where the length is known
-abbrev sized : tie.After-read-program → tie.Else1
+abbrev sized : tie.After-read_program-first → tie.Else-line-ne-FILE_LEN
 sized n = n.before
 
-abbrev start : tie.After-read-program → tie.Start
+abbrev start : tie.After-read_program-first → tie.Start
 start n = (sized n).before.before
 
 -- where the program's number is known
-abbrev numbered : tie.After-read-number → tie.After-first
-numbered m = m.before.before.before
+abbrev numbered : tie.After-read_number-second → tie.In-Number
+numbered m = m.before.before
 
-abbrev read : tie.After-first → tie.After-read-program
-read f = f.before.before
+abbrev read : tie.In-Number → tie.After-read_program-first
+read f = f.before
 
-abbrev program : tie.After-first → ℕ
-program f = f.first.given.0.0
+abbrev program : tie.In-Number → ℕ
+program f = f.in-Number.p
 
-program-is : (f : tie.After-first) → program_field (start (read f)).args.line.now ≡ Field.Number (program f)
-program-is f = sym (read f).read-program.ensures ∙ f.first.given.1
+program-is : (f : tie.In-Number) → program_field (start (read f)).args.line.now ≡ Field.Number (program f)
+program-is f = sym (read f).read_program-first.ensures ∙ f.in-Number.is
 
-returns : tie.Need-returns
+returns : tie.Need-returns-then-line-ne-FILE_LEN
 returns c = let a = c.before.before.before.args in
-    c.refusing.ensures ∙ sym (Laws.file-length a.verb a.line.now c.before.if1.true)
+    c.refusing.ensures ∙ sym (Laws.file_length_lem a.verb a.line.now c.before.if-line-ne-FILE_LEN.true)
 
-returns-2 : tie.Need-returns-2
-returns-2 c = let n = c.before.before.before in let a = (start n).args in
-    c.refusing2.ensures ∙ sym (Laws.file-program a.verb a.line.now (sized n).if1.false
-    (sym n.read-program.ensures ∙ c.before.enum_told.given.1))
+returns-2 : tie.Need-returns-in_default
+returns-2 c = let n = c.before.before in let a = (start n).args in
+    c.refusing-in_default.ensures ∙ sym (Laws.file-program a.verb a.line.now (sized n).if-line-ne-FILE_LEN.false
+    (sym n.read_program-first.ensures ∙ c.before.in_default.is))
 
-returns-3 : tie.Need-returns-3
+returns-3 : tie.Need-returns-in_default-second
 unfolding file_field
-returns-3 c = let m = c.before.before.before in let f = numbered m in let n = read f in let a = (start n).args in
-    c.refusing3.ensures ∙ sym (Laws.file-file a.verb a.line.now (program f) (sized n).if1.left (program-is f)
-    (sym m.read_number.ensures ∙ c.before.enum-told2.given.1))
+returns-3 c = let m = c.before.before in let f = numbered m in let n = read f in let a = (start n).args in
+    c.refusing-in_default-second.ensures ∙ sym (Laws.file-file a.verb a.line.now (program f) (sized n).if-line-ne-FILE_LEN.false (program-is f)
+    (sym m.read_number-second.ensures ∙ c.before.in_default-second.is))
 
-returns-4 : tie.Need-returns-4
+returns-4 : tie.Need-returns
 unfolding file_field
-returns-4 c = let g = c.before.before in let m = g.before.before in let f = numbered m in let n = read f in let a = (start n).args in
-    c.taking.ensures ∙ sym (Laws.file-good a.verb a.line.now (program f) _ (sized n).if1.left (program-is f)
-    (sym m.read_number.ensures ∙ g.second.given.1))
+returns-4 c = let g = c.before in let m = g.before in let f = numbered m in let n = read f in let a = (start n).args in
+    c.taking.ensures ∙ sym (Laws.file-good a.verb a.line.now (program f) _ (sized n).if-line-ne-FILE_LEN.false (program-is f)
+    (sym m.read_number-second.ensures ∙ g.in-Number-second.is))
 
-pub read-file-spec : {M : Type 1} → statement M
-read-file-spec =
+pub read_file_spec : {M : Type 1} → statement M
+read_file_spec =
     tie.close
     (tie.spec
     (λ c κs. search rules)

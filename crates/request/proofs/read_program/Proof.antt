@@ -8,6 +8,6 @@ returns : tie.Need-returns
 unfolding program_field
 returns c = c.read_number.ensures
 
-pub read-program-spec : {M : Type 1} → statement M
-read-program-spec =
+pub read_program_spec : {M : Type 1} → statement M
+read_program_spec =
     tie.close (tie.spec (λ c. search rules) (λ c. search rules) (λ c. search rules) (λ c κs. search rules) returns)

@@ -3,8 +3,8 @@ use borrow.Author.Rules.{rules}
 use Rattle.request.proofs.row_of.Statement.{statement}
 use Rattle.request.proofs.row_of.Tie as tie
 
-pub row-of-spec : {M : Type 1} → statement M
-row-of-spec =
+pub row_of_spec : {M : Type 1} → statement M
+row_of_spec =
     tie.close
     (tie.spec
     (λ c. search rules)
@@ -15,11 +15,11 @@ row-of-spec =
     (λ c. search rules)
     (λ c. search rules)
     (λ c. search rules)
-    (λ c. rw c.enum_told.given.1)
-    (λ c. rw c.enum-told2.given.1)
-    (λ c. rw c.enum-told3.given.1)
-    (λ c. rw c.enum-told4.given.1)
-    (λ c. rw c.enum-told5.given.1)
-    (λ c. rw c.enum-told6.given.1)
-    (λ c. rw c.enum-told7.given.1)
-    (λ c. rw c.enum-told8.given.1))
+    (λ c. rw c.in-Enter.is)
+    (λ c. rw c.in-Open.is)
+    (λ c. rw c.in-Close.is)
+    (λ c. rw c.in-Drop.is)
+    (λ c. rw c.in-Leave.is)
+    (λ c. rw c.in-Cancel.is)
+    (λ c. rw c.in-Fetch.is)
+    (λ c. rw c.in-Return.is))

@@ -11,32 +11,32 @@ use Rattle.request.proofs.Laws.{verb-first, verb-later, verb-none}
 use Rattle.request.proofs.verb_of.Statement.{statement}
 use Rattle.request.proofs.verb_of.Tie as tie
 
-abbrev invariant-loop : tie.invariant-loop
+abbrev invariant-loop : tie.invariant-loop-i
 invariant-loop line i₀ i = (i ≤ length verbs) × (verb_of line ≡ first (λ v. begins v line) (drop i verbs))
 
-abbrev decreases-loop : tie.decreases-loop
+abbrev decreases-loop : tie.decreases-loop-i
 decreases-loop line i₀ i = length verbs - i
 
-loop-holds : tie.Need-loop-init invariant-loop decreases-loop
+loop-holds : tie.Need-loop-i-init invariant-loop decreases-loop
 unfolding verb_of
 loop-holds c = (omega arith, refl)
 
-returns : tie.Need-returns invariant-loop decreases-loop
-returns c = let v = c.before.before in let l = v.before.before.loop in
-    sym (ap begun (l.invariant.1 ∙ verb-first _ l.i v.verb-at.result (omega arith) v.verb-at.ensures
-    (sym c.before.is-verb.ensures ∙ c.if1.true)))
+returns : tie.Need-returns-then-is_verb invariant-loop decreases-loop
+returns c = let v = c.before.before in let l = v.before.before.loop-i in
+    sym (ap begun (l.invariant.1 ∙ verb-first _ l.i v.verb_at-v.result (omega arith) v.verb_at-v.ensures
+    (sym c.before.is_verb.ensures ∙ c.if-is_verb.true)))
 
-loop-again : tie.Need-loop-preserved invariant-loop decreases-loop
-loop-again c = let v = c.before.before in let l = v.before.before.loop in (
+loop-again : tie.Need-loop-i-preserved invariant-loop decreases-loop
+loop-again c = let v = c.before.before in let l = v.before.before.loop-i in (
   omega arith,
-  l.invariant.1 ∙ verb-later _ l.i v.verb-at.result (omega arith) v.verb-at.ensures (sym c.before.is-verb.ensures ∙ c.if1.false),
+  l.invariant.1 ∙ verb-later _ l.i v.verb_at-v.result (omega arith) v.verb_at-v.ensures (sym c.before.is_verb.ensures ∙ c.if-is_verb.false),
 )
 
-returns-2 : tie.Need-returns-2 invariant-loop decreases-loop
-returns-2 c = let l = c.before.loop in sym (ap begun (l.invariant.1 ∙ verb-none _ l.i (omega arith)))
+returns-2 : tie.Need-returns invariant-loop decreases-loop
+returns-2 c = let l = c.before.loop-i in sym (ap begun (l.invariant.1 ∙ verb-none _ l.i (omega arith)))
 
-pub verb-of-spec : {M : Type 1} → statement M
-verb-of-spec =
+pub verb_of_spec : {M : Type 1} → statement M
+verb_of_spec =
     tie.close
     (tie.spec
     invariant-loop

@@ -10,39 +10,39 @@ use borrow.Author.Rules.{rules}
 use Rattle.search.proofs.count_all.Statement.{statement}
 use Rattle.search.proofs.count_all.Tie as tie
 
-abbrev invariant-loop : tie.invariant-loop
+abbrev invariant-loop : tie.invariant-loop-rest
 invariant-loop rows left counts₀ rest₀ counts rest = CountedBut rows left rest counts
 
-abbrev decreases-loop : tie.decreases-loop
+abbrev decreases-loop : tie.decreases-loop-rest
 decreases-loop rows left counts₀ rest₀ counts rest = rest.bits
 
-loop-holds : tie.Need-loop-init invariant-loop decreases-loop
+loop-holds : tie.Need-loop-rest-init invariant-loop decreases-loop
 loop-holds c = counting-start c.args.rows.now c.args.left c.args.counts.now c.requires
 
-lowest-requires : tie.Need-lowest-requires invariant-loop decreases-loop
-lowest-requires c κs = c.if1.true
+lowest-requires : tie.Need-lowest-p-requires invariant-loop decreases-loop
+lowest-requires c κs = c.loop-rest-test.true
 
 raise-requires : tie.Need-raise-requires invariant-loop decreases-loop
-raise-requires c κs = let s = c.before.before.before.before.before.before in let a = s.before.args in
-    subst (λ (x : ProgramSet). CanRaise x s.loop.counts) (sym c.before.and.ensures)
-    (can-raise a.rows.now a.left s.loop.rest s.loop.counts s.loop.invariant (row_of a.rows.now c.before.before.before.lowest.result))
+raise-requires c κs = let s = c.before.before.before.before.before.before in let a = s.before.before.args in
+    subst (λ (x : ProgramSet). CanRaise x s.before.loop-rest.counts) (sym c.before.and.ensures)
+    (can-raise a.rows.now a.left s.before.loop-rest.rest s.before.loop-rest.counts s.before.loop-rest.invariant (row_of a.rows.now c.before.before.before.before.lowest-p.result))
 
-loop-less : tie.Need-loop-smaller invariant-loop decreases-loop
-loop-less c = let l = c.before.before.before.before.before.lowest in let s = c.before.before.before.before.before.before in
-    rw (c.but-lowest.ensures, sym l.ensures.0) (without_lt s.before.before.loop.rest l.result s.if1.true l.ensures.1.2)
+loop-less : tie.Need-loop-rest-smaller invariant-loop decreases-loop
+loop-less c = let l = c.before.before.before.before.before.before.lowest-p in let s = c.before.before.before.before.before.before in
+    rw (c.but_lowest-rest.ensures, sym l.ensures.0) (without_lt s.before.before.before.loop-rest.rest l.result s.before.loop-rest-test.true l.ensures.1.2)
 
-loop-again : tie.Need-loop-preserved invariant-loop decreases-loop
-loop-again c = let p = c.before.before.before.before.before in let l = p.lowest in let s = p.before.before.before in let a = s.before.args in
-    rw (c.but-lowest.ensures, sym l.ensures.0) (subst (CountedBut a.rows.now a.left (without_program s.loop.rest l.result))
-    (sym (c.before.raise.ensures ∙ ap (λ (x : ProgramSet). raised x s.loop.counts) c.before.before.before.and.ensures))
-    (counting_more a.rows.now a.left s.loop.rest s.loop.counts s.loop.invariant l.result l.ensures.1.2))
+loop-again : tie.Need-loop-rest-preserved invariant-loop decreases-loop
+loop-again c = let p = c.before.before.before.before.before in let l = p.before.lowest-p in let s = p.before.before.before in let a = s.before.before.args in
+    rw (c.but_lowest-rest.ensures, sym l.ensures.0) (subst (CountedBut a.rows.now a.left (without_program s.before.loop-rest.rest l.result))
+    (sym (c.before.raise.ensures ∙ ap (λ (x : ProgramSet). raised x s.before.loop-rest.counts) c.before.before.before.and.ensures))
+    (counting_more a.rows.now a.left s.before.loop-rest.rest s.before.loop-rest.counts s.before.loop-rest.invariant l.result l.ensures.1.2))
 
 returns : tie.Need-returns invariant-loop decreases-loop
-returns c = let l = c.before.before.loop in let a = c.before.before.before.args in
-    counting-done a.rows.now a.left l.rest l.counts l.invariant c.if1.false
+returns c = let l = c.before.before.loop-rest in let a = c.before.before.before.args in
+    counting-done a.rows.now a.left l.rest l.counts l.invariant c.loop-rest-test.false
 
-pub count-all-spec : {M : Type 1} → statement M
-count-all-spec =
+pub count_all_spec : {M : Type 1} → statement M
+count_all_spec =
     tie.close
     (tie.spec
     invariant-loop

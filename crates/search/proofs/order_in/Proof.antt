@@ -1,7 +1,6 @@
 -- `order_in` meets its contract. Assumes nothing.
 use mathlib.Core.Path.{sym, ap, subst, ◌∙◌}
 use mathlib.Core.Bool.{Bool}
-use borrow.Author.Tests.{not_true, not-false}
 use borrow.Author.Rules.{rules}
 use Rattle.search.specs.Counts.{Counted}
 use Rattle.search.specs.Rows.{outcome}
@@ -10,22 +9,22 @@ use Rattle.search.proofs.Counting.{counts_right}
 use Rattle.search.proofs.order_in.Statement.{statement}
 use Rattle.search.proofs.order_in.Tie as tie
 
-search-rest-requires : tie.Need-search-rest-requires
+search-rest-requires : tie.Need-search_rest-requires
 search-rest-requires c κs = let k = c.before.before in let a = k.before.before.before.args in (
   search rules,
   search rules,
-  subst (Counted a.rows.now a.left) (sym k.count-all.ensures) (counts_right a.rows.now a.left),
+  subst (Counted a.rows.now a.left) (sym k.count_all.ensures) (counts_right a.rows.now a.left),
 )
 
-returns : tie.Need-returns
-returns c = let k = c.before.before.before.before.before.before in let a = k.before.args in let n = k.count in let s = c.before.search-rest in
-    ap (λ (x : Bool). outcome x n.result s.new.1.1.1.1.0) (sym (not_true s.result c.if1.true))
+returns : tie.Need-returns-then-not-search_rest
+returns c = let k = c.before.before.before.before.before.before in let a = k.before.args in let n = k.count-n in let s = c.before.search_rest in
+    ap (λ (x : Bool). outcome x n.result s.new.1.1.1.1.0) (sym (c.if-not-search_rest.true))
     ∙ order_in_is a.rows.now s.new.1.1.1.1.0 a.left n.result s.result n.ensures.0 s.ensures
 
-returns-2 : tie.Need-returns-2
-returns-2 c = let k = c.before.before.before.before.before.before in let a = k.before.args in let n = k.count in let s = c.before.search-rest in
-    ap (λ (x : Bool). outcome x n.result s.new.1.1.1.1.0) (sym (not-false s.result c.if1.false))
+returns-2 : tie.Need-returns
+returns-2 c = let k = c.before.before.before.before.before.before in let a = k.before.args in let n = k.count-n in let s = c.before.search_rest in
+    ap (λ (x : Bool). outcome x n.result s.new.1.1.1.1.0) (sym (c.if-not-search_rest.false))
     ∙ order_in_is a.rows.now s.new.1.1.1.1.0 a.left n.result s.result n.ensures.0 s.ensures
 
-pub order-in-spec : {M : Type 1} → statement M
-order-in-spec = tie.close (tie.spec (λ c κs. search rules) (λ c. search rules) (λ c κs. search rules) search-rest-requires returns returns-2)
+pub order_in_spec : {M : Type 1} → statement M
+order_in_spec = tie.close (tie.spec (λ c κs. search rules) (λ c. search rules) (λ c κs. search rules) search-rest-requires returns returns-2)

@@ -14,44 +14,44 @@ use Rattle.search.proofs.raise.Tie as tie
 abbrev next : List ℕ → ℕ → ℕ
 next counts i = get_or counts i 0 + 1
 
-abbrev invariant-loop : tie.invariant-loop
+abbrev invariant-loop : tie.invariant-loop-rest
 invariant-loop counts₀ rest₀ counts rest = WroteTo rest₀ (next counts₀) counts₀ rest counts
 
-abbrev decreases-loop : tie.decreases-loop
+abbrev decreases-loop : tie.decreases-loop-rest
 decreases-loop counts₀ rest₀ counts rest = rest.bits
 
-loop-holds : tie.Need-loop-init invariant-loop decreases-loop
+loop-holds : tie.Need-loop-rest-init invariant-loop decreases-loop
 loop-holds c = wrote-start c.args.set (next c.args.counts.now) c.args.counts.now c.requires.0
 
-lowest-requires : tie.Need-lowest-requires invariant-loop decreases-loop
-lowest-requires c κs = c.if1.true
+lowest-requires : tie.Need-lowest-p-requires invariant-loop decreases-loop
+lowest-requires c κs = c.loop-rest-test.true
 
-add-counts : tie.Need-overflow-add-counts invariant-loop decreases-loop
-add-counts c = let l = c.before.lowest in let s = c.before.before.before.before in let t = s.before in let a = t.args in
+add-counts : tie.Need-overflow_add-counts invariant-loop decreases-loop
+add-counts c = let l = c.before.before.lowest-p in let s = c.before.before.before.before in let t = s.before in let a = t.before.args in
     omega (
       arith,
-      wrote-here a.set (next a.counts.now) a.counts.now s.loop.rest s.loop.counts l.result s.loop.invariant l.ensures.1,
-      t.requires.1 l.result (s.loop.invariant.0 l.result l.ensures.1.2),
+      wrote-here a.set (next a.counts.now) a.counts.now s.before.loop-rest.rest s.before.loop-rest.counts l.result s.before.loop-rest.invariant l.ensures.1,
+      t.before.requires.1 l.result (s.before.loop-rest.invariant.0 l.result l.ensures.1.2),
     )
 
-loop-less : tie.Need-loop-smaller invariant-loop decreases-loop
-loop-less c = let l = c.before.before.lowest in let s = c.before.before.before in
-    rw (c.but-lowest.ensures, sym l.ensures.0) (without_lt s.before.before.loop.rest l.result s.if1.true l.ensures.1.2)
+loop-less : tie.Need-loop-rest-smaller invariant-loop decreases-loop
+loop-less c = let l = c.before.before.before.lowest-p in let s = c.before.before.before in
+    rw (c.but_lowest-rest.ensures, sym l.ensures.0) (without_lt s.before.before.before.loop-rest.rest l.result s.before.loop-rest-test.true l.ensures.1.2)
 
-loop-again : tie.Need-loop-preserved invariant-loop decreases-loop
-loop-again c = let l = c.before.before.lowest in let s = c.before.before.before.before.before in let a = s.before.args in
-    rw (c.but-lowest.ensures, sym l.ensures.0) (wrote-more a.set (next a.counts.now) a.counts.now s.loop.rest s.loop.counts l.result
-    (get_or s.loop.counts (l.result - 1) 0 + 1) s.loop.invariant l.ensures.1
-    (ap (λ (n : ℕ). n + 1) (wrote-here a.set (next a.counts.now) a.counts.now s.loop.rest s.loop.counts l.result
-    s.loop.invariant l.ensures.1)))
+loop-again : tie.Need-loop-rest-preserved invariant-loop decreases-loop
+loop-again c = let l = c.before.before.before.lowest-p in let s = c.before.before.before.before.before in let a = s.before.before.args in
+    rw (c.but_lowest-rest.ensures, sym l.ensures.0) (wrote-more a.set (next a.counts.now) a.counts.now s.before.loop-rest.rest s.before.loop-rest.counts l.result
+    (get_or s.before.loop-rest.counts (l.result - 1) 0 + 1) s.before.loop-rest.invariant l.ensures.1
+    (ap (λ (n : ℕ). n + 1) (wrote-here a.set (next a.counts.now) a.counts.now s.before.loop-rest.rest s.before.loop-rest.counts l.result
+    s.before.loop-rest.invariant l.ensures.1)))
 
 returns : tie.Need-returns invariant-loop decreases-loop
 unfolding raised
-returns c = let l = c.before.before.loop in let a = c.before.before.before.args in
-    wrote-done a.set (next a.counts.now) a.counts.now l.rest l.counts c.if1.false l.invariant
+returns c = let l = c.before.before.loop-rest in let a = c.before.before.before.args in
+    wrote-done a.set (next a.counts.now) a.counts.now l.rest l.counts c.loop-rest-test.false l.invariant
 
-pub raise-spec : {M : Type 1} → statement M
-raise-spec =
+pub raise_spec : {M : Type 1} → statement M
+raise_spec =
     tie.close
     (tie.spec
     invariant-loop

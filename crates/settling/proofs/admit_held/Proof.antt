@@ -13,66 +13,66 @@ use borrow.Author.Rules.{rules}
 use Rattle.settling.proofs.admit_held.Statement.{statement}
 use Rattle.settling.proofs.admit_held.Tie as tie
 
-abbrev invariant-loop : tie.invariant-loop
+abbrev invariant-loop : tie.invariant-loop-p
 invariant-loop sets lines₀ s₀ p₀ lines s p = Admitting (written_in sets lines₀ s₀) (written_in sets lines s)
     × (p ≡ get_or (board_of sets s.rest).entry 0 0) × IsEntries lines
 
-abbrev decreases-loop : tie.decreases-loop
+abbrev decreases-loop : tie.decreases-loop-p
 decreases-loop sets lines₀ s₀ p₀ lines s p = length (names (board_of sets s.rest).entry)
 
 -- ---- stations
 
-abbrev start : tie.At-loop invariant-loop decreases-loop → tie.Start invariant-loop decreases-loop
+abbrev start : tie.At-loop-p invariant-loop decreases-loop → tie.Start invariant-loop decreases-loop
 start l = l.before.before
 
 -- the board with its lines at a turn
-abbrev at : tie.At-loop invariant-loop decreases-loop → Written
-at l = written_in (start l).args.sets.now l.loop.lines l.loop.s
+abbrev at : tie.At-loop-p invariant-loop decreases-loop → Written
+at l = written_in (start l).args.sets.now l.loop-p.lines l.loop-p.s
 
-loop-holds : tie.Need-loop-init invariant-loop decreases-loop
+loop-holds : tie.Need-loop-p-init invariant-loop decreases-loop
 unfolding board_of
-loop-holds c = let a = c.before.requires in
-    (record { loose = a.0; counts = a.1; nobody = a.2; fits = a.3; same = refl }, c.first-held.ensures, a.5)
+loop-holds c = let a = c.before.before.requires in
+    (record { loose = a.0; counts = a.1; nobody = a.2; fits = a.3; same = refl }, c.first_held-p.ensures, a.5)
 
-oldest-overdue-requires : tie.Need-oldest-overdue-requires invariant-loop decreases-loop
+oldest-overdue-requires : tie.Need-oldest_overdue-overdue-requires invariant-loop decreases-loop
 unfolding board_of
-oldest-overdue-requires c κs = let l = c.before in all_waiting (at l).board l.loop.invariant.0.loose
+oldest-overdue-requires c κs = let l = c.before in all_waiting (at l).board l.before.loop-p.invariant.0.loose
 
-favour-waiter-requires : tie.Need-favour-waiter-requires invariant-loop decreases-loop
+favour-waiter-requires : tie.Need-favour_waiter-requires invariant-loop decreases-loop
 favour-waiter-requires c κs =
-    let i = c.before in let o = i.before.oldest-overdue in let t = i.before.before in let l = t.before in let v = l.loop.invariant in
-    let r = overdue_some (at l).board o.result v.0.loose o.ensures i.if1.true in
-    (r.1, overdue-fits _ (at l) v.0 (λ e. t.loop-test.true (v.1 ∙ e)) o.result r.0, v.2)
+    let i = c.before in let o = i.before.oldest_overdue-overdue in let t = i.before.before in let l = t.before in let v = l.before.loop-p.invariant in
+    let r = overdue_some (at l).board o.result v.0.loose o.ensures i.if-overdue-ne0.true in
+    (r.1, overdue-fits _ (at l) v.0 (λ e. t.before.loop-p-test.true (v.1 ∙ e)) o.result r.0, v.2)
 
-returns : tie.Need-returns invariant-loop decreases-loop
+returns : tie.Need-returns-then-overdue-ne0 invariant-loop decreases-loop
 unfolding board_of
 returns c =
-    let i = c.before.before in let o = i.before.oldest-overdue in let t = i.before.before in let l = t.before in let v = l.loop.invariant in
-    let r = overdue_some (at l).board o.result v.0.loose o.ensures i.if1.true in (
-      c.favour-waiter.ensures.0 ∙ overdue-is _ (at l) v.0 (λ e. t.loop-test.true (v.1 ∙ e)) o.result r.0,
-      c.favour-waiter.ensures.1,
+    let i = c.before.before in let o = i.before.oldest_overdue-overdue in let t = i.before.before in let l = t.before in let v = l.before.loop-p.invariant in
+    let r = overdue_some (at l).board o.result v.0.loose o.ensures i.if-overdue-ne0.true in (
+      c.favour_waiter.ensures.result_after ∙ overdue-is _ (at l) v.0 (λ e. t.before.loop-p-test.true (v.1 ∙ e)) o.result r.0,
+      c.favour_waiter.ensures.entries,
     )
 
-admit-one-requires : tie.Need-admit-one-requires invariant-loop decreases-loop
+admit-one-requires : tie.Need-admit_one-s-requires invariant-loop decreases-loop
 unfolding board_of
 admit-one-requires c κs =
-    let i = c.before in let o = i.before.oldest-overdue in let t = i.before.before in let l = t.before in let v = l.loop.invariant in
-    let n = overdue-none (at l).board o.result v.0.loose o.ensures i.if1.false in
-    let r = first_range _ (at l) v.0 (λ e. t.loop-test.true (v.1 ∙ e)) in
+    let i = c.before in let o = i.before.oldest_overdue-overdue in let t = i.before.before in let l = t.before in let v = l.before.loop-p.invariant in
+    let n = overdue-none (at l).board o.result v.0.loose o.ensures i.if-overdue-ne0.false in
+    let r = first_range _ (at l) v.0 (λ e. t.before.loop-p-test.true (v.1 ∙ e)) in
     let p = v.1 in let x = r.0 in let y = r.1 in (
       (omega arith, omega arith),
-      one-fits _ (at l) v.0 (λ e. t.loop-test.true (v.1 ∙ e)) n,
+      one-fits _ (at l) v.0 (λ e. t.before.loop-p-test.true (v.1 ∙ e)) n,
       v.0.counts.counted.most,
       (start l).requires.4,
       v.2,
     )
 
 -- one more runs
-module _ (c : tie.After-first-held2 invariant-loop decreases-loop) where
-  abbrev ran : tie.After-admit-one invariant-loop decreases-loop
+module _ (c : tie.After-first_held-p-in-loop-p invariant-loop decreases-loop) where
+  abbrev ran : tie.After-admit_one-s invariant-loop decreases-loop
   ran = c.before
 
-  abbrev turn : tie.In-loop invariant-loop decreases-loop
+  abbrev turn : tie.In-loop-p invariant-loop decreases-loop
   turn = ran.before.before.before.before
 
   abbrev next : Written
@@ -82,22 +82,22 @@ module _ (c : tie.After-first-held2 invariant-loop decreases-loop) where
       × (length (names next.board.entry) < length (names (at turn.before).board.entry))
   more = let i = ran.before.before in let o = i.before.oldest-overdue in let l = turn.before in let v = l.loop.inv in
       let n = overdue-none (at l).board o.result v.0.loose o.ensures i.if1.left in
-      one_more _ (at l) v.0 (λ e. turn.loop-test.taken (v.1 ∙ e)) next n
+      one_more _ (at l) v.0 (λ e. turn.loop-test.true (v.1 ∙ e)) next n
       (ran.admit-one.ensures.0 ∙ ap (λ q. after (at l) (admit_one (at l).board q)) v.1)
 
-loop-less : tie.Need-loop-smaller invariant-loop decreases-loop
+loop-less : tie.Need-loop-p-smaller invariant-loop decreases-loop
 loop-less c = (more c).1
 
-loop-again : tie.Need-loop-preserved invariant-loop decreases-loop
+loop-again : tie.Need-loop-p-preserved invariant-loop decreases-loop
 unfolding board_of
-loop-again c = ((more c).0, c.first-held2.ensures, (ran c).admit-one.ensures.1)
+loop-again c = ((more c).0, c.first_held-p-in-loop-p.ensures, (ran c).admit-one.ensures.1)
 
-returns-2 : tie.Need-returns-2 invariant-loop decreases-loop
+returns-2 : tie.Need-returns invariant-loop decreases-loop
 unfolding board_of
-returns-2 c = let l = c.before in let v = l.loop.invariant in (admitted_all _ (at l) v.0 (sym v.1 ∙ c.loop-test.false), v.2)
+returns-2 c = let l = c.before in let v = l.loop-p.invariant in (admitted_all _ (at l) v.0 (sym v.1 ∙ c.loop-p-test.false), v.2)
 
-pub admit-held-spec : {M : Type 1} → statement M
-admit-held-spec =
+pub admit_held_spec : {M : Type 1} → statement M
+admit_held_spec =
     tie.close
     (tie.spec
     invariant-loop

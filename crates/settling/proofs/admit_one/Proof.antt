@@ -13,18 +13,18 @@ use Rattle.settling.proofs.admit_one.Tie as tie
 seats-length : (s : tie.Start) → length s.args.w.rest.seats ≡ 32
 seats-length s = sym (length-map s.args.w.rest.seats _) ∙ s.well-formed.1.1.0.1.1.0.1.1.0.1.0.1
 
-tally-requires : tie.Need-tally-requires
-tally-requires c κs = subst (λ (r : Rest). CountsFew r.passed) (sym c.seated.ensures) c.before.before.before.before.requires.2
+tally-requires : tie.Need-tally-passed-requires
+tally-requires c κs = subst (λ (r : Rest). CountsFew r.passed) (sym c.seated-c.ensures) c.before.before.before.before.requires.2
 
 returns : tie.Need-returns
 returns c = let t = c.before in let y = t.before in let r = y.before in let s = r.before.before.before in let a = s.args in (
   admit-done a.sets.now a.lines.now a.w.rest a.w.count a.p _ _ _ _ s.requires.3 (seats-length s) s.requires.0.0 s.requires.0.1
-      c.line-of.ensures y.seated.ensures r.remove.ensures t.tally.ensures,
-  one_entry a.lines.now a.w.count (line Word.Admit a.p 0) _ c.line-of.ensures s.requires.4,
+      c.line_of.ensures y.seated-c.ensures r.remove-held.ensures t.tally-passed.ensures,
+  one_entry a.lines.now a.w.count (line Word.Admit a.p 0) _ c.line_of.ensures s.requires.4,
 )
 
-pub admit-one-spec : {M : Type 1} → statement M
-admit-one-spec =
+pub admit_one_spec : {M : Type 1} → statement M
+admit_one_spec =
     tie.close
     (tie.spec
     (λ c κs. search rules)

@@ -4,11 +4,11 @@ use borrow.Author.Tests.{eq-eqb, ne_eqb}
 use Rattle.settling.proofs.asked_by.Statement.{statement}
 use Rattle.settling.proofs.asked_by.Tie as tie
 
-returns : tie.Need-returns
-returns c = rw (ne_eqb c.before.before.args.seat.item 0 c.if1.true)
+returns : tie.Need-returns-then-seat-ne0
+returns c = rw (ne_eqb c.before.before.args.seat.item 0 c.if-seat-ne0.true)
 
-returns-2 : tie.Need-returns-2
-returns-2 c = rw (eq-eqb c.before.before.before.args.seat.item 0 c.before.if1.false) c.awaited.ensures
+returns-2 : tie.Need-returns
+returns-2 c = rw (eq-eqb c.before.before.before.args.seat.item 0 c.before.if-seat-ne0.false) c.awaited.ensures
 
-pub asked-by-spec : {M : Type 1} → statement M
-asked-by-spec = tie.close (tie.spec returns (λ c κs. search rules) returns-2)
+pub asked_by_spec : {M : Type 1} → statement M
+asked_by_spec = tie.close (tie.spec returns (λ c κs. search rules) returns-2)

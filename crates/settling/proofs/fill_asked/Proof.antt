@@ -10,27 +10,27 @@ use borrow.Author.Rules.{rules}
 use Rattle.settling.proofs.fill_asked.Statement.{statement}
 use Rattle.settling.proofs.fill_asked.Tie as tie
 
-abbrev invariant-loop : tie.invariant-loop
+abbrev invariant-loop : tie.invariant-loop-i
 invariant-loop asked₀ b i₀ asked i = (i ≤ 32) × (length asked ≡ 32) × AskedTo b i asked
 
-abbrev decreases-loop : tie.decreases-loop
+abbrev decreases-loop : tie.decreases-loop-i
 decreases-loop asked₀ b i₀ asked i = 32 - i
 
-loop-holds : tie.Need-loop-init invariant-loop decreases-loop
+loop-holds : tie.Need-loop-i-init invariant-loop decreases-loop
 loop-holds c = (search rules, search rules, λ j m. absurd (omega arith))
 
-loop-again : tie.Need-loop-preserved invariant-loop decreases-loop
-loop-again c = let l = c.before.before.before.loop in let b = c.before.before.before.before.args.t1 in (
+loop-again : tie.Need-loop-i-preserved invariant-loop decreases-loop
+loop-again c = let l = c.before.before.before.before.loop-i in let b = c.before.before.before.before.before.args.rest in (
   search rules,
-  length-set l.asked l.i c.asked_by.result ∙ l.invariant.1,
-  asked_more b l.i l.asked c.asked_by.result (omega arith) l.invariant.1 l.invariant.2 c.asked_by.ensures,
+  length-set l.asked l.i c.before.asked_by.result ∙ l.invariant.1,
+  asked_more b l.i l.asked c.before.asked_by.result (omega arith) l.invariant.1 l.invariant.2 c.before.asked_by.ensures,
 )
 
 returns : tie.Need-returns invariant-loop decreases-loop
-returns c = let l = c.before.loop in (l.invariant.1, λ j m. l.invariant.2 j (omega arith))
+returns c = let l = c.before.loop-i in (l.invariant.1, λ j m. l.invariant.2 j (omega arith))
 
-pub fill-asked-spec : {M : Type 1} → statement M
-fill-asked-spec =
+pub fill_asked_spec : {M : Type 1} → statement M
+fill_asked_spec =
     tie.close
     (tie.spec
     invariant-loop

@@ -8,13 +8,13 @@ use Rattle.search.specs.Gives.{used_in}
 use Rattle.settling.proofs.is_unused.Statement.{statement}
 use Rattle.settling.proofs.is_unused.Tie as tie
 
-returns : tie.Need-returns
-returns c = rw (ne_eqb c.before.args.seat.item 0 c.if1.true)
+returns : tie.Need-returns-then-item-ne0
+returns c = rw (ne_eqb c.before.args.seat.item 0 c.if-item-ne0.true)
 
-returns-2 : tie.Need-returns-2
+returns-2 : tie.Need-returns
 returns-2 c = let f = c.before in let i = f.before in let a = i.before.args in
-    rw (eq-eqb a.seat.item 0 i.if1.false) (ap not (c.in_use.ensures
-    ∙ ap (λ (x : ℕ). used_in a.sets.now a.uses a.p x) f.awaited.ensures))
+    rw (eq-eqb a.seat.item 0 i.if-item-ne0.false) (ap not (c.in_use.ensures
+    ∙ ap (λ (x : ℕ). used_in a.sets.now a.uses a.p x) f.awaited-f.ensures))
 
-pub is-unused-spec : {M : Type 1} → statement M
-is-unused-spec = tie.close (tie.spec returns (λ c κs. search rules) (λ c κs. search rules) returns-2)
+pub is_unused_spec : {M : Type 1} → statement M
+is_unused_spec = tie.close (tie.spec returns (λ c κs. search rules) (λ c κs. search rules) returns-2)

@@ -33,27 +33,27 @@ use Rattle.settling.proofs.pass_line.Tie as tie
 abbrev state : Sets → Entries → Rest → ℕ → Written
 state sets lines r n = state_of (board_of sets r) (lines_in lines) n
 
-abbrev invariant-loop : tie.invariant-loop
+abbrev invariant-loop : tie.invariant-loop-j
 invariant-loop sets₀ lines₀ c₀ line asked admitted n₀ j₀ sets lines c n j = (length line ≡ 32) × (length c.seats ≡ 32) × IsStore sets × IsEntries lines
     × Found (state sets₀ lines₀ c₀ n₀) line asked j (state sets lines c n) sets (uses_in admitted sets)
 
-abbrev decreases-loop : tie.decreases-loop
+abbrev decreases-loop : tie.decreases-loop-j
 decreases-loop sets₀ lines₀ c₀ line asked admitted n₀ j₀ sets lines c n j = 32 - j
 
 -- ---- stations before the loop
 
 -- who is admitted is known
-abbrev admits : tie.After-next-given invariant-loop decreases-loop → tie.After-admitted-seats invariant-loop decreases-loop
+abbrev admits : tie.After-next_given-j invariant-loop decreases-loop → tie.After-admitted_seats-admitted invariant-loop decreases-loop
 admits s = s.before.before.before.before.before
 
 -- who waits for what is known
-abbrev asked : tie.After-next-given invariant-loop decreases-loop → tie.After-fill-asked invariant-loop decreases-loop
+abbrev asked : tie.After-next_given-j invariant-loop decreases-loop → tie.After-fill_asked invariant-loop decreases-loop
 asked s = (admits s).before
 
-abbrev start : tie.After-next-given invariant-loop decreases-loop → tie.Start invariant-loop decreases-loop
+abbrev start : tie.After-next_given-j invariant-loop decreases-loop → tie.Start invariant-loop decreases-loop
 start s = (asked s).before.before.before.before
 
-abbrev begun : tie.At-loop invariant-loop decreases-loop → tie.After-next-given invariant-loop decreases-loop
+abbrev begun : tie.At-loop-j invariant-loop decreases-loop → tie.After-next_given-j invariant-loop decreases-loop
 begun s = s.before
 
 line-length : (a : tie.Start invariant-loop decreases-loop) → length a.args.w.rest.waiting ≡ 32
@@ -63,96 +63,96 @@ seats-length : (a : tie.Start invariant-loop decreases-loop) → length a.args.w
 seats-length a = sym (length-map a.args.w.rest.seats _) ∙ a.well-formed.1.1.0.1.1.0.1.1.0.1.0.1
 
 -- what is open at first
-uses-are : (s : tie.After-next-given invariant-loop decreases-loop) → s.before.before.before.uses-in.result
+uses-are : (s : tie.After-next_given-j invariant-loop decreases-loop) → s.before.before.before.uses-in.result
     ≡ uses_in (admits s).admitted-seats.result (start s).args.sets.now
-uses-are s = s.before.before.before.uses-in.ensures
+uses-are s = s.before.before.uses_in-uses.ensures
 
-next-given-requires : tie.Need-next-given-requires invariant-loop decreases-loop
+next-given-requires : tie.Need-next_given-j-requires invariant-loop decreases-loop
 unfolding board_of
-next-given-requires c κs = let a = c.before.before.before.before.before.before.before.before.before in let w = a.args.w in
+next-given-requires c κs = let a = c.before.before.before.before.before.before.before in let w = a.args.w in
     (search rules, ready_programs (board_of a.args.sets.now w.rest) _ (ready_all (board_of a.args.sets.now w.rest) a.requires.0), a.requires.3)
 
-loop-holds : tie.Need-loop-init invariant-loop decreases-loop
+loop-holds : tie.Need-loop-j-init invariant-loop decreases-loop
 unfolding board_of
 loop-holds c = let a = start c in let w = a.args.w in let b = board_of a.args.sets.now w.rest in
-    let u = uses_in (admits c).admitted-seats.result a.args.sets.now in (
+    let u = uses_in (admits c).admitted_seats-admitted.result a.args.sets.now in (
       line-length a,
       seats-length a,
-      a.pre.3,
-      a.pre.4,
+      a.requires.3,
+      a.requires.4,
       next-found _ _ _ _ _ u 0 _ (record {
-        passed = pass-start (state a.args.sets.now a.args.lines.now w.rest w.count) a.pre.0 a.pre.1 a.pre.2;
-        sets-are = board-sets a.args.sets.now w.rest a.pre.3;
+        passed = pass-start (state a.args.sets.now a.args.lines.now w.rest w.count) a.requires.0 a.requires.1 a.requires.2;
+        sets-are = board-sets a.args.sets.now w.rest a.requires.3;
         uses-are = ap (λ (x : ProgramSet). uses_in x a.args.sets.now)
-            ((admits c).admitted-seats.ensures ∙ seats_admitted a.args.sets.now w.rest);
-        asks = asks_all a.args.sets.now w.rest (asked c).fill-asked.new.1.0 a.pre.0 (asked c).fill-asked.ensures;
-      }) (subst (λ (x : Uses). NextFor a.args.sets.now (asked c).fill-asked.new.1.0 x w.rest.waiting 0 c.next-given.result)
-          (uses-are c) c.next-given.ensures.2),
+            ((admits c).admitted_seats-admitted.ensures ∙ seats_admitted a.args.sets.now w.rest);
+        asks = asks_all a.args.sets.now w.rest (asked c).fill_asked.new.1.0 a.requires.0 (asked c).fill_asked.ensures;
+      }) (subst (λ (x : Uses). NextFor a.args.sets.now (asked c).fill_asked.new.1.0 x w.rest.waiting 0 c.next_given-j.result)
+          (uses-are c) c.next_given-j.ensures.2),
     )
 
 -- ---- stations of a turn
 
 -- the waiter is served
-abbrev ran : tie.After-line-of invariant-loop decreases-loop → tie.After-served invariant-loop decreases-loop
+abbrev ran : tie.After-line_of invariant-loop decreases-loop → tie.After-served-c invariant-loop decreases-loop
 ran c = c.before
 
 -- the turn begins
-abbrev turn : tie.After-line-of invariant-loop decreases-loop → tie.In-loop invariant-loop decreases-loop
+abbrev turn : tie.After-line_of invariant-loop decreases-loop → tie.In-loop-j invariant-loop decreases-loop
 turn c = (ran c).before
 
 -- its line is written
-abbrev told : tie.After-give invariant-loop decreases-loop → tie.After-line-of invariant-loop decreases-loop
+abbrev told : tie.After-give invariant-loop decreases-loop → tie.After-line_of invariant-loop decreases-loop
 told g = g.before.before
 
 -- the file is given
-abbrev gave : tie.After-uses-in2 invariant-loop decreases-loop → tie.After-give invariant-loop decreases-loop
+abbrev gave : tie.After-uses_in-uses-in-loop-j invariant-loop decreases-loop → tie.After-give invariant-loop decreases-loop
 gave u = u.before.before
 
 -- the waiter is a program, and its line fits
-range : (i : tie.In-loop invariant-loop decreases-loop) → let l = i.before.loop in let p = get_or (start (begun i.before)).args.w.rest.waiting l.j 0 in
+range : (i : tie.In-loop-j invariant-loop decreases-loop) → let l = i.before.loop in let p = get_or (start (begun i.before)).args.w.rest.waiting l.j 0 in
     (1 ≤ p) × (p ≤ 32) × (l.n < 32)
-range i = let l = i.before.loop in let u = i.loop-test.true in give-range _ _ _ _ _ _ _ l.invariant.4 l.invariant.0 (omega arith)
+range i = let l = i.before.loop-j in let u = i.loop-j-test.true in give-range _ _ _ _ _ _ _ l.invariant.4 l.invariant.0 (omega arith)
 
-sub-i : tie.Need-overflow-sub-i invariant-loop decreases-loop
+sub-i : tie.Need-overflow_sub-i invariant-loop decreases-loop
 sub-i c = (range c).0
 
-cast-i : tie.Need-overflow-cast-i invariant-loop decreases-loop
+cast-i : tie.Need-overflow_cast-i invariant-loop decreases-loop
 cast-i c = let r = range c in omega (arith, r.0, r.1)
 
-mul-f : tie.Need-overflow-mul-f invariant-loop decreases-loop
+mul-f : tie.Need-offset_bounds-asked-i invariant-loop decreases-loop
 mul-f c = let r = range c in omega (arith, r.0, r.1)
 
-array-read-f : tie.Need-array-read-f invariant-loop decreases-loop
+array-read-f : tie.Need-bounds-asked-i invariant-loop decreases-loop
 array-read-f c = let r = range c in omega (arith, r.0, r.1)
 
-served-requires : tie.Need-served-requires invariant-loop decreases-loop
+served-requires : tie.Need-served-c-requires invariant-loop decreases-loop
 served-requires c κs = let r = range c in (r.0, r.1)
 
-cast-lines : tie.Need-overflow-cast-t24 invariant-loop decreases-loop
+cast-lines : tie.Need-overflow_cast-n invariant-loop decreases-loop
 cast-lines c = let n = (range (turn c)).2 in omega arith
 
-mul-lines : tie.Need-overflow-mul-t30 invariant-loop decreases-loop
+mul-lines : tie.Need-offset_bounds-lines-n invariant-loop decreases-loop
 mul-lines c = let n = (range (turn c)).2 in omega arith
 
-element-set-from-lines : tie.Need-element-set-from-lines invariant-loop decreases-loop
+element-set-from-lines : tie.Need-bounds-lines-n invariant-loop decreases-loop
 element-set-from-lines c = let n = (range (turn c)).2 in omega arith
 
-add-n : tie.Need-overflow-add-n invariant-loop decreases-loop
+add-n : tie.Need-overflow_add-n invariant-loop decreases-loop
 add-n c = let n = (range (turn c)).2 in omega arith
 
 give-requires : tie.Need-give-requires invariant-loop decreases-loop
-give-requires c κs = let i = turn c.before in let r = range i in ((r.0, r.1), i.before.loop.inv.2)
+give-requires c κs = let i = turn c.before in let r = range i in ((r.0, r.1), i.before.loop-j.invariant.2)
 
-uses-in-requires-2 : tie.Need-uses-in-requires-2 invariant-loop decreases-loop
+uses-in-requires-2 : tie.Need-uses_in-uses-requires-in-loop-j invariant-loop decreases-loop
 uses-in-requires-2 c κs = let g = c.before in let i = turn (told g) in let s = i.before in let r = range i in
-    let p = get_or (start (begun s)).args.w.rest.waiting s.loop.j 0 in let f = get_or (asked (begun s)).fill-asked.last.1.0 (p - 1) 0 in
-    subst IsStore (sym g.give.ensures) (given_store s.loop.sets p f r.0 r.1 s.loop.inv.2)
+    let p = get_or (start (begun s)).args.w.rest.waiting s.loop-j.j 0 in let f = get_or (asked (begun s)).fill_asked.last.1.0 (p - 1) 0 in
+    subst IsStore (sym c.give.ensures) (given_store s.loop-j.sets p f r.0 r.1 s.loop-j.invariant.2)
 
-module _ (u : tie.After-uses-in2 invariant-loop decreases-loop) where
-  abbrev here : tie.In-loop invariant-loop decreases-loop
+module _ (u : tie.After-uses_in-uses-in-loop-j invariant-loop decreases-loop) where
+  abbrev here : tie.In-loop-j invariant-loop decreases-loop
   here = turn (told (gave u))
 
-  abbrev at : tie.At-loop invariant-loop decreases-loop
+  abbrev at : tie.At-loop-j invariant-loop decreases-loop
   at = here.before
 
   abbrev first : tie.Start invariant-loop decreases-loop
@@ -204,39 +204,39 @@ module _ (u : tie.After-uses-in2 invariant-loop decreases-loop) where
 
   -- the next ones are still to be asked
   next-at : At was first.args.w.rest.waiting files (at.loop.j + 1) is (gave u).give.last.0 (uses_in who (gave u).give.last.0)
-  next-at = let l = at.loop in let t = here.loop-test.taken in
+  next-at = let l = at.loop in let t = here.loop-test.true in
       subst (λ (s : Written). At was first.args.w.rest.waiting files (at.loop.j + 1) s (gave u).give.last.0 (uses_in who (gave u).give.last.0))
       (sym next-state)
       (subst (λ (x : Sets). At was first.args.w.rest.waiting files (at.loop.j + 1) (state_of (given_to (board_of l.sets l.c) waiter file)
       (set (lines_in l.lines) l.n (line Word.Given waiter file)) (l.n + 1)) x (uses_in who x)) (sym sets_then)
       (give-next _ _ _ _ _ _ _ l.inv.4 l.inv.0 (omega arith) (uses_in who then) refl))
 
-next-given-requires-2 : tie.Need-next-given-requires-2 invariant-loop decreases-loop
+next-given-requires-2 : tie.Need-next_given-j-requires-in-loop-j invariant-loop decreases-loop
 next-given-requires-2 c κs = let u = c.before.before in let t = (here u).loop-test.true in
     (omega arith, ready_programs (is u).board _ (next-at u).passed.0, store_then u)
 
-loop-again : tie.Need-loop-preserved invariant-loop decreases-loop
+loop-again : tie.Need-loop-j-preserved invariant-loop decreases-loop
 loop-again c = let u = c.before.before.before in let l = (at u).loop in (
   l.inv.0,
-  ap (λ (x : Rest). length x.seats) (ran (told (gave u))).served.ensures
+  ap (λ (x : Rest). length x.seats) (ran (told (gave u))).served-c.ensures
       ∙ length-set l.c.seats (waiter u - 1) _ ∙ l.inv.1,
   store_then u,
-  one_entry l.lines l.n (line Word.Given (waiter u) (file u)) _ (told (gave u)).line-of.ensures l.inv.3,
+  one_entry l.lines l.n (line Word.Given (waiter u) (file u)) _ (told (gave u)).line_of.ensures l.inv.3,
   next-found _ _ _ _ _ _ (l.j + 1) _ (next-at u)
-      (subst (λ (x : Uses). NextFor (gave u).give.new.0 (files u) x (first u).args.w.rest.waiting (l.j + 1) c.next-given2.result)
-      (uses-then u) c.next-given2.ensures.2),
+      (subst (λ (x : Uses). NextFor (gave u).give.new.0 (files u) x (first u).args.w.rest.waiting (l.j + 1) c.next_given-j-in-loop-j.result)
+      (uses-then u) c.next_given-j-in-loop-j.ensures.2),
 )
 
 returns : tie.Need-returns invariant-loop decreases-loop
 unfolding board_of
-returns c = let l = c.before.loop in let a = (start (begun c.before)).args in let m = l.invariant.0 in (
+returns c = let l = c.before.loop-j in let a = (start (begun c.before)).args in let m = l.invariant.0 in (
   pass-over (state a.sets.now a.lines.now a.w.rest a.w.count) (state l.sets l.lines l.c l.n) a.w.rest.waiting l.j
       l.invariant.4.here.passed (names-end a.w.rest.waiting l.j (omega arith)),
   (l.invariant.2, l.invariant.3),
 )
 
-pub pass-line-spec : {M : Type 1} → statement M
-pass-line-spec =
+pub pass_line_spec : {M : Type 1} → statement M
+pass_line_spec =
     tie.close
     (tie.spec
     invariant-loop

@@ -5,10 +5,10 @@ use Rattle.settling.proofs.served.Tie as tie
 
 returns : tie.Need-returns
 returns c = let v = c.before in let f = v.before in let s = f.before in let r = s.before in
-    rw (c.unless-favoured3.ensures, v.unless-favoured2.ensures, f.unless-favoured.ensures, s.seated.ensures, r.remove.ensures)
+    rw (c.unless_favoured-3.ensures, v.unless_favoured-2.ensures, f.unless_favoured.ensures, s.seated-r.ensures, r.remove-waiting.ensures)
 
-pub served-spec : {M : Type 1} → statement M
-served-spec =
+pub served_spec : {M : Type 1} → statement M
+served_spec =
     tie.close
     (tie.spec
     (λ c. search rules)

@@ -9,38 +9,38 @@ use borrow.Author.Rules.{rules}
 use Rattle.settling.proofs.settle_lines.Statement.{statement}
 use Rattle.settling.proofs.settle_lines.Tie as tie
 
-abbrev start : tie.After-pass-line → tie.Start
+abbrev start : tie.After-pass_line-s → tie.Start
 start p = p.before.before.before
 
 -- the board with its lines at first, and after the pass
 abbrev first : tie.Start → Written
 first s = written_in s.args.sets.now s.args.lines.now s.args.w
 
-abbrev passed : tie.After-pass-line → Written
-passed p = written_in p.pass-line.new.0 p.pass-line.new.1.0 p.pass-line.result
+abbrev passed : tie.After-pass_line-s → Written
+passed p = written_in p.pass_line-s.new.0 p.pass_line-s.new.1.0 p.pass_line-s.result
 
-passed_is : (p : tie.After-pass-line) → passed p ≡ after (first (start p)) (pass (names (first (start p)).board.waiting) (first (start p)).board)
+passed_is : (p : tie.After-pass_line-s) → passed p ≡ after (first (start p)) (pass (names (first (start p)).board.waiting) (first (start p)).board)
 unfolding board_of
-passed_is p = p.pass-line.ensures.0
+passed_is p = p.pass_line-s.ensures.result_after
 
-pass-line-requires : tie.Need-pass-line-requires
+pass-line-requires : tie.Need-pass_line-s-requires
 unfolding board_of
 pass-line-requires c κs = let s = c.before.before in (s.requires.0, s.requires.1, settle-fits-pass (first s) s.requires.2, s.requires.3, s.requires.4)
 
-choose-next-requires : tie.Need-choose-next-requires
+choose-next-requires : tie.Need-choose_next-requires
 choose-next-requires c κs = let p = c.before.before in let s = start p in (
-  settle-loose (first s) (passed p) (passed_is p) s.pre.0 s.pre.1,
-  settle-counts (first s) (passed p) (passed_is p) s.pre.0 s.pre.1,
-  settle-fits-choose (first s) (passed p) (passed_is p) s.pre.2,
-  p.pass-line.ensures.1.0,
-  p.pass-line.ensures.1.1,
+  settle-loose (first s) (passed p) (passed_is p) s.requires.0 s.requires.1,
+  settle-counts (first s) (passed p) (passed_is p) s.requires.0 s.requires.1,
+  settle-fits-choose (first s) (passed p) (passed_is p) s.requires.2,
+  c.before.pass_line-s.ensures.store.0,
+  c.before.pass_line-s.ensures.store.1,
 )
 
 returns : tie.Need-returns
 returns c = let p = c.before.before.before in let s = start p in (
-  c.choose-next.ensures.0 ∙ settle_is (first s) (passed p) (passed_is p),
-  (p.pass-line.ensures.1.0, c.choose-next.ensures.1),
+  c.choose_next.ensures.result_after ∙ settle_is (first s) (passed p) (passed_is p),
+  (c.before.before.pass_line-s.ensures.store.0, c.choose_next.ensures.entries),
 )
 
-pub settle-lines-spec : {M : Type 1} → statement M
-settle-lines-spec = tie.close (tie.spec pass-line-requires choose-next-requires returns)
+pub settle_lines_spec : {M : Type 1} → statement M
+settle_lines_spec = tie.close (tie.spec pass-line-requires choose-next-requires returns)

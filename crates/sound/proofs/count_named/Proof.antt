@@ -12,18 +12,18 @@ use Rattle.sound.proofs.Named.{named_step}
 use Rattle.sound.proofs.count_named.Statement.{statement}
 use Rattle.sound.proofs.count_named.Tie as tie
 
-abbrev invariant-loop : tie.invariant-loop
+abbrev invariant-loop : tie.invariant-loop-k
 invariant-loop line n₀ k₀ n k = (k ≤ 32) × (n ≤ k) × (n + length (keep is_name (drop k line)) ≡ length (keep is_name line))
 
-abbrev decreases-loop : tie.decreases-loop
+abbrev decreases-loop : tie.decreases-loop-k
 decreases-loop line n₀ k₀ n k = 32 - k
 
-loop-holds : tie.Need-loop-init invariant-loop decreases-loop
-loop-holds c = (search rules, search rules, zero-add (length (keep is_name c.args.t1)))
+loop-holds : tie.Need-loop-k-init invariant-loop decreases-loop
+loop-holds c = (search rules, search rules, zero-add (length (keep is_name c.args.line)))
 
-loop-again : tie.Need-loop-preserved invariant-loop decreases-loop
-loop-again c = let s = c.before.before in let l = s.loop in let a = s.before.args.t1 in let n : length a ≡ 32 = search rules in
-    let e = c.one-named.ensures in (
+loop-again : tie.Need-loop-k-preserved invariant-loop decreases-loop
+loop-again c = let s = c.before.before in let l = s.loop-k in let a = s.before.args.line in let n : length a ≡ 32 = search rules in
+    let e = c.one_named-one.ensures in (
       search rules,
       omega (arith, e.1),
       omega (arith, l.invariant.2, e.0, named_step a l.k (omega arith)),
@@ -31,13 +31,13 @@ loop-again c = let s = c.before.before in let l = s.loop in let a = s.before.arg
 
 returns : tie.Need-returns invariant-loop decreases-loop
 unfolding keep
-returns c = let l = c.before.loop in let a = c.before.before.args.t1 in let n : length a ≡ 32 = search rules in
+returns c = let l = c.before.loop-k in let a = c.before.before.args.line in let n : length a ≡ 32 = search rules in
     let h : length a ≤ l.k = omega arith in
     let z : length (keep is_name (drop l.k a)) ≡ 0 = ap (λ (x : List ℕ). length (keep is_name x)) (drop_of_length-le a h) in
     omega (arith, l.invariant.2, z)
 
-pub count-named-spec : {M : Type 1} → statement M
-count-named-spec =
+pub count_named_spec : {M : Type 1} → statement M
+count_named_spec =
     tie.close
     (tie.spec
     invariant-loop

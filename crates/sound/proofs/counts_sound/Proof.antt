@@ -3,7 +3,6 @@ use mathlib.Core.Path.{◌≡◌, refl, sym, ◌∙◌}
 use Prim.Native.Nat.{◌-◌, ◌≤◌}
 use native.Mathlib.Numerals.{add-one}
 use native.Mathlib.Omega.{arith}
-use borrow.Author.Tests.{not_true, not-false}
 use borrow.Author.Rules.{rules}
 use Rattle.laws.specs.Lists.{all, rising}
 use Rattle.rules.specs.Boards.{everyone}
@@ -12,34 +11,34 @@ use Rattle.sound.specs.Parts.{count_at}
 use Rattle.sound.proofs.counts_sound.Statement.{statement}
 use Rattle.sound.proofs.counts_sound.Tie as tie
 
-abbrev invariant-loop : tie.invariant-loop
+abbrev invariant-loop : tie.invariant-loop-p
 invariant-loop rest p₀ p = (1 ≤ p) × (p ≤ 33) × (all (count_at rest) everyone ≡ all (count_at rest) (rising (33 - p) p))
 
-abbrev decreases-loop : tie.decreases-loop
+abbrev decreases-loop : tie.decreases-loop-p
 decreases-loop rest p₀ p = 33 - p
 
-loop-holds : tie.Need-loop-init invariant-loop decreases-loop
+loop-holds : tie.Need-loop-p-init invariant-loop decreases-loop
 unfolding everyone
 loop-holds c = (search rules, search rules, refl)
 
-returns : tie.Need-returns invariant-loop decreases-loop
-returns c = let l = c.before.before.before.before.before.loop in let r = c.before.before.before.before.before.before.args.t1 in
-    sym (rw (sym c.before.count-sound.ensures ∙ not_true c.before.count-sound.result c.if1.true) at
+returns : tie.Need-returns-then-not-count_sound invariant-loop decreases-loop
+returns c = let l = c.before.before.before.before.before.loop-p in let r = c.before.before.before.before.before.before.args.rest in
+    sym (rw (sym c.before.count_sound.ensures ∙ c.if-not-count_sound.true) at
     (l.invariant.2 ∙ all-step (count_at r) l.p (omega arith)))
 
-loop-again : tie.Need-loop-preserved invariant-loop decreases-loop
-loop-again c = let l = c.before.before.before.before.before.loop in let r = c.before.before.before.before.before.before.args.t1 in (
+loop-again : tie.Need-loop-p-preserved invariant-loop decreases-loop
+loop-again c = let l = c.before.before.before.before.before.loop-p in let r = c.before.before.before.before.before.before.args.rest in (
   search rules,
   search rules,
-  rw (add-one l.p) (rw (sym c.before.count-sound.ensures
-      ∙ not-false c.before.count-sound.result c.if1.false) at (l.invariant.2 ∙ all-step (count_at r) l.p (omega arith))),
+  rw (add-one l.p) (rw (sym c.before.count_sound.ensures
+      ∙ c.if-not-count_sound.false) at (l.invariant.2 ∙ all-step (count_at r) l.p (omega arith))),
 )
 
-returns-2 : tie.Need-returns-2 invariant-loop decreases-loop
-returns-2 c = let l = c.before.loop in sym (l.invariant.2 ∙ all_end (count_at c.before.before.args.t1) l.p (omega arith))
+returns-2 : tie.Need-returns invariant-loop decreases-loop
+returns-2 c = let l = c.before.loop-p in sym (l.invariant.2 ∙ all_end (count_at c.before.before.args.rest) l.p (omega arith))
 
-pub counts-sound-spec : {M : Type 1} → statement M
-counts-sound-spec =
+pub counts_sound_spec : {M : Type 1} → statement M
+counts_sound_spec =
     tie.close
     (tie.spec
     invariant-loop

@@ -1,7 +1,7 @@
 -- `item_sound` meets its contract. Assumes nothing.
 use mathlib.Core.Path.{◌≡◌, sym, ap, ◌∙◌}
 use Prim.Native.Nat.{ℕ, ◌-◌}
-use borrow.Author.Tests.{not_true, not-false, eq-eqb, ne_eqb}
+use borrow.Author.Tests.{eq-eqb, ne_eqb}
 use Rattle.files.specs.Sets.{member}
 use Rattle.rules.specs.Modes.{Inquiry}
 use Rattle.rules.specs.Soundness.{item_sound}
@@ -13,34 +13,34 @@ use Rattle.sound.proofs.item_sound.Statement.{statement}
 use Rattle.sound.proofs.item_sound.Tie as tie
 
 abbrev start : tie.After-has → tie.Start
-start h = h.before.before.before.before.before.before
+start h = h.before.before.before.before.before
 
 -- whether its file is in I
 inquired : (h : tie.After-has) → let a = (start h).args in h.has.result ≡ member (open_at a.sets.now a.p Inquiry) a.seat.file
 inquired h = let a = (start h).args in h.has.ensures
-    ∙ ap (λ (k : ℕ). member (set_in a.sets.now k) a.seat.file) h.before.before.before.inquiring-at.ensures.0
+    ∙ ap (λ (k : ℕ). member (set_in a.sets.now k) a.seat.file) h.before.before.inquiring_at-i.ensures.0
 
-returns : tie.Need-returns
+returns : tie.Need-returns-then-seat-eq0
 unfolding item_sound
-returns c = rw (eq-eqb c.before.before.args.seat.item 0 c.if1.true)
+returns c = rw (eq-eqb c.before.before.args.seat.item 0 c.if-seat-eq0.true)
 
-returns-2 : tie.Need-returns-2
+returns-2 : tie.Need-returns-then-not-has
 unfolding item_sound
 returns-2 c = let h = c.before in rw (
-  ne_eqb (start h).args.seat.item 0 h.before.before.before.before.if1.false,
-  sym (inquired h) ∙ not_true h.has.result c.if2.true,
+  ne_eqb (start h).args.seat.item 0 h.before.before.before.if-seat-eq0.false,
+  sym (inquired h) ∙ c.if-not-has.true,
 )
 
-returns-3 : tie.Need-returns-3
+returns-3 : tie.Need-returns
 unfolding item_sound
 returns-3 c = let i = c.before in let h = i.before in let a = (start h).args in rw (
-  ne_eqb a.seat.item 0 h.before.before.before.before.if1.false,
-  sym (inquired h) ∙ not-false h.has.result i.if2.false,
+  ne_eqb a.seat.item 0 h.before.before.before.if-seat-eq0.false,
+  sym (inquired h) ∙ i.if-not-has.false,
 )
-    (c.may-have.ensures ∙ may_have_lem a.seat.standing (program_with a.sets.now (a.p - 1) a.seat))
+    (c.may_have.ensures ∙ may_have_lem a.seat.standing (program_with a.sets.now (a.p - 1) a.seat))
 
-pub item-sound-spec : {M : Type 1} → statement M
-item-sound-spec =
+pub item_sound_spec : {M : Type 1} → statement M
+item_sound_spec =
     tie.close
     (tie.spec
     returns

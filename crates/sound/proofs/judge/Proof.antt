@@ -19,33 +19,33 @@ use Rattle.sound.proofs.judge.Tie as tie
 abbrev board : tie.Start → Board
 board s = board_of s.args.sets.now s.args.rest
 
-abbrev start : tie.After-order-in → tie.Start
+abbrev start : tie.After-order_in-order → tie.Start
 start c = c.before.before.before.before.before
 
-admitted : (c : tie.After-order-in) → c.before.before.before.before.admitted-seats.result ≡ admitted_set (board (start c))
-admitted c = c.before.before.before.before.admitted-seats.ensures ∙ seats_admitted (start c).args.sets.now (start c).args.rest
+admitted : (c : tie.After-order_in-order) → c.before.before.before.before.admitted-seats.result ≡ admitted_set (board (start c))
+admitted c = c.before.before.before.before.admitted_seats-admitted.ensures ∙ seats_admitted (start c).args.sets.now (start c).args.rest
 
-order : (c : tie.After-order-in) → c.order-in.result ≡ as_order (carried (board (start c)))
-order c = let s = start c in c.order-in.ensures
-    ∙ order_of_lem (board s) _ _ _ (board-sets s.args.sets.now s.args.rest s.pre) c.before.before.fill-rows.ensures (admitted c)
+order : (c : tie.After-order_in-order) → c.order-in.result ≡ as_order (carried (board (start c)))
+order c = let s = start c in c.order_in-order.ensures
+    ∙ order_of_lem (board s) _ _ _ (board-sets s.args.sets.now s.args.rest s.requires) c.before.before.fill_rows.ensures (admitted c)
 
-is-sound-by-requires : tie.Need-is-sound-by-requires
+is-sound-by-requires : tie.Need-is_sound_by-sound-requires
 is-sound-by-requires c κs = let h = c.before in let v = h.before in let i = v.before in let o = i.before in let s = start o in (
-  s.pre,
+  s.requires,
   record {
     admitted-are = admitted o;
-    is-ordered = i.is_found.ensures ∙ ap (λ (z : Order). is_found z.kind) (order o) ∙ has-found (carried (board s));
-    waiters-are = v.standing-set.ensures ∙ seats-stand s.args.sets.now s.args.rest false;
-    held-are = h.standing-set2.ensures ∙ seats-stand s.args.sets.now s.args.rest true;
+    is-ordered = i.is_found-ordered.ensures ∙ ap (λ (z : Order). is_found z.kind) (order o) ∙ has-found (carried (board s));
+    waiters-are = v.standing_set-waiters.ensures ∙ seats-stand s.args.sets.now s.args.rest false;
+    held-are = h.standing_set-held.ensures ∙ seats-stand s.args.sets.now s.args.rest true;
   },
-  o.before.before.fill-rows.ensures,
+  o.before.before.fill_rows.ensures,
 )
 
 returns : tie.Need-returns
-returns c = (c.is-sound-by.ensures, order c.before.before.before.before.before)
+returns c = (c.is_sound_by-sound.ensures, order c.before.before.before.before.before)
 
-pub judge-spec : {M : Type 1} → statement M
-judge-spec =
+pub judge_spec : {M : Type 1} → statement M
+judge_spec =
     tie.close
     (tie.spec
     (λ c κs. search rules)

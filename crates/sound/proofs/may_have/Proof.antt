@@ -3,11 +3,11 @@ use borrow.Author.Rules.{rules}
 use Rattle.sound.proofs.may_have.Statement.{statement}
 use Rattle.sound.proofs.may_have.Tie as tie
 
-returns-3 : tie.Need-returns-3
-returns-3 c = rw c.before.s.given.1
+returns-3 : tie.Need-returns-in-Waiting
+returns-3 c = rw c.in-Waiting.is
 
-pub may-have-spec : {M : Type 1} → statement M
-may-have-spec =
+pub may_have_spec : {M : Type 1} → statement M
+may_have_spec =
     tie.close
     (tie.spec
     (λ c. search rules)

@@ -4,11 +4,11 @@ use borrow.Author.Rules.{rules}
 use Rattle.sound.proofs.one_named.Statement.{statement}
 use Rattle.sound.proofs.one_named.Tie as tie
 
-returns : tie.Need-returns
-returns c = (rw (eq-eqb c.before.args.x 0 c.if1.true), search rules)
+returns : tie.Need-returns-then-x-eq0
+returns c = (rw (eq-eqb c.before.args.x 0 c.if-x-eq0.true), search rules)
 
-returns-2 : tie.Need-returns-2
-returns-2 c = (rw (ne_eqb c.before.args.x 0 c.if1.false), search rules)
+returns-2 : tie.Need-returns
+returns-2 c = (rw (ne_eqb c.before.args.x 0 c.if-x-eq0.false), search rules)
 
-pub one-named-spec : {M : Type 1} → statement M
-one-named-spec = tie.close (tie.spec returns returns-2)
+pub one_named_spec : {M : Type 1} → statement M
+one_named_spec = tie.close (tie.spec returns returns-2)

@@ -2,7 +2,7 @@
 use mathlib.Core.Path.{◌≡◌, sym, ap, ◌∙◌}
 use mathlib.Core.Bool.{false, ◌&&◌}
 use Prim.Native.Nat.{◌+◌}
-use borrow.Author.Tests.{not_true, not-false, eq-eqb, ne_eqb}
+use borrow.Author.Tests.{eq-eqb, ne_eqb}
 use borrow.Author.Rules.{rules}
 use lib.ListN.{length}
 use Rattle.laws.specs.Lists.{keep}
@@ -27,35 +27,35 @@ right c sets e = let a = c.before.args in c.has.ensures
     ∙ packed_is (stands_at (board_of sets a.rest) false) a.rest.favoured
 
 -- the programs of the set are the admitted ones
-counted : (c : tie.After-count) (sets : Sets) → let a = c.before.before.before.args in let b = board_of sets a.rest in
+counted : (c : tie.After-count-n) (sets : Sets) → let a = c.before.before.before.args in let b = board_of sets a.rest in
     a.admitted ≡ admitted_set b → length (admitted b) ≡ c.count.result
-counted c sets e = sym (c.count.ensures.0 ∙ ap (λ (s : ProgramSet). length (keep (has_program s) everyone)) e
+counted c sets e = sym (c.count-n.ensures.0 ∙ ap (λ (s : ProgramSet). length (keep (has_program s) everyone)) e
     ∙ ap length (admitted-those (board_of sets c.before.before.before.args.rest)))
 
-returns : tie.Need-returns
+returns : tie.Need-returns-then-not-has
 unfolding some_favoured board_of
-returns c = λ sets e d. rw (sym (right c.before sets e) ∙ not_true c.before.has.result c.if1.true)
+returns c = λ sets e d. rw (sym (right c.before sets e) ∙ c.if-not-has.true)
 
-returns-2 : tie.Need-returns-2
+returns-2 : tie.Need-returns-then-left-n
 unfolding some_favoured board_of
 returns-2 c = λ sets e d. let h = c.before.before.before.before in let r = h.before.args.rest in
     rw (
-      sym (right h sets e) ∙ not-false h.has.result c.before.before.before.if1.false,
+      sym (right h sets e) ∙ c.before.before.before.if-not-has.false,
       counted c.before.before sets d,
-      ne_eqb (r.leaves + c.before.before.count.result) r.initial c.if2.true,
+      ne_eqb (r.leaves + c.before.before.count-n.result) r.initial c.if-left-n.true,
     )
 
-returns-3 : tie.Need-returns-3
+returns-3 : tie.Need-returns
 unfolding some_favoured board_of
 returns-3 c = λ sets e d. let h = c.before.before.before.before in let r = h.before.args.rest in
     rw (
-      sym (right h sets e) ∙ not-false h.has.result c.before.before.before.if1.false,
+      sym (right h sets e) ∙ c.before.before.before.if-not-has.false,
       counted c.before.before sets d,
-      eq-eqb (r.leaves + c.before.before.count.result) r.initial c.if2.false,
+      eq-eqb (r.leaves + c.before.before.count-n.result) r.initial c.if-left-n.false,
     )
 
-pub some-favoured-spec : {M : Type 1} → statement M
-some-favoured-spec =
+pub some_favoured_spec : {M : Type 1} → statement M
+some_favoured_spec =
     tie.close
     (tie.spec
     (λ c κs. search rules)

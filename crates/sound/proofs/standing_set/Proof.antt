@@ -10,30 +10,30 @@ use Rattle.sound.specs.Parts.{seat_stands}
 use Rattle.sound.proofs.standing_set.Statement.{statement}
 use Rattle.sound.proofs.standing_set.Tie as tie
 
-abbrev invariant-loop : tie.invariant-loop
+abbrev invariant-loop : tie.invariant-loop-p
 invariant-loop held rest set₀ p₀ set p = (1 ≤ p) × (p ≤ 33) × (set ≡ packed (seat_stands rest held) (p - 1))
 
-abbrev decreases-loop : tie.decreases-loop
+abbrev decreases-loop : tie.decreases-loop-p
 decreases-loop held rest set₀ p₀ set p = 33 - p
 
-loop-holds : tie.Need-loop-init invariant-loop decreases-loop
+loop-holds : tie.Need-loop-p-init invariant-loop decreases-loop
 unfolding packed
 loop-holds c = (search rules, search rules, refl)
 
-loop-again : tie.Need-loop-preserved invariant-loop decreases-loop
-loop-again c = let l = c.before.before.before.before.loop in let a = c.before.before.before.before.before.args in (
+loop-again : tie.Need-loop-p-preserved invariant-loop decreases-loop
+loop-again c = let l = c.before.before.before.before.loop-p in let a = c.before.before.before.before.before.args in (
   search rules,
   search rules,
-  packed_more (seat_stands a.t1 a.held) l.p l.set c.join.result l.invariant.0 l.invariant.2
-      (c.join.ensures ∙ ap (joined l.set l.p) c.before.does-stand.ensures),
+  packed_more (seat_stands a.rest a.held) l.p l.set c.join-set.result l.invariant.0 l.invariant.2
+      (c.join-set.ensures ∙ ap (joined l.set l.p) c.before.does_stand-yes.ensures),
 )
 
 returns : tie.Need-returns invariant-loop decreases-loop
-returns c = let l = c.before.loop in let a = c.before.before.args in
-    packed_all (seat_stands a.t1 a.held) l.p l.set (omega arith) l.invariant.2
+returns c = let l = c.before.loop-p in let a = c.before.before.args in
+    packed_all (seat_stands a.rest a.held) l.p l.set (omega arith) l.invariant.2
 
-pub standing-set-spec : {M : Type 1} → statement M
-standing-set-spec =
+pub standing_set_spec : {M : Type 1} → statement M
+standing_set_spec =
     tie.close
     (tie.spec
     invariant-loop

@@ -3,7 +3,7 @@ use mathlib.Core.Path.{◌≡◌, sym, ap, ◌∙◌}
 use mathlib.Core.Bool.{true, not}
 use Prim.Native.Nat.{ℕ}
 use lib.Dec.{eqb}
-use borrow.Author.Tests.{not_true, not-false, eq-eqb, ne_eqb}
+use borrow.Author.Tests.{eq-eqb, ne_eqb}
 use Rattle.files.specs.declared.FileSet.{FileSet}
 use Rattle.files.specs.Sets.{member}
 use Rattle.rules.specs.declared.Board.{Board}
@@ -19,55 +19,55 @@ use Rattle.sound.proofs.waiter_sound.Statement.{statement}
 use Rattle.sound.proofs.waiter_sound.Tie as tie
 
 -- whether the file is claimed
-claimed : (h : tie.After-has-claim) (b : Board) → SetsOf b h.before.before.args.sets.now
+claimed : (h : tie.After-has_claim) (b : Board) → SetsOf b h.before.before.args.sets.now
     → h.has-claim.result ≡ claims (at b h.before.before.args.p) h.before.before.args.f
-claimed h b s = let a = h.before.before.args in let e = h.before.before.requires.0 in h.has-claim.ensures
+claimed h b s = let a = h.before.before.args in let e = h.before.before.requires.0 in h.has_claim.ensures
     ∙ same_mode (λ m. member (claim_at a.sets.now a.p m) a.f) (λ m. member (claim_of m (at b a.p)) a.f)
     (λ m. ap (λ (x : FileSet). member x a.f) (claim-is b a.sets.now s a.p e.0 e.1 m))
 
-abbrev start : tie.After-has-open → tie.Start
+abbrev start : tie.After-has_open → tie.Start
 start o = o.before.before.before.before
 
 -- and whether it is open
-opened : (o : tie.After-has-open) (b : Board) → SetsOf b (start o).args.sets.now
+opened : (o : tie.After-has_open) (b : Board) → SetsOf b (start o).args.sets.now
     → o.has-open.result ≡ has_open (at b (start o).args.p) (start o).args.f
-opened o b s = let a = (start o).args in let e = (start o).requires.0 in o.has-open.ensures
+opened o b s = let a = (start o).args in let e = (start o).requires.0 in o.has_open.ensures
     ∙ same_mode (λ m. member (open_at a.sets.now a.p m) a.f) (λ m. member (open_of m (at b a.p)) a.f)
     (λ m. ap (λ (x : FileSet). member x a.f) (open_is b a.sets.now s a.p e.0 e.1 m))
 
 -- it waits for no record
-no_record : (i : tie.Else1) (b : Board) → (at b i.before.args.p).item ≡ i.before.args.n → eqb (at b i.before.args.p).item 0 ≡ true
-no_record i b e = eq-eqb (at b i.before.args.p).item 0 (e ∙ i.if1.false)
+no_record : (i : tie.Else-n-ne0) (b : Board) → (at b i.before.args.p).item ≡ i.before.args.n → eqb (at b i.before.args.p).item 0 ≡ true
+no_record i b e = eq-eqb (at b i.before.args.p).item 0 (e ∙ i.if-n-ne0.false)
 
-returns : tie.Need-returns
+returns : tie.Need-returns-then-n-ne0
 unfolding waiter_sound
-returns c = λ b k a e. let s = c.before.args in rw (ap (λ (x : ℕ). eqb x 0) e ∙ ne_eqb s.n 0 c.if1.true)
+returns c = λ b k a e. let s = c.before.args in rw (ap (λ (x : ℕ). eqb x 0) e ∙ ne_eqb s.n 0 c.if-n-ne0.true)
 
-returns-2 : tie.Need-returns-2
+returns-2 : tie.Need-returns-then-not-has_claim
 unfolding waiter_sound
 returns-2 c = λ b k a e. let h = c.before in
-    rw (no_record h.before b e, sym (claimed h b k.in-sets) ∙ not_true h.has-claim.result c.if2.true)
+    rw (no_record h.before b e, sym (claimed h b k.in-sets) ∙ c.if-not-has_claim.true)
 
-returns-3 : tie.Need-returns-3
+returns-3 : tie.Need-returns-then-has_open
 unfolding waiter_sound
 returns-3 c = λ b k a e. let i = c.before.before in let h = i.before in rw (
   no_record h.before b e,
-  sym (claimed h b k.in-sets) ∙ not-false h.has-claim.result i.if2.false,
-  sym (opened c.before b k.in-sets) ∙ c.if3.true,
+  sym (claimed h b k.in-sets) ∙ i.if-not-has_claim.false,
+  sym (opened c.before b k.in-sets) ∙ c.if-has_open.true,
 )
 
-returns-4 : tie.Need-returns-4
+returns-4 : tie.Need-returns
 unfolding waiter_sound
 returns-4 c = λ b k a e. let j = c.before in let i = j.before.before in let h = i.before in let s = h.before.before in rw (
   no_record h.before b e,
-  sym (claimed h b k.in-sets) ∙ not-false h.has-claim.result i.if2.false,
-  sym (opened j.before b k.in-sets) ∙ j.if3.false,
+  sym (claimed h b k.in-sets) ∙ i.if-not-has_claim.false,
+  sym (opened j.before b k.in-sets) ∙ j.if-has_open.false,
 )
     (ap not (give_by s.args.sets.now s.args.uses s.args.p s.args.f _ s.requires.0.0 s.requires.0.1
-    c.can-give-by.ensures b k.in-sets k.in_use k.apart k.ordered a
-    (sym (opened j.before b k.in-sets) ∙ j.if3.false)))
+    c.can_give_by.ensures b k.in-sets k.in_use k.apart k.ordered a
+    (sym (opened j.before b k.in-sets) ∙ j.if-has_open.false)))
 
-pub waiter-sound-spec : {M : Type 1} → statement M
-waiter-sound-spec =
+pub waiter_sound_spec : {M : Type 1} → statement M
+waiter_sound_spec =
     tie.close
     (tie.spec returns (λ c κs. search rules) returns-2 (λ c κs. search rules) returns-3 (λ c κs. search rules) returns-4)

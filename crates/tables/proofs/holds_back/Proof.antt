@@ -8,7 +8,7 @@ use Rattle.tables.proofs.holds_back.Statement.{statement}
 use Rattle.tables.proofs.holds_back.Tie as tie
 
 -- the places of the six sets are known
-module _ (c : tie.After-inquirable-at) where
+module _ (c : tie.After-inquirable_at-j) where
   abbrev start : tie.Start
   start = c.before.before.before.before.before.before
 
@@ -29,21 +29,21 @@ module _ (c : tie.After-inquirable-at) where
 -- the rows have as many words as a set
 touches-requires : tie.Need-touches-requires
 touches-requires c κs = let r = c.before.before.before.before.before.before.before.before.before.before.before.before in
-    let s = (start r).requires.2 in let w = r.before.before.before.before.before in
-    let n = s.words_are w.writing-at.result w.writing-at.ensures.1 in record {
-      of-r = let x = r.before.before.before.before in s.words_are x.reading-at.result x.reading-at.ensures.1 ∙ sym n;
-      of-i = let x = r.before.before.before in s.words_are x.inquiring-at.result x.inquiring-at.ensures.1 ∙ sym n;
-      of-v = let x = r.before.before in s.words_are x.writable-at.result x.writable-at.ensures.1 ∙ sym n;
-      of-q = let x = r.before in s.words_are x.readable-at.result x.readable-at.ensures.1 ∙ sym n;
-      of-j = s.words_are r.inquirable-at.result r.inquirable-at.ensures.1 ∙ sym n;
+    let s = (start r).requires.2 in let w = r in
+    let n = s.words_are c.before.before.before.before.before.before.before.before.before.before.before.writing_at-w.result c.before.before.before.before.before.before.before.before.before.before.before.writing_at-w.ensures.1 in record {
+      of-r = let x = r in s.words_are c.before.before.before.before.before.before.before.before.before.before.reading_at-r.result c.before.before.before.before.before.before.before.before.before.before.reading_at-r.ensures.1 ∙ sym n;
+      of-i = let x = r in s.words_are c.before.before.before.before.before.before.before.before.before.inquiring_at-i.result c.before.before.before.before.before.before.before.before.before.inquiring_at-i.ensures.1 ∙ sym n;
+      of-v = let x = r in s.words_are c.before.before.before.before.before.before.before.before.writable_at-v.result c.before.before.before.before.before.before.before.before.writable_at-v.ensures.1 ∙ sym n;
+      of-q = let x = r in s.words_are c.before.before.before.before.before.before.before.readable_at-c.result c.before.before.before.before.before.before.before.readable_at-c.ensures.1 ∙ sym n;
+      of-j = s.words_are c.before.before.before.before.before.before.inquirable_at-j.result c.before.before.before.before.before.before.inquirable_at-j.ensures.1 ∙ sym n;
     }
 
 returns : tie.Need-returns
 returns c = let r = c.before.before.before.before.before.before.before.before.before.before.before.before.before in
     c.touches.ensures ∙ touching-same _ _ _ _ (open-read r) (claims-read r)
 
-pub holds-back-spec : {M : Type 1} → statement M
-holds-back-spec =
+pub holds_back_spec : {M : Type 1} → statement M
+holds_back_spec =
     tie.close
     (tie.spec
     (λ c κs. search rules)

@@ -6,7 +6,7 @@ use Rattle.whole.proofs.board.Tie as tie
 
 returns : tie.Need-returns
 unfolding board_of
-returns c = rw c.before.before.before.programs.ensures
+returns c = rw c.before.before.before.programs-programs.ensures
 
-pub board-spec : {M : Type 1} → statement M
-board-spec = tie.close (tie.spec (λ c κs. search rules) returns)
+pub board_spec : {M : Type 1} → statement M
+board_spec = tie.close (tie.spec (λ c κs. search rules) returns)

@@ -20,16 +20,16 @@ returns c =
     let k₁ = k₂.before in
     let sets = k₁.before.args.sets.now in
     rw (
-      s₁.set_at.ensures ∙ ap (set_in sets) k₁.writable-at.ensures.0,
-      s₂.set-at2.ensures ∙ ap (set_in sets) k₂.readable-at.ensures.0,
-      s₃.set-at3.ensures ∙ ap (set_in sets) k₃.inquirable-at.ensures.0,
-      s₄.set-at4.ensures ∙ ap (set_in sets) k₄.writing-at.ensures.0,
-      s₅.set-at5.ensures ∙ ap (set_in sets) k₅.reading-at.ensures.0,
-      c.set-at6.ensures ∙ ap (set_in sets) k₆.inquiring-at.ensures.0,
+      s₁.set_at-writable.ensures ∙ ap (set_in sets) k₁.writable_at-v.ensures.0,
+      s₂.set_at-readable.ensures ∙ ap (set_in sets) k₂.readable_at-q.ensures.0,
+      s₃.set_at-inquirable.ensures ∙ ap (set_in sets) k₃.inquirable_at-j.ensures.0,
+      s₄.set_at-writing.ensures ∙ ap (set_in sets) k₄.writing_at-w.ensures.0,
+      s₅.set_at-reading.ensures ∙ ap (set_in sets) k₅.reading_at-r.ensures.0,
+      c.set_at-inquiring.ensures ∙ ap (set_in sets) k₆.inquiring_at-i.ensures.0,
     )
 
-pub program-spec : {M : Type 1} → statement M
-program-spec =
+pub program_spec : {M : Type 1} → statement M
+program_spec =
     tie.close
     (tie.spec
     (λ c κs. search rules)

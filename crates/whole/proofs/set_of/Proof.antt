@@ -5,7 +5,7 @@ use Rattle.whole.proofs.set_of.Statement.{statement}
 use Rattle.whole.proofs.set_of.Tie as tie
 
 returns : tie.Need-returns
-returns c = let s = c.before in word_set s.args.s.now s.requires (c.shared-slice-known.given 0).fits
+returns c = let s = c.before in word_set s.args.s.now s.requires (c.shared_slice_known-1.given 0).fits
 
-pub set-of-spec : {M : Type 1} → statement M
-set-of-spec = tie.close (tie.spec (λ c. search rules) returns)
+pub set_of_spec : {M : Type 1} → statement M
+set_of_spec = tie.close (tie.spec (λ c. search rules) returns)

@@ -6,25 +6,25 @@ use Rattle.writer.proofs.put_head.Statement.{statement}
 use Rattle.writer.proofs.put_head.Tie as tie
 
 -- where the verb's columns are written, and where they are known
-abbrev with-verb : tie.After-put-number → tie.After-put
+abbrev with-verb : tie.After-put_number → tie.After-put-at
 with-verb k = k.before.before.before.before
 
-abbrev known : tie.After-put → tie.After-verb-bytes
+abbrev known : tie.After-put-at → tie.After-verb_bytes-word
 known w = w.before.before.before
 
 returns : tie.Need-returns
 returns c =
-    let k = c.before.before.put-number in
+    let k = c.before.before.put_number in
     let p = with-verb c.before.before in
-    let w = p.put in
-    let v = (known p).verb-bytes in
+    let w = p.put-at in
+    let v = (known p).verb_bytes-word in
     let s = (known p).before.before in
     let e = head_put s.args.verb s.args.program w.result v.result s.args.line.now w.last.0 k.new.0
-    s.pre v.ensures w.ensures.0 w.ensures.1 k.ensures.1 in
-    (omega (arith, e.0, k.ensures.0), e.1)
+    s.pre v.ensures w.ensures.value w.ensures.line_after k.ensures.line_after in
+    (omega (arith, e.0, k.ensures.value), e.1)
 
-pub put-head-spec : {M : Type 1} → statement M
-put-head-spec =
+pub put_head_spec : {M : Type 1} → statement M
+put_head_spec =
     tie.close
     (tie.spec
     (λ c κs. search rules)

@@ -7,10 +7,10 @@ use Rattle.writer.proofs.put_number.Tie as tie
 
 returns : tie.Need-returns
 returns c = let s = c.before.before.before.before.before in let a = s.args in
-    (refl, put_columns a.at a.width a.n a.line.now _ s.requires.1 c.before.before.put-number.ensures)
+    (refl, put_columns a.at a.width a.n a.line.now _ s.requires.1 c.before.before.put_number.ensures)
 
-pub put-number-spec : {M : Type 1} → statement M
-put-number-spec =
+pub put_number_spec : {M : Type 1} → statement M
+put_number_spec =
     tie.close
     (tie.spec
     (λ c. search rules)

@@ -3,7 +3,6 @@ use mathlib.Core.Path.{◌≡◌, sym, subst, ◌∙◌}
 use mathlib.Core.Bool.{true}
 use mathlib.Core.List.{List}
 use Prim.Native.Nat.{ℕ}
-use borrow.Author.Tests.{not_true, not-false}
 use Rattle.rules.specs.Boards.{is_program}
 use Rattle.request.specs.declared.Shape.{Shape}
 use Rattle.request.specs.Verbs.{shape_of}
@@ -13,51 +12,51 @@ use borrow.Author.Rules.{rules}
 use Rattle.writer.proofs.write.Statement.{statement}
 use Rattle.writer.proofs.write.Tie as tie
 
-abbrev start : tie.Else1 → tie.Start
+abbrev start : tie.Else-not-is_number → tie.Start
 start e = e.before.before.before.before
 
-is-program : (e : tie.Else1) → is_program (start e).args.a.program ≡ true
-is-program e = let k = e.before.is-number in sym k.ensures ∙ not-false k.result e.if1.false
+is-program : (e : tie.Else-not-is_number) → is_program (start e).args.a.program ≡ true
+is-program e = let k = e.before.is_number in sym k.ensures ∙ e.if-not-is_number.false
 
 -- where the shape of the verb is known, and before it that the program is one
-abbrev in_range : tie.After-shape-of → tie.Else1
+abbrev in_range : tie.After-shape_of-shape → tie.Else-not-is_number
 in_range r = r.before
 
 -- what was written for this shape
-shaped : (r : tie.After-shape-of) (s : Shape) (w : Writing) (after : List ℕ) → r.shape-of.result ≡ s
+shaped : (r : tie.After-shape_of-shape) (s : Shape) (w : Writing) (after : List ℕ) → r.shape-of.result ≡ s
     → let a = (start (in_range r)).args in WroteAs a.a a.label.now a.line.now s w after → Wrote a.a a.label.now a.line.now w after
 shaped r s w after e h = let a = (start (in_range r)).args in
     by_shape a.a a.label.now a.line.now w after
-    (subst (λ (x : Shape). WroteAs a.a a.label.now a.line.now x w after) (sym e ∙ r.shape-of.ensures) h)
+    (subst (λ (x : Shape). WroteAs a.a a.label.now a.line.now x w after) (sym e ∙ r.shape_of-shape.ensures) h)
 
-returns : tie.Need-returns
-returns c = let k = c.before.is-number in let a = c.before.before.before.before.args in
+returns : tie.Need-returns-then-not-is_number
+returns c = let k = c.before.is_number in let a = c.before.before.before.before.args in
     by_shape a.a a.label.now a.line.now _ _ (out_of_range a.a a.label.now a.line.now (shape_of a.a.verb)
-    (sym k.ensures ∙ not_true k.result c.if1.true))
+    (sym k.ensures ∙ c.if-not-is_number.true))
 
-returns-2 : tie.Need-returns-2
-returns-2 c = let k = c.before.before.write-enter in let m = c.before.before.before.before in
-    let r = m.before.before in let e = in_range r in let a = (start e).args in
-    shaped r Shape.Entry k.result k.new.1.1.0 m.enum_told.given.1
-    (as-entry a.a a.label.now a.line.now k.result k.new.1.1.0 (is-program e) k.ensures.0 k.ensures.1)
+returns-2 : tie.Need-returns-in-Entry
+returns-2 c = let k = c.before.before.write_enter in let m = c.before.before.before.before in
+    let r = m.before in let e = in_range r in let a = (start e).args in
+    shaped r Shape.Entry k.result k.new.1.1.0 m.in-Entry.is
+    (as-entry a.a a.label.now a.line.now k.result k.new.1.1.0 (is-program e) k.ensures.value k.ensures.line_after)
 
-returns-3 : tie.Need-returns-3
-returns-3 c = let k = c.before.before.write-file in let m = c.before.before.before.before in
-    let r = m.before.before in let e = in_range r in let a = (start e).args in
-    shaped r Shape.File k.result k.new.1.0 m.enum-told2.given.1
-    (as-file a.a a.label.now a.line.now k.result k.new.1.0 (is-program e) k.ensures.0 k.ensures.1)
+returns-3 : tie.Need-returns-in-File
+returns-3 c = let k = c.before.before.write_file in let m = c.before.before.before.before in
+    let r = m.before in let e = in_range r in let a = (start e).args in
+    shaped r Shape.File k.result k.new.1.0 m.in-File.is
+    (as-file a.a a.label.now a.line.now k.result k.new.1.0 (is-program e) k.ensures.value k.ensures.line_after)
 
-returns-4 : tie.Need-returns-4
-returns-4 c = let k = c.before.before.write-record in let m = c.before.before.before.before in
-    let r = m.before.before in let e = in_range r in let a = (start e).args in
-    shaped r Shape.Record k.result k.new.1.0 m.enum-told3.given.1
-    (as-record a.a a.label.now a.line.now k.result k.new.1.0 (is-program e) k.ensures.0 k.ensures.1)
+returns-4 : tie.Need-returns-in-Record
+returns-4 c = let k = c.before.before.write_record in let m = c.before.before.before.before in
+    let r = m.before in let e = in_range r in let a = (start e).args in
+    shaped r Shape.Record k.result k.new.1.0 m.in-Record.is
+    (as-record a.a a.label.now a.line.now k.result k.new.1.0 (is-program e) k.ensures.value k.ensures.line_after)
 
-returns-5 : tie.Need-returns-5
+returns-5 : tie.Need-returns-in-Alone
 returns-5 c = let k = c.before.before.write_alone in let m = c.before.before.before.before in
-    let r = m.before.before in let e = in_range r in let a = (start e).args in
-    shaped r Shape.Alone k.result k.new.1.0 m.enum-told4.given.1
-    (as-alone a.a a.label.now a.line.now k.result k.new.1.0 (is-program e) k.ensures.0 k.ensures.1)
+    let r = m.before in let e = in_range r in let a = (start e).args in
+    shaped r Shape.Alone k.result k.new.1.0 m.in-Alone.is
+    (as-alone a.a a.label.now a.line.now k.result k.new.1.0 (is-program e) k.ensures.value k.ensures.line_after)
 
 pub write_spec : {M : Type 1} → statement M
 write_spec =

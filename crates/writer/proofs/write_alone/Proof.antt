@@ -8,17 +8,17 @@ use borrow.Author.Rules.{rules}
 use Rattle.writer.proofs.write_alone.Statement.{statement}
 use Rattle.writer.proofs.write_alone.Tie as tie
 
-returns : tie.Need-returns
+returns : tie.Need-returns-then-line-lt-ALONE_LEN
 returns c = let a = c.before.before.args in
-    placed_short (line_as Shape.Alone a.a []) a.line.now alone_length (alone_length_lem a.a) c.if1.true
+    placed_short (line_as Shape.Alone a.a []) a.line.now alone_length (alone_length_lem a.a) c.if-line-lt-ALONE_LEN.true
 
-returns-2 : tie.Need-returns-2
+returns-2 : tie.Need-returns
 returns-2 c =
-    let k = c.before.before.put-head in
+    let k = c.before.before.put_head-end in
     let i = c.before.before.before.before in
     let a = i.before.before.args in
-    placed_all (line_as Shape.Alone a.a []) a.line.now k.new.0 alone_length k.result (alone_length_lem a.a) i.if1.false
-    k.ensures.0 k.ensures.1
+    placed_all (line_as Shape.Alone a.a []) a.line.now k.new.0 alone_length k.result (alone_length_lem a.a) i.if-line-lt-ALONE_LEN.false
+    k.ensures.value k.ensures.line_after
 
-pub write-alone-spec : {M : Type 1} → statement M
-write-alone-spec = tie.close (tie.spec returns (λ c κs. search rules) (λ c. search rules) returns-2)
+pub write_alone_spec : {M : Type 1} → statement M
+write_alone_spec = tie.close (tie.spec returns (λ c κs. search rules) (λ c. search rules) returns-2)

@@ -13,67 +13,67 @@ use Rattle.writer.proofs.write_entry.Statement.{statement}
 use Rattle.writer.proofs.write_entry.Tie as tie
 
 -- where the counts are known
-abbrev with-r : tie.After-count3 → tie.After-count2
+abbrev with-r : tie.After-count-j → tie.After-count-r
 with-r k = k.before
 
-abbrev with-w : tie.After-count3 → tie.After-count
+abbrev with-w : tie.After-count-j → tie.After-count-w
 with-w k = k.before.before
 
-abbrev start : tie.After-count3 → tie.Start
+abbrev start : tie.After-count-j → tie.Start
 start k = (with-w k).before.before.before.before
 
 -- a set has at most 64 files
-few : (k : tie.After-count3) → ((with-w k).count.result ≤ 64) × ((with-r k).count2.result ≤ 64) × (k.count3.result ≤ 64)
+few : (k : tie.After-count-j) → ((with-w k).count.result ≤ 64) × ((with-r k).count2.result ≤ 64) × (k.count3.result ≤ 64)
 few k = let a = (start k).args in
     let v = files-length a.a.claims.writable in let q = files-length a.a.claims.readable in let j = files-length a.a.claims.inquirable in
-    (omega (arith, v, (with-w k).count.ensures), omega (arith, q, (with-r k).count2.ensures), omega (arith, j, k.count3.ensures))
+    (omega (arith, v, (with-w k).count-w.ensures), omega (arith, q, (with-r k).count-r.ensures), omega (arith, j, k.count-j.ensures))
 
-add-len : tie.Need-overflow-add-len
+add-len : tie.Need-overflow_add-len
 add-len c = let n = few c in search (rules, n)
 
-add-len-2 : tie.Need-overflow-add-len-2
+add-len-2 : tie.Need-overflow_add-len-2
 add-len-2 c = let n = few c in search (rules, n)
 
-mul-len : tie.Need-overflow-mul-len
+mul-len : tie.Need-overflow_mul-len
 mul-len c = let n = few c in search (rules, n)
 
-add-len-3 : tie.Need-overflow-add-len-3
+add-len-3 : tie.Need-overflow_add-len-3
 add-len-3 c = let n = few c in search (rules, n)
 
-returns : tie.Need-returns
+returns : tie.Need-returns-then-line-len
 returns c =
     let k = c.before in
     let s = start k in
     let a = s.args in
     placed_short (line_as Shape.Entry a.a a.label.now) a.line.now (entry_length (claims_count a.a.claims))
-    (enter-length a.a a.label.now s.pre)
-    (omega (arith, c.if1.true, (with-w k).count.ensures, (with-r k).count2.ensures, k.count3.ensures))
+    (enter-length a.a a.label.now s.requires)
+    (omega (arith, c.if-line-len.true, (with-w k).count-w.ensures, (with-r k).count-r.ensures, k.count-j.ensures))
 
 -- where the columns before the files are written, and where the line is known to fit
-abbrev with-entry : tie.After-put-claims → tie.After-put-entry
+abbrev with-entry : tie.After-put_claims-end → tie.After-put_entry-after_counts
 with-entry x = x.before.before.before.before
 
-abbrev fits : tie.After-put-entry → tie.Else1
+abbrev fits : tie.After-put_entry-after_counts → tie.Else-line-len
 fits h = h.before.before
 
-returns-2 : tie.Need-returns-2
+returns-2 : tie.Need-returns
 returns-2 c =
-    let x = c.before.before.put-claims in
+    let x = c.before.before.put_claims-end in
     let p = with-entry c.before.before in
-    let h = p.put-entry in
+    let h = p.put_entry-after_counts in
     let k = (fits p).before in
     let s = start k in
     let a = s.args in
     let room : entry_length (claims_count a.a.claims) ≤ length a.line.now =
-    omega (arith, (fits p).if1.left, (with-w k).count.ensures, (with-r k).count2.ensures, k.count3.ensures) in
-    let e = head_counts a.a (with-w k).count.result (with-r k).count2.result k.count3.result a.label.now a.line.now h.last.0
-    (with-w k).count.ensures (with-r k).count2.ensures k.count3.ensures h.ensures.1 in
+    omega (arith, (fits p).if-line-len.false, (with-w k).count-w.ensures, (with-r k).count-r.ensures, k.count3.ensures) in
+    let e = head_counts a.a (with-w k).count-w.result (with-r k).count-r.result k.count3.result a.label.now a.line.now h.last.0
+    (with-w k).count-w.ensures (with-r k).count-r.ensures k.count3.ensures h.ensures.line_after in
     placed_all (line_as Shape.Entry a.a a.label.now) a.line.now x.new.0 (entry_length (claims_count a.a.claims)) x.result
-    (enter-length a.a a.label.now s.pre) room (omega (arith, x.ensures.0, h.ensures.0))
-    (enter-put a.a h.result a.label.now a.line.now h.last.0 x.new.0 s.pre room h.ensures.0 e x.ensures.1)
+    (enter-length a.a a.label.now s.requires) room (omega (arith, x.ensures.value, h.ensures.value))
+    (enter-put a.a h.result a.label.now a.line.now h.last.0 x.new.0 s.requires room h.ensures.value e x.ensures.line_after)
 
-pub write-entry-spec : {M : Type 1} → statement M
-write-entry-spec =
+pub write_entry_spec : {M : Type 1} → statement M
+write_entry_spec =
     tie.close
     (tie.spec
     (λ c κs. search rules)

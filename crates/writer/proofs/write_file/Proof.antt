@@ -2,7 +2,6 @@
 use mathlib.Core.Path.{◌≡◌, sym, ◌∙◌}
 use mathlib.Core.Bool.{true}
 use native.Mathlib.Omega.{arith}
-use borrow.Author.Tests.{not_true, not-false}
 use Rattle.files.specs.Sets.{is_file}
 use mathlib.Core.List.{[]}
 use Rattle.request.specs.declared.Shape.{Shape}
@@ -13,44 +12,44 @@ use borrow.Author.Rules.{rules}
 use Rattle.writer.proofs.write_file.Statement.{statement}
 use Rattle.writer.proofs.write_file.Tie as tie
 
-returns : tie.Need-returns
-returns c = let k = c.before.is-number in let a = c.before.before.before.args in
-    file-refused a.a a.line.now (sym k.ensures ∙ not_true k.result c.if1.true)
+returns : tie.Need-returns-then-not-is_number
+returns c = let k = c.before.is_number in let a = c.before.before.before.args in
+    file-refused a.a a.line.now (sym k.ensures ∙ c.if-not-is_number.true)
 
-abbrev start : tie.Else1 → tie.Start
+abbrev start : tie.Else-not-is_number → tie.Start
 start e = e.before.before.before
 
 -- the file is one
-is-file : (c : tie.Else1) → is_file (start c).args.a.file ≡ true
-is-file c = let k = c.before.is-number in sym k.ensures ∙ not-false k.result c.if1.false
+is-file : (c : tie.Else-not-is_number) → is_file (start c).args.a.file ≡ true
+is-file c = let k = c.before.is_number in sym k.ensures ∙ c.if-not-is_number.false
 
-returns-2 : tie.Need-returns-2
+returns-2 : tie.Need-returns-then-line-lt-FILE_LEN
 returns-2 c = let a = (start c.before).args in
     file-placed a.a a.line.now _ _ (is-file c.before)
-    (placed_short (line_as Shape.File a.a []) a.line.now file_length (file_length_lem a.a) c.if2.true)
+    (placed_short (line_as Shape.File a.a []) a.line.now file_length (file_length_lem a.a) c.if-line-lt-FILE_LEN.true)
 
 -- where the line is known to fit, and the columns of verb and program are written
-abbrev with-head : tie.After-put-number → tie.After-put-head
+abbrev with-head : tie.After-put_number-end → tie.After-put_head-at
 with-head k = k.before.before.before.before
 
-abbrev fits : tie.After-put-head → tie.Else2
+abbrev fits : tie.After-put_head-at → tie.Else-line-lt-FILE_LEN
 fits h = h.before.before
 
-returns-3 : tie.Need-returns-3
+returns-3 : tie.Need-returns
 returns-3 c =
-    let k = c.before.before.put-number in
+    let k = c.before.before.put_number-end in
     let p = with-head c.before.before in
-    let h = p.put-head in
+    let h = p.put_head-at in
     let i = fits p in
     let a = (start i.before).args in
     let e = file_put a.a h.result a.line.now h.last.0 k.new.0
-    i.if2.left h.ensures.0 h.ensures.1 k.ensures.1 in
+    i.if-line-lt-FILE_LEN.false h.ensures.value h.ensures.line_after k.ensures.line_after in
     file-placed a.a a.line.now _ _ (is-file i.before)
     (placed_all (line_as Shape.File a.a []) a.line.now k.new.0 file_length k.result
-    (file_length_lem a.a) i.if2.left (omega (arith, k.ensures.0, h.ensures.0)) e)
+    (file_length_lem a.a) i.if-line-lt-FILE_LEN.false (omega (arith, k.ensures.value, h.ensures.value)) e)
 
-pub write-file-spec : {M : Type 1} → statement M
-write-file-spec =
+pub write_file_spec : {M : Type 1} → statement M
+write_file_spec =
     tie.close
     (tie.spec
     (λ c κs. search rules)

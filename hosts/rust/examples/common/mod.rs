@@ -1,11 +1,9 @@
 //! The C functions that all three example hosts share (hosts/c), for the host in Rust.
 
 use std::ffi::{c_char, c_int, c_ulong, CString};
-use std::fmt::Display;
-use std::fs::File;
-use std::io::{self, BufReader, Write};
-use std::os::fd::AsFd;
+use std::io;
 use std::os::unix::ffi::OsStringExt;
+use std::path::PathBuf;
 
 use lock_board::{Board, Reply, IMAGE_LEN};
 
@@ -13,24 +11,22 @@ mod c {
     use super::{c_char, c_int, c_ulong};
 
     extern "C" {
-        pub fn options_take(argument: *const c_char);
-        pub fn options_done(host: *const c_char) -> c_int;
-        pub fn options_image() -> *const c_char;
         pub fn session_begin();
-        pub fn session_open(path: *const c_char, image: *mut u8, labels: *mut u8) -> c_int;
-        pub fn session_keep(
+        pub fn session_journal_failed(line: c_ulong, reason: c_int);
+        pub fn image_file_open(path: *const c_char, image: *mut u8) -> c_int;
+        pub fn image_file_save(image: *const u8, line: c_ulong) -> c_int;
+        pub fn list_refusals() -> c_int;
+        pub fn show_version() -> c_int;
+        pub fn explain_answer(
+            text: *mut u8,
+            text_len: usize,
+            number: c_ulong,
             image: *const u8,
             labels: *mut u8,
-            number: c_ulong,
             line: *const u8,
             line_len: usize,
             journal: *const u8,
-            journal_len: usize,
-            text: *mut u8,
-            text_len: usize,
-        ) -> c_int;
-        pub fn session_end(has_failed: c_int) -> c_int;
-        pub fn session_journal_failed(line: c_ulong, reason: c_int);
+        ) -> usize;
     }
 }
 
@@ -52,55 +48,19 @@ pub fn begin() {
     unsafe { c::session_begin() }
 }
 
-/// Tells something on standard error, as one piece. If that cannot be written, there is nobody to be
-/// told.
-pub fn tell(text: impl Display) {
-    let _ = io::stderr().write_all(format!("{text}\n").as_bytes());
-}
-
-/// A standard file as a plain one: that of `std::io` takes a closed one for one that is empty, or
-/// that swallows all.
-fn plain(standard: impl AsFd) -> io::Result<File> {
-    standard.as_fd().try_clone_to_owned().map(File::from)
-}
-
-/// Standard input, for the requests.
-pub fn input() -> Result<BufReader<File>, Told> {
-    plain(io::stdin())
-        .map(BufReader::new)
-        .map_err(requests_failed)
-}
-
-/// Standard output, for the journal.
-pub fn output() -> Result<File, Told> {
-    plain(io::stdout()).map_err(|error| journal_failed(0, error))
-}
-
-/// Tells that the requests cannot be read.
-pub fn requests_failed(error: io::Error) -> Told {
-    tell(format_args!("the requests cannot be read: {error}"));
-    Told
-}
-
-/// Takes the arguments. Gives the exit status if all is done by them, as by `--help`.
-pub fn take_options() -> Option<u8> {
-    for argument in std::env::args_os().skip(1) {
-        let argument = CString::new(argument.into_vec()).expect("an argument has no byte 0");
-        // SAFETY: the argument ends with a byte 0.
-        unsafe { c::options_take(argument.as_ptr()) };
-    }
-    // SAFETY: the name ends with a byte 0.
-    let status = unsafe { c::options_done(c"serve".as_ptr()) };
-    u8::try_from(status).ok() // -1: to go on
-}
-
-/// Takes the image file that `--image` names for this process, until it ends, and reads or makes
-/// it and its record; without `--image` the board is empty and kept nowhere.
-pub fn open(labels: &mut Labels) -> Result<Board, Told> {
+/// Takes the image file for this process, until it ends, and reads or makes it.
+pub fn open_image(path: PathBuf) -> Result<Board, Told> {
     let mut image = [0; IMAGE_LEN];
-    // SAFETY: the path is null or ends with a byte 0; image and labels have their lengths.
-    told(unsafe { c::session_open(c::options_image(), image.as_mut_ptr(), labels.as_mut_ptr()) })?;
+    let path = CString::new(path.into_os_string().into_vec()).expect("an argument has no byte 0");
+    // SAFETY: the path ends with a byte 0 and the image has its length.
+    told(unsafe { c::image_file_open(path.as_ptr(), image.as_mut_ptr()) })?;
     Board::from_image(&image).map_err(|_| Told) // not met: the file was found sound
+}
+
+/// Saves the board, before the line's journal is shown. Without an image file it does nothing.
+pub fn save_image(board: &Board, line: usize) -> Result<(), Told> {
+    // SAFETY: the image has its length.
+    told(unsafe { c::image_file_save(board.image().as_ptr(), line as c_ulong) })
 }
 
 /// Tells that the journal of a line cannot be written.
@@ -113,38 +73,40 @@ pub fn journal_failed(line: usize, error: io::Error) -> Told {
 /// The labels of the programs that have entered, as explain.h has them.
 pub type Labels = [u8; 256];
 
-/// Keeps record and image after a line that was served, before its journal is shown. Gives what the
-/// operator sees of it: the text of a refusal, or nothing.
-pub fn keep(
+/// What the operator sees of a line that was served: the text of a refusal, or nothing.
+pub fn explain(
     board: &Board,
     labels: &mut Labels,
     number: usize,
     line: &[u8],
     reply: &Reply,
-) -> Result<String, Told> {
+) -> String {
     let mut text = [0; 1024];
-    // SAFETY: line, journal and text are handed over with their lengths; image and labels have
-    // the lengths that session.h asks for.
+    // SAFETY: text and line are handed over with their lengths; image, labels and journal have
+    // the lengths that explain.h asks for.
     let len = unsafe {
-        c::session_keep(
+        c::explain_answer(
+            text.as_mut_ptr(),
+            text.len(),
+            number as c_ulong,
             board.image().as_ptr(),
             labels.as_mut_ptr(),
-            number as c_ulong,
             line.as_ptr(),
             line.len(),
             reply.journal().as_ptr(),
-            reply.journal().len(),
-            text.as_mut_ptr(),
-            text.len(),
         )
     };
-    let len = usize::try_from(len).map_err(|_| Told)?;
-    Ok(String::from_utf8_lossy(&text[..len]).into_owned())
+    String::from_utf8_lossy(&text[..len]).into_owned()
 }
 
-/// Ends the session: shows who had requests refused, and gives the exit status.
-pub fn end(result: Result<(), Told>) -> u8 {
-    // SAFETY: it takes a number.
-    let status = unsafe { c::session_end(result.is_err().into()) };
-    u8::try_from(status).unwrap_or(1)
+/// Lists the refusals on standard output.
+pub fn list_refusals() -> Result<(), Told> {
+    // SAFETY: it takes nothing.
+    told(unsafe { c::list_refusals() })
+}
+
+/// Shows the version, and the kit that proved the board, on standard output.
+pub fn show_version() -> Result<(), Told> {
+    // SAFETY: it takes nothing.
+    told(unsafe { c::show_version() })
 }

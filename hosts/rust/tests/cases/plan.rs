@@ -3,7 +3,6 @@
 //! them.
 
 use super::chosen;
-use super::record::record_of;
 use super::show::shown;
 use crate::model::board::{Board, Program, Standing, FILES, PROGRAMS};
 use crate::model::events::Request;
@@ -49,7 +48,6 @@ fn journal(served: &[Served]) -> Vec<u8> {
 /// Serves a plan with a host on the image that it was made from.
 fn serves(host: &str, image: &Path, served: &[Served]) {
     let arguments = [OsStr::new("--image"), image.as_os_str()];
-    let _ = std::fs::remove_file(record_of(image)); // of the board before
     let output = run(&built(host), &arguments, &plan(served));
     assert!(output.status.success(), "{host}");
     assert_eq!(output.stderr, b"", "{host}: something was refused");

@@ -2,8 +2,7 @@
 //! of the vectors and of the examples: all of the text is compared.
 
 use super::chosen;
-use crate::expected::json;
-use crate::expected::phrases::{users, Labels};
+use crate::expected::phrases::users;
 use crate::expected::show::{dot, edges, given_edges, record_waits, show, Loops};
 use crate::model::board::{only, Board, Files, Program, Record, Standing};
 use crate::model::board::{FILES, MOST_PASSES, PROGRAMS, RECORDS};
@@ -18,32 +17,30 @@ use std::path::Path;
 
 /// The text that the C host writes of a board with this argument.
 pub fn shown(file: &Path, argument: &str, board: &Board) -> String {
-    std::fs::write(file, image::write(board)).expect("the image is written");
-    shown_as_it_is(file, &[argument])
-}
-
-/// What the C host writes of an image file with these arguments, changing nothing.
-pub fn shown_as_it_is(file: &Path, what: &[&str]) -> String {
-    let image = std::fs::read(file).expect("the image");
-    let mut arguments = vec![OsStr::new("--image"), file.as_os_str()];
-    arguments.extend(what.iter().map(OsStr::new));
+    let image = image::write(board);
+    std::fs::write(file, &image).expect("the image is written");
+    let arguments = [
+        OsStr::new("--image"),
+        file.as_os_str(),
+        OsStr::new(argument),
+    ];
     let output = run(&built(HOSTS[0]), &arguments, b"");
     let errors = String::from_utf8_lossy(&output.stderr);
     assert!(
         output.status.success() && errors.is_empty(),
-        "{what:?}: {errors}"
+        "{argument}: {errors}"
     );
     assert_eq!(
         std::fs::read(file).unwrap(),
         image,
-        "{what:?} changed the image"
+        "{argument} changed the image"
     );
     String::from_utf8(output.stdout).expect("plain text")
 }
 
 /// The loops that the text of --show names, by waiter: `program 2 waits for ..; with file 4 given:
 /// 2 holds back 1 over file 4, 1 holds back 2 over file 3; ..`
-pub fn loops_in(text: &str) -> Loops {
+fn loops_in(text: &str) -> Loops {
     let unbroken = text.replace("\n      ", " ");
     let waiter = |line: &str| {
         let p = line.strip_prefix("  program ")?.split(' ').next()?;
@@ -262,7 +259,7 @@ fn show_agrees() {
     for board in &chosen {
         let text = shown(&file, "--show", board);
         let loops = loops_in(&text);
-        assert_eq!(text, show(board, &loops, None));
+        assert_eq!(text, show(board, &loops));
         assert!(text.lines().all(|line| line.len() <= 80), "{text}");
         all_met.extend(met(board, &loops));
     }
@@ -273,21 +270,6 @@ fn show_agrees() {
 }
 
 #[test]
-#[ignore = "runs the hosts: hosts/test json"]
-fn json_agrees() {
-    let file = file("json.image");
-    let chosen = chosen_boards();
-    for board in &chosen {
-        std::fs::write(&file, image::write(board)).expect("the image is written");
-        let text = shown_as_it_is(&file, &["--json", "--show"]);
-        let value = json::read(&text).unwrap_or_else(|| panic!("no JSON:\n{text}"));
-        let loops = json::loops(&value);
-        assert_eq!(value, json::show(board, &loops, None));
-    }
-    println!("as JSON: {} boards", chosen.len());
-}
-
-#[test]
 #[ignore = "runs the hosts: hosts/test show"]
 fn dot_agrees() {
     let file = file("dot.image");
@@ -295,15 +277,9 @@ fn dot_agrees() {
     for board in &chosen_boards() {
         let loops = loops_in(&shown(&file, "--show", board));
         let text = shown(&file, "--dot", board);
-        assert_eq!(text, dot(board, &loops, &Labels::new()));
+        assert_eq!(text, dot(board, &loops));
         let graph = graph(&text).unwrap_or_else(|| panic!("no graph:\n{text}"));
-        let entered = board.which(|program| program.standing != Standing::Absent);
-        assert_eq!(graph.nodes, entered);
-        assert_eq!(
-            graph.held,
-            board.which(|program| program.standing == Standing::Held)
-        );
-        assert_eq!(graph.favoured.unwrap_or(0), board.favoured);
+        assert_eq!(graph.nodes, board.admitted());
         assert_eq!(graph.solid, edges(board));
         let given: Vec<_> = given_edges(board, &loops).into_keys().collect();
         assert_eq!(graph.dashed, given);
@@ -336,8 +312,6 @@ fn token(text: &str) -> Option<(&str, &str)> {
 #[derive(Default)]
 struct Graph {
     nodes: Vec<usize>,
-    held: Vec<usize>,
-    favoured: Option<usize>,
     solid: Vec<(usize, usize)>,
     dashed: Vec<(usize, usize)>,
     dotted: Vec<(usize, usize)>,
@@ -371,13 +345,8 @@ fn graph(text: &str) -> Option<Graph> {
         let attributes = attributes(words.strip_suffix(&["]", ";"])?)?;
         attributes.get("label")?.strip_prefix('"')?;
         let edges = match (what, attributes.get("style").copied()) {
-            ([node], style) => {
-                let node = node.parse().ok()?;
-                graph.nodes.push(node);
-                graph.held.extend((style == Some("dashed")).then_some(node));
-                graph.favoured = graph
-                    .favoured
-                    .or(attributes.get("peripheries").map(|_| node));
+            ([node], None) => {
+                graph.nodes.push(node.parse().ok()?);
                 continue;
             }
             (_, None) => &mut graph.solid,

@@ -1,8 +1,6 @@
 //! What the hosts show for a person, worked out from the model's board: the
 //! text of --show and --dot, and of refusals. Shares no code with the hosts.
 
-pub mod json;
 pub mod phrases;
-pub mod record;
 pub mod refusals;
 pub mod show;

@@ -1,6 +1,5 @@
 //! What a host shows on standard error of a session: one line for each refusal,
-//! with what was asked and what stands, and at the end who had requests refused.
-//! The words come from docs/REFUSALS.md.
+//! with what was asked and what stands. The words come from docs/REFUSALS.md.
 
 use super::phrases::{self, files, in_use, may, open, programs, record, wants_order, Labels};
 use crate::model::board::{only, Board, Files, Record, Standing, FILES, PROGRAMS, RECORDS};
@@ -8,7 +7,6 @@ use crate::model::image::step;
 use crate::model::journal::{columns, Entry, Word};
 use crate::model::line::{claimed, enter_length, BEFORE_FILES, COUNT_J, COUNT_R, COUNT_W};
 use crate::model::line::{FILE, LABEL, LONGEST, PROGRAM, RECORD, VERB};
-use std::collections::BTreeMap;
 use std::ops::Range;
 
 /// The rows of docs/REFUSALS.md, from refusal 1 on: the words, and what to do.
@@ -54,8 +52,6 @@ pub struct Session<'a> {
     labels: Labels,
     number: usize,
     pub shown: Vec<String>,
-    /// By program and refusal: the numbers of the lines, and the label of the last one's sender.
-    noted: BTreeMap<(usize, usize), (Vec<usize>, Option<String>)>,
 }
 
 impl Session<'_> {
@@ -66,56 +62,6 @@ impl Session<'_> {
             labels: Labels::new(),
             number: 0,
             shown: Vec::new(),
-            noted: BTreeMap::new(),
-        }
-    }
-
-    /// The session after this one, with the same record: board and labels are known.
-    pub fn next(self) -> Self {
-        Session {
-            labels: self.labels,
-            ..Session::new(self.document, self.board)
-        }
-    }
-
-    pub fn labels(&self) -> &Labels {
-        &self.labels
-    }
-
-    pub fn board(&self) -> &Board {
-        &self.board
-    }
-
-    /// What is shown at the end: nothing if nothing was refused.
-    pub fn summary(&self) -> Vec<String> {
-        let count = |count| match count {
-            1 => "1 request".to_string(),
-            count => format!("{count} requests"),
-        };
-        let row = |(&(p, refusal), (lines, label)): (&(usize, usize), &(Vec<usize>, _))| {
-            let who = match (p, label) {
-                (0, _) => "no program".to_string(),
-                (p, None) => format!("program {p}"),
-                (p, Some(label)) => format!("program {p} ({label})"),
-            };
-            let last = lines.last().expect("a line");
-            let lines = match lines.len() {
-                1 => format!("line {last}"),
-                many => format!("{}, the last in line {last}", count(many)),
-            };
-            let words = self.document.words(refusal);
-            format!("  {who}: refusal {refusal}: {words} ({lines})")
-        };
-        let all = self
-            .noted
-            .values()
-            .map(|(lines, _): &(Vec<_>, _)| lines.len());
-        match all.sum() {
-            0 => Vec::new(),
-            all => [format!("Refused in this session: {}", count(all))]
-                .into_iter()
-                .chain(self.noted.iter().map(row))
-                .collect(),
         }
     }
 
@@ -126,23 +72,10 @@ impl Session<'_> {
             answer if answer.word == Word::Refuse => {
                 let text = self.refused(line, &answer);
                 self.shown.push(text);
-                self.note(line, &answer);
             }
             answer => self.keep_label(line, answer.program),
         }
         self.board = after;
-    }
-
-    fn note(&mut self, line: &[u8], answer: &Entry) {
-        let sender = match answer.program {
-            0 => None,
-            _ if line.starts_with(b"ENTER") => label(line),
-            p => self.labels.get(&p).cloned(),
-        };
-        let key = (answer.program, answer.refusal);
-        let noted = self.noted.entry(key).or_default();
-        noted.0.push(self.number);
-        noted.1 = sender;
     }
 
     fn keep_label(&mut self, line: &[u8], p: usize) {
@@ -298,14 +231,7 @@ fn named(field: &Range<usize>) -> String {
     format!("columns {}-{}", field.start + 1, field.end)
 }
 
-/// The byte order mark U+FEFF as UTF-8 and both UTF-16 write it.
-const MARKS: [&[u8]; 3] = [b"\xef\xbb\xbf", b"\xff\xfe", b"\xfe\xff"];
-
 fn verb(line: &[u8]) -> String {
-    if MARKS.iter().any(|mark| line.starts_with(mark)) {
-        let remedy = "write the requests without it, one byte for each column";
-        return format!("the line begins with a byte order mark; {remedy}");
-    }
     let what = match line.get(VERB) {
         None if line.is_empty() => return "the line is empty".to_string(),
         None => format!("the line has only {}", quoted(line)),

@@ -1,5 +1,5 @@
 //! The text of --show and of --dot. Which loop they name is free, so each is handed the
-//! loops, and what is no loop fails here. Labels and refusals come from the record.
+//! loops, and what is no loop fails here.
 
 use super::phrases::{awaited_thing, files, in_use, may, open, programs};
 use super::phrases::{record, wait, wants_order, Labels};
@@ -12,23 +12,6 @@ use std::collections::{BTreeMap, BTreeSet};
 
 /// A loop for each program that waits for want of an order, the program first.
 pub type Loops = BTreeMap<usize, Vec<usize>>;
-
-/// The last refusal of a program: when, the number and the words with what helps.
-#[derive(Clone)]
-pub struct Refused {
-    pub time: String,
-    pub refusal: usize,
-    pub words: String,
-}
-
-/// What a record tells of the programs on the board.
-#[derive(Default)]
-pub struct Told {
-    pub labels: Labels,
-    /// The time of the record's first line; none if it has no line.
-    pub since: Option<String>,
-    pub refused: BTreeMap<usize, Refused>,
-}
 
 /// The columns of a line, and the blanks before all but the first of a paragraph.
 const WIDTH: usize = 80;
@@ -57,11 +40,7 @@ fn broken(paragraph: &str) -> String {
     lines.join("\n") + "\n"
 }
 
-fn program(p: usize, labels: &Labels) -> String {
-    programs(&[p], labels)
-}
-
-fn admitted(board: &Board, p: usize, labels: &Labels) -> String {
+fn admitted(board: &Board, p: usize) -> String {
     let program = board.get(p);
     let standing = match program.standing {
         Standing::Running => "runs",
@@ -77,13 +56,12 @@ fn admitted(board: &Board, p: usize, labels: &Labels) -> String {
         left => format!("may still {left}"),
     };
     let (open, in_use) = (open(program), in_use("; ", program));
-    let name = self::program(p, labels);
-    format!("  {name} {standing}: {open}{in_use}; {more}")
+    format!("  program {p} {standing}: {open}{in_use}; {more}")
 }
 
 /// The steps of a loop, by the model's checker, each with the lowest file over which the first
 /// holds back the second.
-pub fn steps(board: &Board, p: usize, list: &[usize]) -> Vec<(usize, usize, usize)> {
+fn steps(board: &Board, p: usize, list: &[usize]) -> Vec<(usize, usize, usize)> {
     let given = board.with_given(p, awaited(board, p));
     let bytes: Vec<u8> = list.iter().map(|&i| i as u8).collect();
     assert!(is_loop(&given, &bytes), "no loop: {list:?}");
@@ -93,8 +71,8 @@ pub fn steps(board: &Board, p: usize, list: &[usize]) -> Vec<(usize, usize, usiz
     list.iter().zip(next).map(step).collect()
 }
 
-fn waiter(board: &Board, p: usize, loops: &Loops, labels: &Labels) -> String {
-    let mut text = format!("  {} {}", program(p, labels), wait(board, p, labels));
+fn waiter(board: &Board, p: usize, loops: &Loops) -> String {
+    let mut text = format!("  program {p} {}", wait(board, p, &Labels::new()));
     if wants_order(board, p) {
         let steps: Vec<String> = steps(board, p, &loops[&p])
             .iter()
@@ -104,7 +82,7 @@ fn waiter(board: &Board, p: usize, loops: &Loops, labels: &Labels) -> String {
         text += &format!("; with file {file} given: {}", steps.join(", "));
         let holders: Vec<String> = (1..=PROGRAMS)
             .filter(|&i| i != p && held_in(board, i, p) != 0)
-            .map(|i| format!("{} in {}", program(i, labels), files(held_in(board, i, p))))
+            .map(|i| format!("program {i} ({})", files(held_in(board, i, p))))
             .collect();
         assert!(!holders.is_empty(), "nobody holds back program {p}");
         text += &format!("; held back by {}", holders.join(", "));
@@ -116,7 +94,7 @@ fn waiter(board: &Board, p: usize, loops: &Loops, labels: &Labels) -> String {
 /// "A favoured program that gets its record, within the same bound, is favoured no longer." That is:
 /// "It gets its file at the latest with the leave that brings those leaves to that number less one";
 /// "a cancel of an admitted program counts as a leave, also in the bound for favoured programs".
-fn favoured(board: &Board, labels: &Labels) -> String {
+fn favoured(board: &Board) -> String {
     if board.favoured == 0 {
         return "nobody".to_string();
     }
@@ -126,71 +104,41 @@ fn favoured(board: &Board, labels: &Labels) -> String {
         1 => "1 leave or waiter's cancel".to_string(),
         _ => format!("{left} leaves or waiters' cancels"),
     };
-    let name = program(board.favoured, labels);
-    format!("{name}: gets {thing} after at most {leaves}")
+    format!(
+        "program {} (gets {thing} after at most {leaves})",
+        board.favoured
+    )
 }
 
-fn named(list: &[usize], labels: &Labels) -> String {
+fn named(list: &[usize]) -> String {
     match list {
         [] => "nobody".to_string(),
-        list => programs(list, labels),
+        list => programs(list, &Labels::new()),
     }
 }
 
-/// The last refusal of each program on the board; those who have gone are left out.
-fn refused(board: &Board, told: &Told) -> Vec<String> {
-    let rows = told.refused.iter().filter(|&(&p, _)| on_board(board, p));
-    let rows: Vec<String> = rows
-        .map(|(&p, last)| {
-            let name = program(p, &told.labels);
-            let Refused {
-                time,
-                refusal,
-                words,
-            } = last;
-            format!("  {name} at {time}: refusal {refusal}: {words}")
-        })
-        .collect();
-    match (&told.since, rows.is_empty()) {
-        (Some(since), false) => [vec![format!("Refused since {since}:")], rows].concat(),
-        _ => vec!["Refused: nobody".to_string()],
-    }
-}
-
-pub fn on_board(board: &Board, p: usize) -> bool {
-    board.get(p).standing != Standing::Absent
-}
-
-/// The text with what the record tells; without a record it is not known.
-pub fn show(board: &Board, loops: &Loops, record: Option<&Told>) -> String {
-    let none = Labels::new();
-    let labels = record.map_or(&none, |told| &told.labels);
+pub fn show(board: &Board, loops: &Loops) -> String {
     let mut paragraphs = Vec::new();
     match board.admitted() {
         none if none.is_empty() => paragraphs.push("Admitted: nobody".to_string()),
         some => {
             paragraphs.push("Admitted:".to_string());
-            paragraphs.extend(some.iter().map(|&p| admitted(board, p, labels)));
+            paragraphs.extend(some.iter().map(|&p| admitted(board, p)));
         }
     }
     if board.waiting.is_empty() {
         paragraphs.push("Waiting: nobody".to_string());
     } else {
         paragraphs.push("Waiting, oldest first:".to_string());
-        let waiters = board.waiting.iter();
-        paragraphs.extend(waiters.map(|&p| waiter(board, p, loops, labels)));
+        paragraphs.extend(board.waiting.iter().map(|&p| waiter(board, p, loops)));
     }
     let order = order::carried(board).expect("a sound board has an order");
-    paragraphs.push(format!("Favoured: {}", favoured(board, labels)));
+    paragraphs.push(format!("Favoured: {}", favoured(board)));
     paragraphs.push(format!(
         "Held at entry, oldest first: {}",
-        named(&board.entry, labels)
+        named(&board.entry)
     ));
-    paragraphs.push(format!("Completion order: {}", named(&order, labels)));
-    paragraphs.extend(match record {
-        Some(told) => refused(board, told),
-        None => vec!["Refused: not known, there is no record".to_string()],
-    });
+    paragraphs.push(format!("Completion order: {}", named(&order)));
     paragraphs
         .iter()
         .map(|paragraph| broken(paragraph))
@@ -253,25 +201,14 @@ pub fn record_waits(board: &Board) -> Vec<(usize, usize, Record)> {
     (1..=PROGRAMS).filter_map(wait).collect()
 }
 
-/// Text between the quotes of Graphviz.
-fn quoted(text: &str) -> String {
-    text.replace('\\', "\\\\").replace('"', "\\\"")
-}
-
-pub fn dot(board: &Board, loops: &Loops, labels: &Labels) -> String {
+pub fn dot(board: &Board, loops: &Loops) -> String {
     let mut text = "digraph lock_board {\n".to_string();
-    for p in (1..=PROGRAMS).filter(|&p| on_board(board, p)) {
-        let (standing, style) = match board.get(p).standing {
-            Standing::Waiting(_) => (format!("waits for {}", awaited_thing(board, p)), ""),
-            Standing::Held => ("held at entry".to_string(), ", style=dashed"),
-            _ => (format!("runs{}", in_use(", ", board.get(p))), ""),
+    for p in board.admitted() {
+        let standing = match board.get(p).standing {
+            Standing::Waiting(_) => format!("waits for {}", awaited_thing(board, p)),
+            _ => format!("runs{}", in_use(", ", board.get(p))),
         };
-        let (favoured, frame) = match board.favoured == p {
-            true => (", favoured", ", peripheries=2"),
-            false => ("", ""),
-        };
-        let name = quoted(&program(p, labels));
-        text += &format!("    {p} [label=\"{name}\\n{standing}{favoured}\"{frame}{style}];\n");
+        text += &format!("    {p} [label=\"program {p}\\n{standing}\"];\n");
     }
     for line in edge_lines(board, loops).values() {
         text += &format!("    {line};\n");

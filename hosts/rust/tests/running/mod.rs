@@ -2,7 +2,6 @@
 //! library is loaded into them: it keeps a copy of what is sure to be on the
 //! disk. hosts/test builds all of these.
 
-pub mod listening;
 pub mod whole;
 
 use std::fs::{self, File};
@@ -65,15 +64,6 @@ impl Place {
     /// The copy of what a power cut would leave.
     pub fn disk(&self) -> PathBuf {
         self.folder.join("disk")
-    }
-
-    /// The record beside the image, and the copy of what a power cut would leave of it.
-    pub fn record(&self) -> PathBuf {
-        self.folder.join("image.record")
-    }
-
-    pub fn disk_record(&self) -> PathBuf {
-        self.folder.join("disk.record")
     }
 
     pub fn messages(&self) -> String {
@@ -146,8 +136,9 @@ impl Running {
         assert_eq!(unsafe { kill(self.child.id() as i32, signal) }, 0);
     }
 
-    /// Waits for the end of a host that a signal ends; its input stays open until then. What has
-    /// not ended after half a minute is killed, so that the test can say so.
+    /// Waits for the end of a host that a signal ends; its input stays open until then. A signal
+    /// that meets GnuCOBOL while it starts may leave it waiting for a lock of its own for ever, so
+    /// what has not ended after half a minute is killed, as an operator would.
     pub fn ended(mut self) -> (ExitStatus, Vec<u8>) {
         let process = self.child.id() as i32;
         let (ended, watch) = channel::<()>();

@@ -1,5 +1,4 @@
-//! A program that is run on a whole input until it ends. What it keeps is not brought to the disk,
-//! which would only take time.
+//! A program that is run on a whole input until it ends.
 
 use std::ffi::OsStr;
 use std::io::Write;
@@ -11,17 +10,8 @@ pub fn file(name: &str) -> PathBuf {
     Path::new(env!("CARGO_TARGET_TMPDIR")).join(name)
 }
 
-/// The library that hosts/test has built for it.
-fn no_sync() -> PathBuf {
-    Path::new(env!("CARGO_MANIFEST_DIR")).join("../../target/hosts/no_sync.so")
-}
-
 pub fn run(path: &Path, arguments: &[&OsStr], input: &[u8]) -> Output {
-    let mut command = Command::new(path);
-    if no_sync().exists() {
-        command.env("LD_PRELOAD", no_sync());
-    }
-    let mut child = command
+    let mut child = Command::new(path)
         .args(arguments)
         .stdin(Stdio::piped())
         .stdout(Stdio::piped())

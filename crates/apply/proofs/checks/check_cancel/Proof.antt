@@ -3,14 +3,14 @@ use borrow.Author.Rules.{rules}
 use Rattle.apply.proofs.checks.check_cancel.Statement.{statement}
 use Rattle.apply.proofs.checks.check_cancel.Tie as tie
 
-returns : tie.Need-returns
-returns c = rw c.enum_told.given.1
+returns : tie.Need-returns-in-Absent
+returns c = rw c.in-Absent.is
 
-returns-2 : tie.Need-returns-2
-returns-2 c = rw c.enum-told2.given.1
+returns-2 : tie.Need-returns-in-Running
+returns-2 c = rw c.in-Running.is
 
-pub check-cancel-spec : {M : Type 1} → statement M
-check-cancel-spec =
+pub check_cancel_spec : {M : Type 1} → statement M
+check_cancel_spec =
     tie.close
     (tie.spec
     (λ c. search rules)

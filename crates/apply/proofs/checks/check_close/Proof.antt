@@ -8,8 +8,8 @@ use Rattle.apply.proofs.checks.check_close.Tie as tie
 
 returns : tie.Need-returns
 returns c = let r = c.before in let u = r.before in let a = u.before.before.args in
-    c.file-check.ensures ∙ ap (file_first a.f) (r.running-check.ensures ∙ ap (unless_running a.s) (u.using-check.ensures
-    ∙ ap (unless_using a.item) u.before.use-check.ensures))
+    c.file_check.ensures ∙ ap (file_first a.f) (r.running_check.ensures ∙ ap (unless_running a.s) (u.using_check.ensures
+    ∙ ap (unless_using a.item) u.before.use_check.ensures))
 
-pub check-close-spec : {M : Type 1} → statement M
-check-close-spec = tie.close (tie.spec (λ c κs. search rules) (λ c κs. search rules) (λ c κs. search rules) (λ c κs. search rules) returns)
+pub check_close_spec : {M : Type 1} → statement M
+check_close_spec = tie.close (tie.spec (λ c κs. search rules) (λ c κs. search rules) (λ c κs. search rules) (λ c κs. search rules) returns)

@@ -8,11 +8,11 @@ use Rattle.apply.proofs.checks.check_fetch.Tie as tie
 
 returns : tie.Need-returns
 returns c = let n = c.before in let r = n.before in let u = r.before in let i = u.before in let a = i.before.args in
-    c.file-check.ensures ∙ ap (file_first a.f) (n.record-check.ensures ∙ ap (record_first a.n) (r.running-check.ensures
-    ∙ ap (unless_running a.s) (u.using-check.ensures ∙ ap (unless_using a.item) i.inquiry-check.ensures)))
+    c.file_check.ensures ∙ ap (file_first a.f) (n.record_check.ensures ∙ ap (record_first a.n) (r.running_check.ensures
+    ∙ ap (unless_running a.s) (u.using_check.ensures ∙ ap (unless_using a.item) i.inquiry_check-open.ensures)))
 
-pub check-fetch-spec : {M : Type 1} → statement M
-check-fetch-spec =
+pub check_fetch_spec : {M : Type 1} → statement M
+check_fetch_spec =
     tie.close
     (tie.spec
     (λ c κs. search rules)

@@ -8,8 +8,8 @@ use Rattle.apply.proofs.checks.check_open.Tie as tie
 
 returns : tie.Need-returns
 returns c = let r = c.before in let u = r.before in let a = u.before.before.args in
-    c.file-check.ensures ∙ ap (file_first a.f) (r.running-check.ensures ∙ ap (unless_running a.s) (u.using-check.ensures
-    ∙ ap (unless_using a.item) u.before.claim-check.ensures))
+    c.file_check.ensures ∙ ap (file_first a.f) (r.running_check.ensures ∙ ap (unless_running a.s) (u.using_check.ensures
+    ∙ ap (unless_using a.item) u.before.claim_check.ensures))
 
-pub check-open-spec : {M : Type 1} → statement M
-check-open-spec = tie.close (tie.spec (λ c κs. search rules) (λ c κs. search rules) (λ c κs. search rules) (λ c κs. search rules) returns)
+pub check_open_spec : {M : Type 1} → statement M
+check_open_spec = tie.close (tie.spec (λ c κs. search rules) (λ c κs. search rules) (λ c κs. search rules) (λ c κs. search rules) returns)

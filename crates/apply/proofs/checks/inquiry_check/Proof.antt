@@ -2,7 +2,6 @@
 use mathlib.Core.Path.{◌≡◌, sym, ap, ◌∙◌}
 use mathlib.Core.Bool.{Bool}
 use Prim.Native.Nat.{ℕ}
-use borrow.Author.Tests.{not_true, not-false}
 use Rattle.files.specs.Sets.{member}
 use Rattle.rules.specs.Modes.{Inquiry}
 use Rattle.store.specs.Sets.{set_in, open_at}
@@ -12,15 +11,15 @@ use Rattle.apply.proofs.checks.inquiry_check.Tie as tie
 
 -- whether the file is open for inquiry
 has-it : (h : tie.After-has) → let a = h.before.before.before.before.args in h.has.result ≡ member (open_at a.sets.now a.p Inquiry) a.f
-has-it h = let k = h.before.before.before in let a = k.before.args in
-    h.has.ensures ∙ ap (λ (i : ℕ). member (set_in a.sets.now i) a.f) k.inquiring-at.ensures.0
+has-it h = let k = h.before.before.before in let a = k.args in
+    h.has.ensures ∙ ap (λ (i : ℕ). member (set_in a.sets.now i) a.f) h.before.before.inquiring_at-i.ensures.0
 
-returns : tie.Need-returns
-returns c = rw (sym (has-it c.before) ∙ not_true c.before.has.result c.if1.true)
+returns : tie.Need-returns-then-not-has
+returns c = rw (sym (has-it c.before) ∙ c.if-not-has.true)
 
-returns-2 : tie.Need-returns-2
-returns-2 c = rw (sym (has-it c.before) ∙ not-false c.before.has.result c.if1.false)
+returns-2 : tie.Need-returns
+returns-2 c = rw (sym (has-it c.before) ∙ c.if-not-has.false)
 
-pub inquiry-check-spec : {M : Type 1} → statement M
-inquiry-check-spec =
+pub inquiry_check_spec : {M : Type 1} → statement M
+inquiry_check_spec =
     tie.close (tie.spec (λ c κs. search rules) (λ c. search rules) (λ c. search rules) (λ c κs. search rules) returns returns-2)

@@ -4,11 +4,11 @@ use borrow.Author.Rules.{rules}
 use Rattle.apply.proofs.checks.return_check.Statement.{statement}
 use Rattle.apply.proofs.checks.return_check.Tie as tie
 
-returns : tie.Need-returns
-returns c = rw (eq-eqb c.before.args.item 0 c.if1.true)
+returns : tie.Need-returns-then-item-eq0
+returns c = rw (eq-eqb c.before.args.item 0 c.if-item-eq0.true)
 
-returns-2 : tie.Need-returns-2
-returns-2 c = rw (ne_eqb c.before.args.item 0 c.if1.false)
+returns-2 : tie.Need-returns
+returns-2 c = rw (ne_eqb c.before.args.item 0 c.if-item-eq0.false)
 
-pub return-check-spec : {M : Type 1} → statement M
-return-check-spec = tie.close (tie.spec returns returns-2)
+pub return_check_spec : {M : Type 1} → statement M
+return_check_spec = tie.close (tie.spec returns returns-2)

@@ -8,17 +8,17 @@ use borrow.Author.Rules.{rules}
 use Rattle.apply.proofs.replies.done.Statement.{statement}
 use Rattle.apply.proofs.replies.done.Tie as tie
 
-settled-requires : tie.Need-settled-requires
-settled-requires c κs = let o = c.before.before in let s = o.before.before.before in let a = s.args in
-    let k = done-ready _ (board_of a.sets.now a.rest) (line Word.Done a.p a.f) o.one_line.ensures.0 s.requires.0 in
-    (k.0, k.1, k.2, s.requires.1, o.one_line.ensures.1.1)
+settled-requires : tie.Need-settled-progress-requires
+settled-requires c κs = let o = c.before.before in let s = o.before.before in let a = s.args in
+    let k = done-ready _ (board_of a.sets.now a.rest) (line Word.Done a.p a.f) o.one_line-w.ensures.result_after s.requires.0 in
+    (k.0, k.1, k.2, s.requires.1, o.one_line-w.ensures.rest_value.1)
 
 returns : tie.Need-returns
-returns c = let o = c.before.before.before in let s = o.before.before.before in let a = s.args in (
-  done_is _ _ (board_of a.sets.now a.rest) a.p a.f o.one_line.ensures.0 c.settled.ensures.0 s.requires.0,
-  (c.settled.ensures.1.0, c.settled.ensures.1.1, none_carries _),
+returns c = let o = c.before.before.before in let s = o.before.before in let a = s.args in (
+  done_is _ _ (board_of a.sets.now a.rest) a.p a.f o.one_line-w.ensures.result_after c.settled-progress.ensures.result_after s.requires.0,
+  (c.settled-progress.ensures.store.0, c.settled-progress.ensures.store.1, none_carries _),
 )
 
-pub done-spec : {M : Type 1} → statement M
-done-spec =
+pub done_spec : {M : Type 1} → statement M
+done_spec =
     tie.close (tie.spec (λ c κs. search rules) settled-requires returns)

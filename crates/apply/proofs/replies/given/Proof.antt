@@ -14,13 +14,13 @@ use Rattle.apply.proofs.replies.given.Tie as tie
 
 returns : tie.Need-returns
 returns c = let s = c.before.before in let a = s.args in (
-  ap (λ (w : Written). replied w Answer.Given) c.one_line.ensures.0
+  ap (λ (w : Written). replied w Answer.Given) c.one_line-progress.ensures.result_after
       ∙ wrote-reply (board_of a.sets.now a.rest) Answer.Given (line Word.Given a.p a.f),
   (
-    c.one_line.ensures.1.1,
-    subst (λ (r : Rest). Carries (board_of a.sets.now r) a.order) (sym c.one_line.ensures.1.0) s.requires.1,
+    c.one_line-progress.ensures.rest_value.1,
+    subst (λ (r : Rest). Carries (board_of a.sets.now r) a.order) (sym c.one_line-progress.ensures.rest_value.0) s.requires.1,
   ),
 )
 
-pub given-spec : {M : Type 1} → statement M
-given-spec = tie.close (tie.spec (λ c κs. search rules) returns)
+pub given_spec : {M : Type 1} → statement M
+given_spec = tie.close (tie.spec (λ c κs. search rules) returns)

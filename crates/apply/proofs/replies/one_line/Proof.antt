@@ -9,9 +9,9 @@ use Rattle.apply.proofs.replies.one_line.Tie as tie
 
 returns : tie.Need-returns
 returns c = let s = c.before in let a = s.args in let l = line_of a.word a.p a.f a.n in (
-  wrote_first (board_of a.sets.now a.rest) a.lines.now c.line-of.result l c.line-of.ensures s.requires,
-  (refl, first_entries a.lines.now c.line-of.result l c.line-of.ensures s.requires),
+  wrote_first (board_of a.sets.now a.rest) a.lines.now c.line_of.result l c.line_of.ensures s.requires,
+  (refl, first_entries a.lines.now c.line_of.result l c.line_of.ensures s.requires),
 )
 
-pub one-line-spec : {M : Type 1} → statement M
-one-line-spec = tie.close (tie.spec (λ c. search rules) (λ c. search rules) returns)
+pub one_line_spec : {M : Type 1} → statement M
+one_line_spec = tie.close (tie.spec (λ c. search rules) (λ c. search rules) returns)

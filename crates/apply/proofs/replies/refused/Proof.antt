@@ -12,5 +12,5 @@ returns : tie.Need-returns
 returns c = let a = c.args in let b = board_of a.sets.now a.rest in
     (ap (λ (w : Written). replied w (Answer.Refuse a.refusal)) (none-lines b a.lines.now c.requires) ∙ wrote_none b a.refusal, none_carries b)
 
-pub refused-spec : {M : Type 1} → statement M
-refused-spec = tie.close (tie.spec returns)
+pub refused_spec : {M : Type 1} → statement M
+refused_spec = tie.close (tie.spec returns)

@@ -7,17 +7,17 @@ use borrow.Author.Rules.{rules}
 use Rattle.asked.proofs.answers.lines_bytes.Statement.{statement}
 use Rattle.asked.proofs.answers.lines_bytes.Tie as tie
 
-abbrev invariant-loop : tie.invariant-loop
+abbrev invariant-loop : tie.invariant-loop-i
 invariant-loop lines bytes₀ i₀ bytes i = (i ≤ 32) × (length bytes ≡ 224)
 
-abbrev decreases-loop : tie.decreases-loop
+abbrev decreases-loop : tie.decreases-loop-i
 decreases-loop lines bytes₀ i₀ bytes i = 32 - i
 
-loop-again : tie.Need-loop-preserved invariant-loop decreases-loop
+loop-again : tie.Need-loop-i-preserved invariant-loop decreases-loop
 loop-again c = simp length-set (omega arith)
 
-pub lines-bytes-spec : {M : Type 1} → statement M
-lines-bytes-spec =
+pub lines_bytes_spec : {M : Type 1} → statement M
+lines_bytes_spec =
     tie.close
     (tie.spec
     invariant-loop

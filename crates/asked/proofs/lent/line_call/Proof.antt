@@ -281,9 +281,9 @@ line-call-meets {𝓤 = 𝓤} 𝓛 at_mem run 𝓣 known =
     (WpFn 𝓤 𝓛.H 𝓣.C 𝓣.Λ code.function) (WpFn-mono 𝓤 𝓛.H 𝓛.laws 𝓣 code.function)
     (line-call-walks 𝓛 at_mem run 𝓣.C 𝓣.Λ (fm_of 𝓤 𝓛.H 𝓛.laws 𝓣) known)
 
-pub line-call-spec : {M : Type 1} → stated.statement M
+pub line_call_spec : {M : Type 1} → stated.statement M
 unfolding code.routine tables_of
-line-call-spec 𝓤 𝓛 𝓜 𝓡 =
+line_call_spec 𝓤 𝓛 𝓜 𝓡 =
     entered 𝓤 𝓛.H (triple_of 𝓛 call.signature (call.spec 𝓛 𝓜.mem 𝓡.run))
     (tables 𝓤 𝓛.H 𝓜 𝓡 code.env).C (tables 𝓤 𝓛.H 𝓜 𝓡 code.env).Λ #asked·line-call code.function (code.unfolded 𝓤 𝓛.H 𝓜 𝓡)
     (line-call-meets 𝓛 𝓜.mem 𝓡.run (tables_of 𝓤 𝓛.H 𝓜 (tables 𝓤 𝓛.H 𝓜 𝓡 code.env))

@@ -6,11 +6,11 @@ use borrow.Author.Rules.{rules}
 use Rattle.asked.proofs.records.front.Statement.{statement}
 use Rattle.asked.proofs.records.front.Tie as tie
 
-slice-aggregate-result : tie.Need-slice-aggregate-result
+slice-aggregate-result : tie.Need-slice_bounds-result-end
 slice-aggregate-result c = sym (length-take-le _ _ (omega arith))
 
-pub front-spec : {M : Type 1} → statement M
-front-spec =
+pub front_spec : {M : Type 1} → statement M
+front_spec =
     tie.close
     (tie.spec
     (λ c. search rules)

@@ -5,14 +5,14 @@ use borrow.Author.Rules.{rules}
 use Rattle.asked.proofs.records.number.Statement.{statement}
 use Rattle.asked.proofs.records.number.Tie as tie
 
-abbrev invariant-loop : tie.invariant-loop
+abbrev invariant-loop : tie.invariant-loop-i
 invariant-loop part n₀ i₀ n i = i ≤ length part
 
-abbrev decreases-loop : tie.decreases-loop
+abbrev decreases-loop : tie.decreases-loop-i
 decreases-loop part n₀ i₀ n i = i
 
-pub number-spec : {M : Type 1} → statement M
-number-spec =
+pub number_spec : {M : Type 1} → statement M
+number_spec =
     tie.close
     (tie.spec
     invariant-loop

@@ -6,11 +6,11 @@ use borrow.Author.Rules.{rules}
 use Rattle.asked.proofs.records.post.Statement.{statement}
 use Rattle.asked.proofs.records.post.Tie as tie
 
-slice-aggregate-line-call : tie.Need-slice-aggregate-line-call
-slice-aggregate-line-call c = sym (length-take-le _ _ (omega (arith, c.before.at_most.ensures)))
+slice-aggregate-line-call : tie.Need-slice_bounds-line_call-end-2
+slice-aggregate-line-call c = sym (length-take-le _ _ (omega (arith, c.before.at_most-n.ensures)))
 
-pub post-spec : {M : Type 1} → statement M
-post-spec =
+pub post_spec : {M : Type 1} → statement M
+post_spec =
     tie.close
     (tie.spec
     (λ c κs. search rules)

@@ -3,14 +3,14 @@ use Rattle.std.proofs.Common.{◌-◌, ◌≤◌, rules}
 use Rattle.brute.proofs.boards.board_of.Statement.{statement}
 use Rattle.brute.proofs.boards.board_of.Tie as tie
 
-abbrev invariant-loop : tie.invariant-loop
+abbrev invariant-loop : tie.invariant-loop-i
 invariant-loop f number m₀ i₀ m i = 0 ≤ i
 
-abbrev decreases-loop : tie.decreases-loop
+abbrev decreases-loop : tie.decreases-loop-i
 decreases-loop f number m₀ i₀ m i = f.places - i
 
-pub board-of-spec : {M : Type 1} → statement M
-board-of-spec =
+pub board_of_spec : {M : Type 1} → statement M
+board_of_spec =
     tie.close
     (tie.spec invariant-loop decreases-loop (λ c. search rules) (λ c κs. search rules) (λ c. search rules) (λ c. search rules)
     (λ c. search rules) (λ c. search rules))

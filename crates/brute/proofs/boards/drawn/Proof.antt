@@ -3,14 +3,14 @@ use Rattle.std.proofs.Common.{◌-◌, ◌≤◌, rules}
 use Rattle.brute.proofs.boards.drawn.Statement.{statement}
 use Rattle.brute.proofs.boards.drawn.Tie as tie
 
-abbrev invariant-loop : tie.invariant-loop
+abbrev invariant-loop : tie.invariant-loop-turns
 invariant-loop f count t₀ draw₀ turns₀ t draw turns = 0 ≤ turns
 
-abbrev decreases-loop : tie.decreases-loop
+abbrev decreases-loop : tie.decreases-loop-turns
 decreases-loop f count t₀ draw₀ turns₀ t draw turns = count - turns
 
-pub drawn-spec : {M : Type 1} → statement M
-drawn-spec =
+pub drawn_spec : {M : Type 1} → statement M
+drawn_spec =
     tie.close
     (tie.spec
     invariant-loop

@@ -3,14 +3,14 @@ use Rattle.std.proofs.Common.{◌-◌, ◌≤◌, rules}
 use Rattle.brute.proofs.boards.sets_of.Statement.{statement}
 use Rattle.brute.proofs.boards.sets_of.Tie as tie
 
-abbrev invariant-loop : tie.invariant-loop
+abbrev invariant-loop : tie.invariant-loop-k
 invariant-loop f i number s₀ k₀ s k = 0 ≤ k
 
-abbrev decreases-loop : tie.decreases-loop
+abbrev decreases-loop : tie.decreases-loop-k
 decreases-loop f i number s₀ k₀ s k = f.files - k
 
-pub sets-of-spec : {M : Type 1} → statement M
-sets-of-spec =
+pub sets_of_spec : {M : Type 1} → statement M
+sets_of_spec =
     tie.close
     (tie.spec
     invariant-loop

@@ -4,11 +4,11 @@ use Rattle.std.proofs.Common.{rules}
 use Rattle.brute.proofs.compare.compared.Statement.{statement}
 use Rattle.brute.proofs.compare.compared.Tie as tie
 
-take-requires : tie.Need-take-requires
+take-requires : tie.Need-take-rest-requires
 take-requires c κs = fresh_store
 
-pub compared-spec : {M : Type 1} → statement M
-compared-spec =
+pub compared_spec : {M : Type 1} → statement M
+compared_spec =
     tie.close
     (tie.spec
     (λ c κs. search rules)

@@ -3,14 +3,14 @@ use Rattle.std.proofs.Common.{◌-◌, ◌≤◌, rules}
 use Rattle.brute.proofs.compare.zero_from.Statement.{statement}
 use Rattle.brute.proofs.compare.zero_from.Tie as tie
 
-abbrev invariant-loop : tie.invariant-loop
+abbrev invariant-loop : tie.invariant-loop-i
 invariant-loop n at i₀ i = 0 ≤ i
 
-abbrev decreases-loop : tie.decreases-loop
+abbrev decreases-loop : tie.decreases-loop-i
 decreases-loop n at i₀ i = 32 - i
 
-pub zero-from-spec : {M : Type 1} → statement M
-zero-from-spec =
+pub zero_from_spec : {M : Type 1} → statement M
+zero_from_spec =
     tie.close
     (tie.spec
     invariant-loop

@@ -3,14 +3,14 @@ use Rattle.std.proofs.Common.{◌-◌, ◌≤◌, rules}
 use Rattle.brute.proofs.orders.all_held_back.Statement.{statement}
 use Rattle.brute.proofs.orders.all_held_back.Tie as tie
 
-abbrev invariant-loop : tie.invariant-loop
+abbrev invariant-loop : tie.invariant-loop-i
 invariant-loop a sets₀ i₀ sets i = 0 ≤ i
 
-abbrev decreases-loop : tie.decreases-loop
+abbrev decreases-loop : tie.decreases-loop-i
 decreases-loop a sets₀ i₀ sets i = a.count - i
 
-pub all-held-back-spec : {M : Type 1} → statement M
-all-held-back-spec =
+pub all_held_back_spec : {M : Type 1} → statement M
+all_held_back_spec =
     tie.close
     (tie.spec
     invariant-loop

@@ -3,14 +3,14 @@ use Rattle.std.proofs.Common.{◌-◌, ◌≤◌, rules}
 use Rattle.brute.proofs.orders.all_orders.Statement.{statement}
 use Rattle.brute.proofs.orders.all_orders.Tie as tie
 
-abbrev invariant-loop : tie.invariant-loop
+abbrev invariant-loop : tie.invariant-loop-number
 invariant-loop a at back end t₀ number₀ t number = 0 ≤ number
 
-abbrev decreases-loop : tie.decreases-loop
+abbrev decreases-loop : tie.decreases-loop-number
 decreases-loop a at back end t₀ number₀ t number = end - number
 
-pub all-orders-spec : {M : Type 1} → statement M
-all-orders-spec =
+pub all_orders_spec : {M : Type 1} → statement M
+all_orders_spec =
     tie.close
     (tie.spec
     invariant-loop

@@ -3,14 +3,14 @@ use Rattle.std.proofs.Common.{◌-◌, ◌≤◌, rules}
 use Rattle.brute.proofs.orders.free_place.Statement.{statement}
 use Rattle.brute.proofs.orders.free_place.Tie as tie
 
-abbrev invariant-loop : tie.invariant-loop
+abbrev invariant-loop : tie.invariant-loop-i
 invariant-loop taken skip passed₀ i₀ passed i = i ≤ 6
 
-abbrev decreases-loop : tie.decreases-loop
+abbrev decreases-loop : tie.decreases-loop-i
 decreases-loop taken skip passed₀ i₀ passed i = 6 - i
 
-pub free-place-spec : {M : Type 1} → statement M
-free-place-spec =
+pub free_place_spec : {M : Type 1} → statement M
+free_place_spec =
     tie.close
     (tie.spec
     invariant-loop

@@ -3,14 +3,14 @@ use Rattle.std.proofs.Common.{◌-◌, ◌≤◌, rules}
 use Rattle.brute.proofs.orders.is_expected.Statement.{statement}
 use Rattle.brute.proofs.orders.is_expected.Tie as tie
 
-abbrev invariant-loop : tie.invariant-loop
+abbrev invariant-loop : tie.invariant-loop-i
 invariant-loop place at n name i₀ i = 0 ≤ i
 
-abbrev decreases-loop : tie.decreases-loop
+abbrev decreases-loop : tie.decreases-loop-i
 decreases-loop place at n name i₀ i = n - i
 
-pub is-expected-spec : {M : Type 1} → statement M
-is-expected-spec =
+pub is_expected_spec : {M : Type 1} → statement M
+is_expected_spec =
     tie.close
     (tie.spec
     invariant-loop

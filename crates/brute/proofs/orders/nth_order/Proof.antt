@@ -3,14 +3,14 @@ use Rattle.std.proofs.Common.{◌-◌, ◌≤◌, rules}
 use Rattle.brute.proofs.orders.nth_order.Statement.{statement}
 use Rattle.brute.proofs.orders.nth_order.Tie as tie
 
-abbrev invariant-loop : tie.invariant-loop
+abbrev invariant-loop : tie.invariant-loop-i
 invariant-loop n number p₀ i₀ p i = 0 ≤ i
 
-abbrev decreases-loop : tie.decreases-loop
+abbrev decreases-loop : tie.decreases-loop-i
 decreases-loop n number p₀ i₀ p i = n - i
 
-pub nth-order-spec : {M : Type 1} → statement M
-nth-order-spec =
+pub nth_order_spec : {M : Type 1} → statement M
+nth_order_spec =
     tie.close
     (tie.spec
     invariant-loop

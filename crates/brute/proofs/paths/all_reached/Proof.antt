@@ -3,14 +3,14 @@ use Rattle.std.proofs.Common.{◌-◌, ◌≤◌, rules}
 use Rattle.brute.proofs.paths.all_reached.Statement.{statement}
 use Rattle.brute.proofs.paths.all_reached.Tie as tie
 
-abbrev invariant-loop : tie.invariant-loop
+abbrev invariant-loop : tie.invariant-loop-i
 invariant-loop back n sets₀ i₀ sets i = 0 ≤ i
 
-abbrev decreases-loop : tie.decreases-loop
+abbrev decreases-loop : tie.decreases-loop-i
 decreases-loop back n sets₀ i₀ sets i = n - i
 
-pub all-reached-spec : {M : Type 1} → statement M
-all-reached-spec =
+pub all_reached_spec : {M : Type 1} → statement M
+all_reached_spec =
     tie.close
     (tie.spec
     invariant-loop

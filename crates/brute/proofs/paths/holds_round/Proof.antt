@@ -3,14 +3,14 @@ use Rattle.std.proofs.Common.{◌-◌, ◌≤◌, rules}
 use Rattle.brute.proofs.paths.holds_round.Statement.{statement}
 use Rattle.brute.proofs.paths.holds_round.Tie as tie
 
-abbrev invariant-loop : tie.invariant-loop
+abbrev invariant-loop : tie.invariant-loop-i
 invariant-loop back places n met₀ i₀ met i = 0 ≤ i
 
-abbrev decreases-loop : tie.decreases-loop
+abbrev decreases-loop : tie.decreases-loop-i
 decreases-loop back places n met₀ i₀ met i = n - i
 
-pub holds-round-spec : {M : Type 1} → statement M
-holds-round-spec =
+pub holds_round_spec : {M : Type 1} → statement M
+holds_round_spec =
     tie.close
     (tie.spec
     invariant-loop

@@ -3,14 +3,14 @@ use Rattle.std.proofs.Common.{◌-◌, ◌≤◌, rules}
 use Rattle.brute.proofs.paths.some_self.Statement.{statement}
 use Rattle.brute.proofs.paths.some_self.Tie as tie
 
-abbrev invariant-loop : tie.invariant-loop
+abbrev invariant-loop : tie.invariant-loop-i
 invariant-loop rows i₀ i = i ≤ 32
 
-abbrev decreases-loop : tie.decreases-loop
+abbrev decreases-loop : tie.decreases-loop-i
 decreases-loop rows i₀ i = 32 - i
 
-pub some-self-spec : {M : Type 1} → statement M
-some-self-spec =
+pub some_self_spec : {M : Type 1} → statement M
+some_self_spec =
     tie.close
     (tie.spec
     invariant-loop

@@ -1,20 +1,19 @@
 -- `loop_of` meets its contract. Assumes nothing.
 use mathlib.Core.Path.{sym, ◌∙◌}
-use borrow.Author.Tests.{not_true, not-false}
 use Rattle.digraph.proofs.AnswerLaws.{carries_none, carries_loop}
 use borrow.Author.Rules.{rules}
 use Rattle.digraph.proofs.answers.loop_of.Statement.{statement}
 use Rattle.digraph.proofs.answers.loop_of.Tie as tie
 
-returns : tie.Need-returns
-returns c = let u = c.before.is-unsafe in let a = c.before.before.args in
-    carries_none a.b a.t2 (sym u.ensures ∙ not_true u.result c.if1.true)
+returns : tie.Need-returns-then-not-is_unsafe
+returns c = let u = c.before.is_unsafe in let a = c.before.before.args in
+    carries_none a.b a.r (sym u.ensures ∙ c.if-not-is_unsafe.true)
 
-returns-2 : tie.Need-returns-2
-returns-2 c = let i = c.before.before in let u = i.before.is-unsafe in let a = i.before.before.args in
-    carries_loop a.b a.t2 c.loop-with.result (sym u.ensures ∙ not-false u.result i.if1.false) c.loop-with.ensures
+returns-2 : tie.Need-returns
+returns-2 c = let i = c.before.before in let u = i.before.is_unsafe in let a = i.before.before.args in
+    carries_loop a.b a.r c.loop_with.result (sym u.ensures ∙ i.if-not-is_unsafe.false) c.loop_with.ensures
 
-pub loop-of-spec : {M : Type 1} → statement M
-loop-of-spec =
+pub loop_of_spec : {M : Type 1} → statement M
+loop_of_spec =
     tie.close
     (tie.spec (λ c κs. search rules) returns (λ c. search rules) (λ c κs. search rules) returns-2)

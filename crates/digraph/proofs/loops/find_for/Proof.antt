@@ -1,28 +1,27 @@
 -- `find_for` meets its contract. Assumes nothing.
 use mathlib.Core.Path.{refl, sym, ◌∙◌}
 use native.Mathlib.Omega.{arith}
-use borrow.Author.Tests.{not_true, not-false}
 use Rattle.laws.specs.Tests.{never}
 use borrow.Author.Rules.{rules}
 use Rattle.digraph.proofs.AnswerLaws.{waiter_found}
 use Rattle.digraph.proofs.loops.find_for.Statement.{statement}
 use Rattle.digraph.proofs.loops.find_for.Tie as tie
 
-returns : tie.Need-returns
-returns c = let w = c.before.is-waiting in let n = sym w.ensures ∙ not_true w.result c.if1.true in
+returns : tie.Need-returns-then-not-is_waiting
+returns c = let w = c.before.is_waiting in let n = sym w.ensures ∙ c.if-not-is_waiting.true in
     record { is_loop = λ u _. never u n; is_none = λ u. refl; fits = omega arith }
 
-returns-2 : tie.Need-returns-2
-returns-2 c = record { is_loop = λ _ z. absurd (c.if2.true z); is_none = λ u. refl; fits = omega arith }
+returns-2 : tie.Need-returns-then-q-ne0
+returns-2 c = record { is_loop = λ _ z. absurd (c.if-q-ne0.true z); is_none = λ u. refl; fits = omega arith }
 
-returns-3 : tie.Need-returns-3
-returns-3 c = let f = c.before.awaited in let j = c.before.before in let i = j.before.before in let w = i.before.is-waiting in
+returns-3 : tie.Need-returns
+returns-3 c = let f = c.before.awaited in let j = c.before.before in let i = j.before.before in let w = i.before.is_waiting in
     let s = i.before.before.before in let a = s.args in
-    waiter_found a.t1 a.p f.result c.find-given.result (search rules) (record { least = search rules; most = search rules })
-    (sym w.ensures ∙ not-false w.result i.if1.false) (search rules) f.ensures c.find-given.ensures
+    waiter_found a.b a.p f.result c.find_given.result (search rules) (record { least = search rules; most = search rules })
+    (sym w.ensures ∙ i.if-not-is_waiting.false) (search rules) f.ensures c.find_given.ensures
 
-pub find-for-spec : {M : Type 1} → statement M
-find-for-spec =
+pub find_for_spec : {M : Type 1} → statement M
+find_for_spec =
     tie.close
     (tie.spec
     (λ c. search rules)

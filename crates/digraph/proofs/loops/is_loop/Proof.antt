@@ -8,7 +8,7 @@ use Rattle.digraph.proofs.loops.is_loop.Tie as tie
 
 returns : tie.Need-returns
 returns c = let f = c.before.before in let a = f.before.before.before.args in
-    c.is-loop-in.ensures ∙ loop_on (board_of a.sets.now a.rest) _ a.l.now f.fill-steps.ensures
+    c.is_loop_in.ensures ∙ loop_on (board_of a.sets.now a.rest) _ a.l.now f.fill_steps.ensures
 
-pub is-loop-spec : {M : Type 1} → statement M
-is-loop-spec = tie.close (tie.spec (λ c κs. search rules) (λ c κs. search rules) returns)
+pub is_loop_spec : {M : Type 1} → statement M
+is_loop_spec = tie.close (tie.spec (λ c κs. search rules) (λ c κs. search rules) returns)

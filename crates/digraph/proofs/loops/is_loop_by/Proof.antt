@@ -7,55 +7,54 @@ use Rattle.store.specs.Sets.{Sets, IsStore}
 use Rattle.store.specs.Store.{board_of}
 use Rattle.store.proofs.Laws.{fresh_store}
 use Rattle.store.proofs.Given.{given_store}
-use borrow.Author.Tests.{not_true, not-false}
 use Rattle.digraph.proofs.LoopLaws.{not_in, not-claimed, loop-with, stands-as, claims-as, given-as}
 use borrow.Author.Rules.{rules}
 use Rattle.digraph.proofs.loops.is_loop_by.Statement.{statement}
 use Rattle.digraph.proofs.loops.is_loop_by.Tie as tie
 
-take-requires : tie.Need-take-requires
+take-requires : tie.Need-take-rest-requires
 take-requires c κs = fresh_store
 
-abbrev start : tie.After-take → tie.Start
+abbrev start : tie.After-take-rest → tie.Start
 start t = t.before.before.before
 
 -- whether p is admitted
-stands : (u : tie.After-is-admitted) → let a = (start u.before.before).args in
+stands : (u : tie.After-is_admitted) → let a = (start u.before.before).args in
     u.is-admitted.result ≡ is_admitted (at a.b a.p).standing
-stands u = let t = u.before.before in let s = start t in let k = t.take in
-    u.is-admitted.ensures ∙ ap is_admitted (u.before.standing-at.ensures
-    ∙ stands-as s.args.b k.new.1.0 k.result k.ensures.0 k.ensures.1 s.args.p s.pre.0 s.pre.1)
+stands u = let t = u.before.before in let s = start t in let k = t.take-rest in
+    u.is_admitted.ensures ∙ ap is_admitted (u.before.standing_at-s.ensures
+    ∙ stands-as s.args.b k.new.1.0 k.result k.ensures.0 k.ensures.1 s.args.p s.requires.0 s.requires.1)
 
-returns : tie.Need-returns
+returns : tie.Need-returns-then-not-is_admitted
 returns c = let u = c.before in let a = (start u.before.before).args in
-    sym (not_in a.b a.p a.f a.l.now (sym (stands u) ∙ not_true u.is-admitted.result c.if1.true))
+    sym (not_in a.b a.p a.f a.l.now (sym (stands u) ∙ c.if-not-is_admitted.true))
 
 -- whether p claims f
-claiming : (h : tie.After-has-claim) → let a = (start h.before.before.before.before.before).args in
+claiming : (h : tie.After-has_claim) → let a = (start h.before.before.before.before.before).args in
     h.has-claim.result ≡ claims (at a.b a.p) a.f
-claiming h = let t = h.before.before.before.before.before in let s = start t in let k = t.take in
-    h.has-claim.ensures
-    ∙ claims-as s.args.b k.new.1.0 k.result k.ensures.0 k.ensures.1 s.args.p s.pre.0 s.pre.1 s.args.f
+claiming h = let t = h.before.before.before.before.before in let s = start t in let k = t.take-rest in
+    h.has_claim.ensures
+    ∙ claims-as s.args.b k.new.1.0 k.result k.ensures.0 k.ensures.1 s.args.p s.requires.0 s.requires.1 s.args.f
 
-returns-2 : tie.Need-returns-2
+returns-2 : tie.Need-returns-then-not-has_claim
 returns-2 c = let h = c.before in let a = (start h.before.before.before.before.before).args in
-    sym (not-claimed a.b a.p a.f a.l.now (sym (claiming h) ∙ not_true h.has-claim.result c.if2.true))
+    sym (not-claimed a.b a.p a.f a.l.now (sym (claiming h) ∙ c.if-not-has_claim.true))
 
-is-loop-requires : tie.Need-is-loop-requires
+is-loop-requires : tie.Need-is_loop-requires
 is-loop-requires c κs = let g = c.before in let t = g.before.before.before.before.before.before.before.before in let s = start t in
     subst IsStore (sym g.give.ensures)
-    (given_store t.take.new.1.0 s.args.p s.args.f s.pre.0 s.pre.1 t.take.ensures.0.0)
+    (given_store t.take-rest.new.1.0 s.args.p s.args.f s.requires.0 s.requires.1 t.take-rest.ensures.0.0)
 
-returns-3 : tie.Need-returns-3
+returns-3 : tie.Need-returns
 returns-3 c = let g = c.before.before in let d = g.before.before in let h = d.before in let i = h.before.before in let u = i.before in
-    let t = u.before.before in let s = start t in let a = s.args in let k = t.take in
+    let t = u.before.before in let s = start t in let a = s.args in let k = t.take-rest in
     c.is_loop.ensures ∙ ap (λ (x : Board). is_loop_of (step x) a.l.now) (ap (λ (x : Sets). board_of x k.result) g.give.ensures
-    ∙ given-as a.b k.new.1.0 k.result k.ensures.0 k.ensures.1 a.p s.pre.0 s.pre.1 a.f)
-    ∙ loop-with a.b a.p a.f a.l.now (record { least = s.pre.0; most = s.pre.1 })
-    (sym (stands u) ∙ not-false u.is-admitted.result i.if1.false) (sym (claiming h) ∙ not-false h.has-claim.result d.if2.false)
+    ∙ given-as a.b k.new.1.0 k.result k.ensures.0 k.ensures.1 a.p s.requires.0 s.requires.1 a.f)
+    ∙ loop-with a.b a.p a.f a.l.now (record { least = s.requires.0; most = s.requires.1 })
+    (sym (stands u) ∙ i.if-not-is_admitted.false) (sym (claiming h) ∙ d.if-not-has_claim.false)
 
-pub is-loop-by-spec : {M : Type 1} → statement M
-is-loop-by-spec =
+pub is_loop_by_spec : {M : Type 1} → statement M
+is_loop_by_spec =
     tie.close
     (tie.spec
     take-requires

@@ -9,32 +9,32 @@ use Rattle.digraph.proofs.LoopLaws.{place_hit, place_miss, place_end}
 use Rattle.digraph.proofs.loops.place_of.Statement.{statement}
 use Rattle.digraph.proofs.loops.place_of.Tie as tie
 
-abbrev invariant-loop : tie.invariant-loop
+abbrev invariant-loop : tie.invariant-loop-j
 invariant-loop k y at j₀ j = (k ≤ j) × (j ≤ 32) × (k + place_of y (drop k at) ≡ j + place_of y (drop j at))
 
-abbrev decreases-loop : tie.decreases-loop
+abbrev decreases-loop : tie.decreases-loop-j
 decreases-loop k y at j₀ j = 32 - j
 
-loop-holds : tie.Need-loop-init invariant-loop decreases-loop
+loop-holds : tie.Need-loop-j-init invariant-loop decreases-loop
 loop-holds c = (search rules, search rules, refl)
 
-returns : tie.Need-returns invariant-loop decreases-loop
-returns c = let l = c.before.before.loop in let a = c.before.before.before.args in
-    let n : length a.t1 ≡ 32 = search rules in
-    let e = place_hit a.t1 l.j a.y (omega arith) c.if1.true in let i = l.invariant.2 in omega arith
+returns : tie.Need-returns-then-z-y invariant-loop decreases-loop
+returns c = let l = c.before.before.loop-j in let a = c.before.before.before.args in
+    let n : length a.at ≡ 32 = search rules in
+    let e = place_hit a.at l.j a.y (omega arith) c.if-z-y.true in let i = l.invariant.2 in omega arith
 
-loop-again : tie.Need-loop-preserved invariant-loop decreases-loop
-loop-again c = let l = c.before.before.loop in let a = c.before.before.before.args in
-    let n : length a.t1 ≡ 32 = search rules in
-    let e = place_miss a.t1 l.j a.y (omega arith) c.if1.false in let i = l.invariant.2 in (search rules, search rules, omega arith)
+loop-again : tie.Need-loop-j-preserved invariant-loop decreases-loop
+loop-again c = let l = c.before.before.loop-j in let a = c.before.before.before.args in
+    let n : length a.at ≡ 32 = search rules in
+    let e = place_miss a.at l.j a.y (omega arith) c.if-z-y.false in let i = l.invariant.2 in (search rules, search rules, omega arith)
 
-returns-2 : tie.Need-returns-2 invariant-loop decreases-loop
-returns-2 c = let l = c.before.loop in let a = c.before.before.args in
-    let n : length a.t1 ≡ 32 = search rules in
-    let e = place_end a.t1 l.j a.y (omega arith) in let i = l.invariant.2 in omega arith
+returns-2 : tie.Need-returns invariant-loop decreases-loop
+returns-2 c = let l = c.before.loop-j in let a = c.before.before.args in
+    let n : length a.at ≡ 32 = search rules in
+    let e = place_end a.at l.j a.y (omega arith) in let i = l.invariant.2 in omega arith
 
-pub place-of-spec : {M : Type 1} → statement M
-place-of-spec =
+pub place_of_spec : {M : Type 1} → statement M
+place_of_spec =
     tie.close
     (tie.spec
     invariant-loop

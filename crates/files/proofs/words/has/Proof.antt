@@ -7,18 +7,18 @@ use borrow.Author.Rules.{rules}
 use Rattle.files.proofs.words.has.Statement.{statement}
 use Rattle.files.proofs.words.has.Tie as tie
 
-returns : tie.Need-returns
-returns c = rw (no_number 64 c.before.args.f c.if1.true)
+returns : tie.Need-returns-then-f-eq0
+returns c = rw (no_number 64 c.before.args.f c.if-f-eq0.true)
 
-returns-2 : tie.Need-returns-2
-returns-2 c = rw (far_number 64 c.before.before.args.f c.if2.true)
+returns-2 : tie.Need-returns-then-f-gt64
+returns-2 c = rw (far_number 64 c.before.before.args.f c.if-f-gt64.true)
 
-returns-3 : tie.Need-returns-3
+returns-3 : tie.Need-returns
 returns-3 c = let a = c.before.before.before.args in
     rw (is_number_lem 64 a.f (search rules) (search rules)) (sym (has_words a.s.now (a.f - 1)))
 
-pub has-spec : {M : Type 1} → statement M
-has-spec =
+pub has_spec : {M : Type 1} → statement M
+has_spec =
     tie.close
     (tie.spec
     returns

@@ -9,25 +9,25 @@ use borrow.Author.Rules.{rules}
 use Rattle.files.proofs.words.is_empty.Statement.{statement}
 use Rattle.files.proofs.words.is_empty.Tie as tie
 
-abbrev invariant-loop : tie.invariant-loop
+abbrev invariant-loop : tie.invariant-loop-k
 invariant-loop s k₀ k = (k ≤ length s) × ((j : ℕ) → j < k → get_or s j 0 ≡ 0)
 
-abbrev decreases-loop : tie.decreases-loop
+abbrev decreases-loop : tie.decreases-loop-k
 decreases-loop s k₀ k = length s - k
 
-loop-holds : tie.Need-loop-init invariant-loop decreases-loop
+loop-holds : tie.Need-loop-k-init invariant-loop decreases-loop
 loop-holds c = (search rules, λ j h. absurd (omega arith))
 
-returns : tie.Need-returns invariant-loop decreases-loop
-returns c = let l = c.before.before.before in let s = l.before.args.s.now in let k = l.loop.k in
-    sym (some_word (row_words s (length s) refl) k c.before.before.loop-test.true (c.before.shared-slice-known.given k).fits c.if1.true)
+returns : tie.Need-returns-then-s-k-ne0 invariant-loop decreases-loop
+returns c = let l = c.before.before.before in let s = l.before.args.s.now in let k = l.loop-k.k in
+    sym (some_word (row_words s (length s) refl) k c.before.before.loop-k-test.true (c.before.shared_slice_known-1.given k).fits c.if-s-k-ne0.true)
 
-loop-again : tie.Need-loop-preserved invariant-loop decreases-loop
-loop-again c = (search rules, below_more _ _ c.before.before.before.loop.invariant.1 c.if1.false)
+loop-again : tie.Need-loop-k-preserved invariant-loop decreases-loop
+loop-again c = (search rules, below_more _ _ c.before.before.before.loop-k.invariant.1 c.if-s-k-ne0.false)
 
-returns-2 : tie.Need-returns-2 invariant-loop decreases-loop
+returns-2 : tie.Need-returns invariant-loop decreases-loop
 returns-2 c = let l = c.before in let s = l.before.args.s.now in
-    sym (no_word (row_words s (length s) refl) (λ j h. l.loop.invariant.1 j (omega arith)))
+    sym (no_word (row_words s (length s) refl) (λ j h. l.loop-k.invariant.1 j (omega arith)))
 
 pub is_empty_spec : {M : Type 1} → statement M
 is_empty_spec =

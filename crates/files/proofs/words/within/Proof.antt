@@ -12,31 +12,31 @@ use borrow.Author.Rules.{rules}
 use Rattle.files.proofs.words.within.Statement.{statement}
 use Rattle.files.proofs.words.within.Tie as tie
 
-abbrev invariant-loop : tie.invariant-loop
+abbrev invariant-loop : tie.invariant-loop-k
 invariant-loop s t k₀ k = (k ≤ length s) × ((j : ℕ) → j < k → bit_xor (get_or s j 0) (bit_and (get_or s j 0) (get_or t j 0)) ≡ 0)
 
-abbrev decreases-loop : tie.decreases-loop
+abbrev decreases-loop : tie.decreases-loop-k
 decreases-loop s t k₀ k = length s - k
 
-loop-holds : tie.Need-loop-init invariant-loop decreases-loop
+loop-holds : tie.Need-loop-k-init invariant-loop decreases-loop
 loop-holds c = (search rules, λ j h. absurd (omega arith))
 
-returns : tie.Need-returns invariant-loop decreases-loop
+returns : tie.Need-returns-then-s-k-ne0 invariant-loop decreases-loop
 returns c = let l = c.before.before.before.before.before in let s = l.before.args.s.now in let t = l.before.args.t.now in
-    let k = l.loop.k in let u = get_or s k 0 in let v = get_or t k 0 in
-    let b = (c.before.before.before.shared-slice-known.given k).fits in let d = (c.before.shared-slice-known3.given k).fits in
+    let k = l.loop-k.k in let u = get_or s k 0 in let v = get_or t k 0 in
+    let b = (c.before.before.before.shared_slice_known-1.given k).fits in let d = (c.before.shared_slice_known-in-loop-k-2-1.given k).fits in
     sym (sym (less_none (bits_of s) (bits_of t)) ∙ some_word (missing_words s t l.before.requires) k
-    c.before.before.before.before.loop-test.true (xor_lt 64 u (bit_and u v) b (and_lt 64 u v b d)) c.if1.true)
+    c.before.before.before.before.loop-k-test.true (xor_lt 64 u (bit_and u v) b (and_lt 64 u v b d)) c.if-s-k-ne0.true)
 
-loop-again : tie.Need-loop-preserved invariant-loop decreases-loop
-loop-again c = (search rules, below_more _ _ c.before.before.before.before.before.loop.invariant.1 c.if1.false)
+loop-again : tie.Need-loop-k-preserved invariant-loop decreases-loop
+loop-again c = (search rules, below_more _ _ c.before.before.before.before.before.loop-k.invariant.1 c.if-s-k-ne0.false)
 
-returns-2 : tie.Need-returns-2 invariant-loop decreases-loop
+returns-2 : tie.Need-returns invariant-loop decreases-loop
 returns-2 c = let l = c.before in let s = l.before.args.s.now in let t = l.before.args.t.now in
-    sym (sym (less_none (bits_of s) (bits_of t)) ∙ no_word (missing_words s t l.before.requires) (λ j h. l.loop.invariant.1 j (omega arith)))
+    sym (sym (less_none (bits_of s) (bits_of t)) ∙ no_word (missing_words s t l.before.requires) (λ j h. l.loop-k.invariant.1 j (omega arith)))
 
-pub within-spec : {M : Type 1} → statement M
-within-spec =
+pub within_spec : {M : Type 1} → statement M
+within_spec =
     tie.close
     (tie.spec
     invariant-loop

@@ -2,7 +2,6 @@
 use mathlib.Core.Path.{◌≡◌}
 use mathlib.Core.Bool.{true}
 use native.Mathlib.Omega.{arith}
-use borrow.Author.Tests.{not_true, not-false}
 use Rattle.theory.specs.Programs.{Is}
 use Rattle.host.proofs.Laws.{image_read}
 use Rattle.host.proofs.Digraph.{loop-refused, loop-no-program, loop_short, loop-written}
@@ -10,56 +9,56 @@ use borrow.Author.Rules.{rules}
 use Rattle.host.proofs.digraphs.lock_board_loop.Statement.{statement}
 use Rattle.host.proofs.digraphs.lock_board_loop.Tie as tie
 
-abbrev start : tie.After-read-image → tie.Start
+abbrev start : tie.After-read_image-loaded → tie.Start
 start k = k.before.before.before
 
 -- where the image is read
-read : (i : tie.Else1) → i.before.read-image.result.ok ≡ true
-read i = not-false i.before.read-image.result.ok i.if1.false
+read : (i : tie.Else-not-ok) → i.before.read-image.result.ok ≡ true
+read i = i.if-not-ok.false
 
 -- where the number is one of a program, too
-abbrev read-for : tie.Else3 → tie.Else1
+abbrev read-for : tie.Else-program-gt32 → tie.Else-not-ok
 read-for j = j.before.before
 
-is-program : (j : tie.Else3) → Is (start (read-for j).before).args.program
+is-program : (j : tie.Else-program-gt32) → Is (start (read-for j).before).args.program
 is-program j = record { least = search rules; most = search rules }
 
-returns : tie.Need-returns
-returns c = let k = c.before.before in let r = k.read-image in let a = (start k).args in
-    loop-refused a.image.now a.program a.list.now r.result r.ensures c.refusal-answer.result
-    (not_true r.result.ok c.before.if1.true) c.refusal-answer.ensures
+returns : tie.Need-returns-then-not-ok
+returns c = let k = c.before.before in let r = k.read_image-loaded in let a = (start k).args in
+    loop-refused a.image.now a.program a.list.now r.result r.ensures c.refusal_answer.result
+    (c.before.if-not-ok.true) c.refusal_answer.ensures
 
-returns-2 : tie.Need-returns-2
-returns-2 c = let i = c.before.before in let r = i.before.read-image in let a = (start i.before).args in
-    loop-no-program a.image.now a.program a.list.now r.result r.ensures c.refusal-answer2.result
-    (read i) (λ q. let l = q.least in omega (arith, c.before.if2.true)) c.refusal-answer2.ensures
+returns-2 : tie.Need-returns-then-program-eq0
+returns-2 c = let i = c.before.before in let r = i.before.read_image-loaded in let a = (start i.before).args in
+    loop-no-program a.image.now a.program a.list.now r.result r.ensures c.refusal_answer-then-program-eq0.result
+    (read i) (λ q. let l = q.least in omega (arith, c.before.if-program-eq0.true)) c.refusal_answer-then-program-eq0.ensures
 
-returns-3 : tie.Need-returns-3
-returns-3 c = let i = c.before.before.before in let r = i.before.read-image in let a = (start i.before).args in
-    loop-no-program a.image.now a.program a.list.now r.result r.ensures c.refusal-answer3.result
-    (read i) (λ q. let l = q.most in omega (arith, c.before.if3.true)) c.refusal-answer3.ensures
+returns-3 : tie.Need-returns-then-program-gt32
+returns-3 c = let i = c.before.before.before in let r = i.before.read_image-loaded in let a = (start i.before).args in
+    loop-no-program a.image.now a.program a.list.now r.result r.ensures c.refusal_answer-then-program-gt32.result
+    (read i) (λ q. let l = q.most in omega (arith, c.before.if-program-gt32.true)) c.refusal_answer-then-program-gt32.ensures
 
-returns-4 : tie.Need-returns-4
-returns-4 c = let j = c.before.before in let i = read-for j in let r = i.before.read-image in let a = (start i.before).args in
-    loop_short a.image.now a.program a.list.now r.result r.ensures c.refusal-answer4.result
-    (read i) (is-program j) c.before.if4.true c.refusal-answer4.ensures
+returns-4 : tie.Need-returns-then-list-lt32
+returns-4 c = let j = c.before.before in let i = read-for j in let r = i.before.read_image-loaded in let a = (start i.before).args in
+    loop_short a.image.now a.program a.list.now r.result r.ensures c.refusal_answer-then-list-lt32.result
+    (read i) (is-program j) c.before.if-list-lt32.true c.refusal_answer-then-list-lt32.ensures
 
-put-loop-requires : tie.Need-put-loop-requires
-put-loop-requires c κs = let i = read-for c.before.before.before in let r = i.before.read-image in
+put-loop-requires : tie.Need-put_loop-requires
+put-loop-requires c κs = let i = read-for c.before.before.before in let r = i.before.read_image-loaded in
     ((search rules, search rules), (image_read (start i.before).args.image.now r.result r.ensures (read i)).1, search rules)
 
 -- where the list is known to have room
-abbrev roomy : tie.After-put-loop → tie.Else4
+abbrev roomy : tie.After-put_loop → tie.Else-list-lt32
 roomy p = p.before.before.before
 
-returns-5 : tie.Need-returns-5
+returns-5 : tie.Need-returns
 returns-5 c = let p = c.before.before in let e = roomy p in let j = e.before in let i = read-for j in
-    let r = i.before.read-image in let a = (start i.before).args in
-    loop-written a.image.now a.program a.list.now r.result r.ensures p.put-loop.result _
-    (read i) (is-program j) e.if4.left p.put-loop.ensures
+    let r = i.before.read_image-loaded in let a = (start i.before).args in
+    loop-written a.image.now a.program a.list.now r.result r.ensures p.put_loop.result _
+    (read i) (is-program j) e.if-list-lt32.false p.put_loop.ensures
 
-pub lock-board-loop-spec : {M : Type 1} → statement M
-lock-board-loop-spec =
+pub lock_board_loop_spec : {M : Type 1} → statement M
+lock_board_loop_spec =
     tie.close
     (tie.spec
     (λ c κs. search rules)

@@ -6,14 +6,14 @@ use borrow.Author.Rules.{rules}
 use Rattle.host.proofs.digraphs.put_loop.Statement.{statement}
 use Rattle.host.proofs.digraphs.put_loop.Tie as tie
 
-put-order-requires : tie.Need-put-order-requires
-put-order-requires c κs = c.before.before.find-for.ensures.fits
+put-order-requires : tie.Need-put_order-requires
+put-order-requires c κs = c.before.before.find_for-found.ensures.fits
 
 returns : tie.Need-returns
 returns c = let p = c.before.before.put_order in let s = c.before.before.before.before.before in
-    let f = s.find-for in let a = s.before.before.args in
+    let f = s.find_for-found in let a = s.before.before.args in
     let n : length f.result.at ≡ 32 = search rules in
-    loop_placed a.b a.p f.result a.list.now _ p.result f.ensures n (search rules) p.ensures.0 p.ensures.1
+    loop_placed a.b a.p f.result a.list.now _ p.result f.ensures n (search rules) p.ensures.value p.ensures.buffer_after
 
-pub put-loop-spec : {M : Type 1} → statement M
-put-loop-spec = tie.close (tie.spec (λ c κs. search rules) put-order-requires (λ c. search rules) returns)
+pub put_loop_spec : {M : Type 1} → statement M
+put_loop_spec = tie.close (tie.spec (λ c κs. search rules) put-order-requires (λ c. search rules) returns)

@@ -9,5 +9,5 @@ returns : tie.Need-returns
 unfolding bytes_n
 returns c = refl
 
-pub row-bytes-spec : {M : Type 1} → statement M
-row-bytes-spec = tie.close (tie.spec (λ c. search rules) (λ c. search rules) (λ c. search rules) (λ c. search rules) returns)
+pub row_bytes_spec : {M : Type 1} → statement M
+row_bytes_spec = tie.close (tie.spec (λ c. search rules) (λ c. search rules) (λ c. search rules) (λ c. search rules) returns)

@@ -8,15 +8,15 @@ use borrow.Author.Rules.{rules}
 use Rattle.host.proofs.writing.answer_of.Statement.{statement}
 use Rattle.host.proofs.writing.answer_of.Tie as tie
 
-refusal-answer-requires : tie.Need-refusal-answer-requires
-refusal-answer-requires c κs = let n = unwritten_some c.before.before.w2.given.0.0 in omega (arith, n, c.number.ensures)
+refusal-answer-requires : tie.Need-refusal_answer-requires
+refusal-answer-requires c κs = let n = unwritten_some c.before.in-Refused.r in omega (arith, n, c.number.ensures)
 
-returns-2 : tie.Need-returns-2
+returns-2 : tie.Need-returns-in-Refused
 returns-2 c =
-    c.refusal-answer.ensures ∙ ap refusal_answer c.before.number.ensures ∙ sym (ap writing_answer c.before.before.before.w2.given.1)
+    c.refusal_answer.ensures ∙ ap refusal_answer c.before.number.ensures ∙ sym (ap writing_answer c.before.before.in-Refused.is)
 
-pub answer-of-spec : {M : Type 1} → statement M
-answer-of-spec =
+pub answer_of_spec : {M : Type 1} → statement M
+answer_of_spec =
     tie.close
     (tie.spec
     (λ c. search rules)

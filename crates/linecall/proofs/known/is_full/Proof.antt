@@ -5,13 +5,13 @@ use borrow.Author.Rules.{rules}
 use Rattle.linecall.proofs.known.is_full.Statement.{statement}
 use Rattle.linecall.proofs.known.is_full.Tie as tie
 
-returns : tie.Need-returns
+returns : tie.Need-returns-then-place-gt-HIGHEST_PLACE
 returns c =
-    sym (full_far _ _ c.if1.true)
+    sym (full_far _ _ c.if-place-gt-HIGHEST_PLACE.true)
 
-returns-2 : tie.Need-returns-2
+returns-2 : tie.Need-returns
 returns-2 c =
-    sym (full_near _ _ c.if1.false)
+    sym (full_near _ _ c.if-place-gt-HIGHEST_PLACE.false)
 
-pub is-full-spec : {M : Type 1} → statement M
-is-full-spec = tie.close (tie.spec returns (λ c. search rules) returns-2)
+pub is_full_spec : {M : Type 1} → statement M
+is_full_spec = tie.close (tie.spec returns (λ c. search rules) returns-2)

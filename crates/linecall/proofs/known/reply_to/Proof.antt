@@ -7,17 +7,17 @@ use borrow.Author.Rules.{rules}
 use Rattle.linecall.proofs.known.reply_to.Statement.{statement}
 use Rattle.linecall.proofs.known.reply_to.Tie as tie
 
-returns : tie.Need-returns
+returns : tie.Need-returns-in-Taken
 unfolding reply_to
 returns c =
-    rw c.before.before.before.enum_told.given.1 c.call.ensures
+    rw c.before.before.before.in-Taken.is c.call.ensures
 
-returns-2 : tie.Need-returns-2
+returns-2 : tie.Need-returns-in-Refused
 unfolding reply_to
-returns-2 c = let k = c.before.before.before.before in let s = k.before.before in
-    (rw k.reading.given.1 c.refused.ensures.0, (s.requires.1, subst IsEntries (sym s.requires.2) fresh_entries, c.refused.ensures.1))
+returns-2 c = let k = c.before.before in let s = k in
+    (rw c.before.in-Refused.is c.refused.ensures.comes_to, (s.requires.1, subst IsEntries (sym s.requires.2) fresh_entries, c.refused.ensures.carries))
 
-pub reply-to-spec : {M : Type 1} → statement M
-reply-to-spec =
+pub reply_to_spec : {M : Type 1} → statement M
+reply_to_spec =
     tie.close
     (tie.spec (λ c. search rules) (λ c κs. search rules) (λ c. search rules) (λ c κs. search rules) returns returns-2)

@@ -22,39 +22,39 @@ abbrev answered : tie.Start → Reply
 answered s = let a = s.args in replied (written_in a.sets.now a.lines.now a.c.progress) a.c.answer
 
 -- where the answer's number is known
-abbrev start : tie.After-of-answer → tie.Start
+abbrev start : tie.After-of_answer-n → tie.Start
 start r = r.before.before
 
 -- where it is 0
-abbrev accepted : tie.After-put-lines → tie.Then1
+abbrev accepted : tie.After-put_lines → tie.Then-n-eq0
 accepted p = p.before.before.before.before
 
-returns : tie.Need-returns
+returns : tie.Need-returns-then-n-eq0
 returns c =
     let p = c.before.before in
     let t = accepted p in
     let s = start t.before in
-    let e = sym t.before.of-answer.ensures ∙ t.if1.taken in
-    let n = own_count s.args.q (answered s) e (omega (arith, places s, s.pre.1)) in
-    (rw n p.put-lines.ensures.0, rw (own_lines s.args.q (answered s) e) p.put-lines.ensures.1)
+    let e = sym t.before.of_answer-n.ensures ∙ t.if-n-eq0.true in
+    let n = own_count s.args.q (answered s) e (omega (arith, places s, s.requires.1)) in
+    (rw n p.put_lines.ensures.value, rw (own_lines s.args.q (answered s) e) p.put_lines.ensures.journal_after)
 
 -- where the REFUSE line is known
-abbrev refused : tie.After-put-line → tie.After-refuse-line
+abbrev refused : tie.After-put_line → tie.After-refuse_line-l
 refused p = p.before.before
 
-returns-2 : tie.Need-returns-2
+returns-2 : tie.Need-returns
 returns-2 c =
     let p = c.before.before in
     let l = refused p in
     let i = l.before in
     let s = start i.before in
-    let m = i.before.of-answer.ensures in
-    let e = refused-lines s.args.q (answered s) (λ z. i.if1.left (m ∙ z)) in
-    let k = l.refuse-line.ensures ∙ ap (refuse_line s.args.q) m in
-    (rw e, rw (e, ← k) (put_one s.args.journal.now p.put-line.new.0 _ s.args.place p.put-line.ensures))
+    let m = i.before.of_answer-n.ensures in
+    let e = refused-lines s.args.q (answered s) (λ z. i.if-n-eq0.false (m ∙ z)) in
+    let k = l.refuse_line-l.ensures ∙ ap (refuse_line s.args.q) m in
+    (rw e, rw (e, ← k) (put_one s.args.journal.now p.put_line.new.0 _ s.args.place p.put_line.ensures))
 
-pub write-lines-spec : {M : Type 1} → statement M
-write-lines-spec =
+pub write_lines_spec : {M : Type 1} → statement M
+write_lines_spec =
     tie.close
     (tie.spec
     (λ c κs. search rules)

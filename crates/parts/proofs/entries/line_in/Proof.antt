@@ -4,10 +4,10 @@ use Rattle.parts.proofs.entries.line_in.Statement.{statement}
 use Rattle.parts.proofs.entries.line_in.Tie as tie
 
 returns : tie.Need-returns
-returns c = rw c.word-numbered.ensures
+returns c = rw c.word_numbered-word.ensures
 
-pub line-in-spec : {M : Type 1} → statement M
-line-in-spec =
+pub line_in_spec : {M : Type 1} → statement M
+line_in_spec =
     tie.close
     (tie.spec
     (λ c. search rules)

@@ -18,14 +18,14 @@ some : (n : ℕ) → n ≢ 0 → 1 ≤ n
 some n h = omega arith
 
 -- any other number
-returns-8 : tie.Need-returns-8
-returns-8 c = let n = c.before.args.n in let r = c.match.rest in
+returns-8 : tie.Need-returns-in_default
+returns-8 c = let n = c.before.args.n in let r = c.in_default.in_default-own.rest in
     sym (get_or-eq_default words Word.Refuse {n = n}
     (past n 6 r.1 (past n 5 r.0.1 (past n 4 r.0.0.1 (past n 3 r.0.0.0.1 (past n 2 r.0.0.0.0.1
     (past n 1 r.0.0.0.0.0.1 (some n r.0.0.0.0.0.0.1))))))))
 
-pub word-numbered-spec : {M : Type 1} → statement M
-word-numbered-spec =
+pub word_numbered_spec : {M : Type 1} → statement M
+word_numbered_spec =
     tie.close
     (tie.spec
     (λ c. search rules)

@@ -15,40 +15,40 @@ use borrow.Author.Rules.{rules}
 use Rattle.parts.proofs.modes.touches.Statement.{statement}
 use Rattle.parts.proofs.modes.touches.Tie as tie
 
-abbrev invariant-loop : tie.invariant-loop
+abbrev invariant-loop : tie.invariant-loop-k
 invariant-loop w r i v q j k₀ k =
     (k ≤ length w) × ((n : ℕ) → n < k → clashes (get_or w n 0) (get_or r n 0) (get_or i n 0) (get_or v n 0) (get_or q n 0) (get_or j n 0) ≡ 0)
 
-abbrev decreases-loop : tie.decreases-loop
+abbrev decreases-loop : tie.decreases-loop-k
 decreases-loop w r i v q j k₀ k = length w - k
 
-loop-holds : tie.Need-loop-init invariant-loop decreases-loop
+loop-holds : tie.Need-loop-k-init invariant-loop decreases-loop
 loop-holds c = (search rules, λ n h. absurd (omega arith))
 
-returns : tie.Need-returns invariant-loop decreases-loop
+returns : tie.Need-returns-then-clash invariant-loop decreases-loop
 returns c = let read = c.before.before in let l = read.before.before.before.before.before.before.before in
     let s6 = l.before in let s5 = s6.before in let s4 = s5.before in let s3 = s4.before in let s2 = s3.before in let s1 = s2.before in
-    let a = s1.before.args in let p = s1.before.requires in let k = l.loop.k in
+    let a = s1.before.args in let p = s1.before.requires in let k = l.loop-k.k in
     let w = a.w.now in let r = a.r.now in let i = a.i.now in let v = a.v.now in let q = a.q.now in let j = a.j.now in
     let fit = clash_word (get_or w k 0) (get_or r k 0) (get_or i k 0) (get_or v k 0) (get_or q k 0) (get_or j k 0)
-    (s1.shared-slice-known.given k).fits (s2.shared-slice-known2.given k).fits (s3.shared-slice-known3.given k).fits
-    (s4.shared-slice-known4.given k).fits (s5.shared-slice-known5.given k).fits (s6.shared-slice-known6.given k).fits in
+    (s1.shared_slice_known-1.given k).fits (s2.shared_slice_known-2-1.given k).fits (s3.shared_slice_known-3-1.given k).fits
+    (s4.shared_slice_known-4-1.given k).fits (s5.shared_slice_known-5-1.given k).fits (s6.shared_slice_known-6-1.given k).fits in
     sym (sym (clashes_touch (set_of w) (set_of r) (set_of i) (set_of v) (set_of q) (set_of j))
-    ∙ ap not (some_word (clash-words w r i v q j p) k read.before.before.before.before.before.before.loop-test.true fit
-    (eqb-false _ 0 (not_true _ (sym c.before.clash.ensures ∙ c.if1.true)))))
+    ∙ ap not (some_word (clash-words w r i v q j p) k read.before.before.before.before.before.before.loop-k-test.true fit
+    (eqb-false _ 0 (not_true _ (sym c.before.clash.ensures ∙ c.if-clash.true)))))
 
-loop-again : tie.Need-loop-preserved invariant-loop decreases-loop
+loop-again : tie.Need-loop-k-preserved invariant-loop decreases-loop
 loop-again c = let l = c.before.before.before.before.before.before.before.before.before in
-    (search rules, below_more _ _ l.loop.invariant.1 (eqb-true _ 0 (not_of _ (sym c.before.clash.ensures ∙ c.if1.false))))
+    (search rules, below_more _ _ l.loop-k.invariant.1 (eqb-true _ 0 (not_of _ (sym c.before.clash.ensures ∙ c.if-clash.false))))
 
-returns-2 : tie.Need-returns-2 invariant-loop decreases-loop
+returns-2 : tie.Need-returns invariant-loop decreases-loop
 returns-2 c = let l = c.before in let s = l.before.before.before.before.before.before.before in let a = s.args in
     let w = a.w.now in let r = a.r.now in let i = a.i.now in let v = a.v.now in let q = a.q.now in let j = a.j.now in
     sym (sym (clashes_touch (set_of w) (set_of r) (set_of i) (set_of v) (set_of q) (set_of j))
-    ∙ ap not (no_word (clash-words w r i v q j s.requires) (λ n h. l.loop.invariant.1 n (omega arith))))
+    ∙ ap not (no_word (clash-words w r i v q j s.requires) (λ n h. l.loop-k.invariant.1 n (omega arith))))
 
-pub touches-spec : {M : Type 1} → statement M
-touches-spec =
+pub touches_spec : {M : Type 1} → statement M
+touches_spec =
     tie.close
     (tie.spec
     invariant-loop

@@ -3,8 +3,8 @@ use borrow.Author.Rules.{rules}
 use Rattle.parts.proofs.refusals.number.Statement.{statement}
 use Rattle.parts.proofs.refusals.number.Tie as tie
 
-pub number-spec : {M : Type 1} → statement M
-number-spec =
+pub number_spec : {M : Type 1} → statement M
+number_spec =
     tie.close
     (tie.spec
     (λ c. search rules)
@@ -27,23 +27,23 @@ number-spec =
     (λ c. search rules)
     (λ c. search rules)
     (λ c. search rules)
-    (λ c. rw c.enum_told.given.1)
-    (λ c. rw c.enum-told2.given.1)
-    (λ c. rw c.enum-told3.given.1)
-    (λ c. rw c.enum-told4.given.1)
-    (λ c. rw c.enum-told5.given.1)
-    (λ c. rw c.enum-told6.given.1)
-    (λ c. rw c.enum-told7.given.1)
-    (λ c. rw c.enum-told8.given.1)
-    (λ c. rw c.enum-told9.given.1)
-    (λ c. rw c.enum-told10.given.1)
-    (λ c. rw c.enum-told11.given.1)
-    (λ c. rw c.enum-told12.given.1)
-    (λ c. rw c.enum-told13.given.1)
-    (λ c. rw c.enum-told14.given.1)
-    (λ c. rw c.enum-told15.given.1)
-    (λ c. rw c.enum-told16.given.1)
-    (λ c. rw c.enum-told17.given.1)
-    (λ c. rw c.enum-told18.given.1)
-    (λ c. rw c.enum-told19.given.1)
-    (λ c. rw c.enum-told20.given.1))
+    (λ c. rw c.in-NotSound.is)
+    (λ c. rw c.in-JournalFull.is)
+    (λ c. rw c.in-NoVerb.is)
+    (λ c. rw c.in-BadLength.is)
+    (λ c. rw c.in-BadNumber.is)
+    (λ c. rw c.in-BadLabel.is)
+    (λ c. rw c.in-NotRising.is)
+    (λ c. rw c.in-OutOfRange.is)
+    (λ c. rw c.in-NotAbsent.is)
+    (λ c. rw c.in-ClaimsMeet.is)
+    (λ c. rw c.in-IsAbsent.is)
+    (λ c. rw c.in-IsHeld.is)
+    (λ c. rw c.in-IsWaiting.is)
+    (λ c. rw c.in-NotClaimed.is)
+    (λ c. rw c.in-IsOpen.is)
+    (λ c. rw c.in-NotOpen.is)
+    (λ c. rw c.in-IsRunning.is)
+    (λ c. rw c.in-BadRecord.is)
+    (λ c. rw c.in-NoRecord.is)
+    (λ c. rw c.in-HasRecord.is))

@@ -3,11 +3,11 @@ use borrow.Author.Rules.{rules}
 use Rattle.parts.proofs.refusals.of_answer.Statement.{statement}
 use Rattle.parts.proofs.refusals.of_answer.Tie as tie
 
-returns : tie.Need-returns-7
-returns c = rw (c.before.before.a.given.1, c.number.ensures)
+returns : tie.Need-returns-in-Refuse
+returns c = rw (c.before.in-Refuse.is, c.number.ensures)
 
-pub of-answer-spec : {M : Type 1} → statement M
-of-answer-spec =
+pub of_answer_spec : {M : Type 1} → statement M
+of_answer_spec =
     tie.close
     (tie.spec
     (λ c. search rules)

@@ -6,14 +6,14 @@ use borrow.Author.Rules.{rules}
 use Rattle.search.proofs.gives.can_give_by.Statement.{statement}
 use Rattle.search.proofs.gives.can_give_by.Tie as tie
 
-returns : tie.Need-returns
+returns : tie.Need-returns-then-in_use
 returns c = let g = c.before.before.args in
-    sym (ap (λ (x : Bool). not x && safe_in g.sets.now g.u.admitted g.p g.f) (sym c.before.in_use.ensures ∙ c.if1.true))
+    sym (ap (λ (x : Bool). not x && safe_in g.sets.now g.u.admitted g.p g.f) (sym c.before.in_use.ensures ∙ c.if-in_use.true))
 
-returns-2 : tie.Need-returns-2
+returns-2 : tie.Need-returns
 returns-2 c = let i = c.before.before in let g = i.before.before.args in
-    c.is-safe-by.ensures
-    ∙ sym (ap (λ (x : Bool). not x && safe_in g.sets.now g.u.admitted g.p g.f) (sym i.before.in_use.ensures ∙ i.if1.false))
+    c.is_safe_by.ensures
+    ∙ sym (ap (λ (x : Bool). not x && safe_in g.sets.now g.u.admitted g.p g.f) (sym i.before.in_use.ensures ∙ i.if-in_use.false))
 
-pub can-give-by-spec : {M : Type 1} → statement M
-can-give-by-spec = tie.close (tie.spec (λ c κs. search rules) returns (λ c κs. search rules) returns-2)
+pub can_give_by_spec : {M : Type 1} → statement M
+can_give_by_spec = tie.close (tie.spec (λ c κs. search rules) returns (λ c κs. search rules) returns-2)

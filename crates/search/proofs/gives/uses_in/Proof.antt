@@ -4,7 +4,7 @@ use Rattle.search.proofs.gives.uses_in.Statement.{statement}
 use Rattle.search.proofs.gives.uses_in.Tie as tie
 
 returns : tie.Need-returns
-returns c = rw c.opened.ensures
+returns c = rw c.opened-files.ensures
 
-pub uses-in-spec : {M : Type 1} → statement M
-uses-in-spec = tie.close (tie.spec (λ c κs. search rules) returns)
+pub uses_in_spec : {M : Type 1} → statement M
+uses_in_spec = tie.close (tie.spec (λ c κs. search rules) returns)

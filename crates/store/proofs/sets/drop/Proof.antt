@@ -5,7 +5,7 @@ use Rattle.store.proofs.sets.drop.Tie as tie
 
 returns : tie.Need-returns
 returns c = let x = c.before.before in let r = x.before.before.before in let w = r.before.before.before in
-    rw (c.remove3.ensures, x.inquirable-at.ensures.0, x.before.remove2.ensures, r.readable-at.ensures.0, r.before.remove.ensures, w.writable-at.ensures.0)
+    rw (c.remove-3.ensures, x.inquirable_at-j.ensures.0, x.before.remove-2.ensures, r.readable_at-q.ensures.0, r.before.remove.ensures, w.writable_at-v.ensures.0)
 
 pub drop_spec : {M : Type 1} → statement M
 drop_spec =

@@ -14,30 +14,30 @@ start h = h.before.before.before.before
 
 -- whether f is in the first set
 mine : (h : tie.After-has) → let a = (start h).args in h.has.result ≡ member (claim_at a.sets.now a.p Write) a.f
-mine h = let a = (start h).args in h.has.ensures ∙ ap (λ (k : ℕ). member (set_in a.sets.now k) a.f) h.before.before.before.writable-at.ensures.0
+mine h = let a = (start h).args in h.has.ensures ∙ ap (λ (k : ℕ). member (set_in a.sets.now k) a.f) h.before.before.before.writable_at-v.ensures.0
 
 -- whether it is in the second
-abbrev first : tie.After-has2 → tie.After-has
+abbrev first : tie.After-has-2 → tie.After-has
 first h = h.before.before.before.before.before
 
-theirs : (h : tie.After-has2) → let a = (start (first h)).args in h.has2.result ≡ member (claim_at a.sets.now a.p Read) a.f
+theirs : (h : tie.After-has-2) → let a = (start (first h)).args in h.has2.result ≡ member (claim_at a.sets.now a.p Read) a.f
 theirs h = let a = (start (first h)).args in
-    h.has2.ensures ∙ ap (λ (k : ℕ). member (set_in a.sets.now k) a.f) h.before.before.before.readable-at.ensures.0
+    h.has-2.ensures ∙ ap (λ (k : ℕ). member (set_in a.sets.now k) a.f) h.before.before.before.readable_at-q.ensures.0
 
-returns : tie.Need-returns
+returns : tie.Need-returns-then-has
 returns c = let w = c.before.before in let h = w.before in let a = (start h.before).args in
-    rw (sym (mine h.before) ∙ h.if1.true)
-    (ap (set a.sets.now w.writing-at.result) c.add.ensures ∙ ap (λ (k : ℕ). joined_in a.sets.now k a.f) w.writing-at.ensures.0)
+    rw (sym (mine h.before) ∙ h.if-has.true)
+    (ap (set a.sets.now w.writing_at-w.result) c.add.ensures ∙ ap (λ (k : ℕ). joined_in a.sets.now k a.f) w.writing_at-w.ensures.0)
 
-returns-2 : tie.Need-returns-2
+returns-2 : tie.Need-returns-then-has-2
 returns-2 c = let r = c.before.before in let e = r.before in let h = e.before in let a = (start (first h)).args in
-    rw (sym (mine (first h)) ∙ h.before.before.before.before.if1.false, sym (theirs h) ∙ e.if2.true)
-    (ap (set a.sets.now r.reading-at.result) c.add2.ensures ∙ ap (λ (k : ℕ). joined_in a.sets.now k a.f) r.reading-at.ensures.0)
+    rw (sym (mine (first h)) ∙ h.before.before.before.before.if-has.false, sym (theirs h) ∙ e.if-has-2.true)
+    (ap (set a.sets.now r.reading_at-r.result) c.add-then-has-2.ensures ∙ ap (λ (k : ℕ). joined_in a.sets.now k a.f) r.reading_at-r.ensures.0)
 
-returns-3 : tie.Need-returns-3
+returns-3 : tie.Need-returns
 returns-3 c = let r = c.before.before in let e = r.before in let h = e.before in let a = (start (first h)).args in
-    rw (sym (mine (first h)) ∙ h.before.before.before.before.if1.false, sym (theirs h) ∙ e.if2.false)
-    (ap (set a.sets.now r.inquiring-at.result) c.add3.ensures ∙ ap (λ (k : ℕ). joined_in a.sets.now k a.f) r.inquiring-at.ensures.0)
+    rw (sym (mine (first h)) ∙ h.before.before.before.before.if-has.false, sym (theirs h) ∙ e.if-has-2.false)
+    (ap (set a.sets.now r.inquiring_at-i.result) c.add-2.ensures ∙ ap (λ (k : ℕ). joined_in a.sets.now k a.f) r.inquiring_at-i.ensures.0)
 
 pub give_spec : {M : Type 1} → statement M
 give_spec =

@@ -9,34 +9,34 @@ use Rattle.store.proofs.sets.has_open.Statement.{statement}
 use Rattle.store.proofs.sets.has_open.Tie as tie
 
 abbrev start : tie.After-has → tie.Start
-start h = h.before.before.before.before
+start h = h.before.before.before
 
 -- whether f is in the first set
 mine : (h : tie.After-has) → let a = (start h).args in h.has.result ≡ member (open_at a.sets.now a.p Write) a.f
-mine h = let a = (start h).args in h.has.ensures ∙ ap (λ (k : ℕ). member (set_in a.sets.now k) a.f) h.before.before.before.writing-at.ensures.0
+mine h = let a = (start h).args in h.has.ensures ∙ ap (λ (k : ℕ). member (set_in a.sets.now k) a.f) h.before.before.writing_at-w.ensures.0
 
 -- whether it is in the second
-abbrev first : tie.After-has2 → tie.After-has
+abbrev first : tie.After-has-2 → tie.After-has
 first h = h.before.before.before.before.before
 
-theirs : (h : tie.After-has2) → let a = (start (first h)).args in h.has2.result ≡ member (open_at a.sets.now a.p Read) a.f
+theirs : (h : tie.After-has-2) → let a = (start (first h)).args in h.has2.result ≡ member (open_at a.sets.now a.p Read) a.f
 theirs h = let a = (start (first h)).args in
-    h.has2.ensures ∙ ap (λ (k : ℕ). member (set_in a.sets.now k) a.f) h.before.before.before.reading-at.ensures.0
+    h.has-2.ensures ∙ ap (λ (k : ℕ). member (set_in a.sets.now k) a.f) h.before.before.reading_at-r.ensures.0
 
-returns : tie.Need-returns
-returns c = rw (sym (mine c.before) ∙ c.if1.true)
+returns : tie.Need-returns-then-has
+returns c = rw (sym (mine c.before) ∙ c.if-has.true)
 
-returns-2 : tie.Need-returns-2
+returns-2 : tie.Need-returns-then-has-2
 returns-2 c = let h = c.before in
-    rw (sym (mine (first h)) ∙ h.before.before.before.before.if1.false, sym (theirs h) ∙ c.if2.true)
+    rw (sym (mine (first h)) ∙ h.before.before.before.if-has.false, sym (theirs h) ∙ c.if-has-2.true)
 
-returns-3 : tie.Need-returns-3
+returns-3 : tie.Need-returns
 returns-3 c = let i = c.before.before.before in let e = i.before in let h = e.before in let a = (start (first h)).args in
-    rw (sym (mine (first h)) ∙ h.before.before.before.before.if1.false, sym (theirs h) ∙ e.if2.false)
-    (c.has3.ensures ∙ ap (λ (k : ℕ). member (set_in a.sets.now k) a.f) i.inquiring-at.ensures.0)
+    rw (sym (mine (first h)) ∙ h.before.before.if-has.false, sym (theirs h) ∙ c.before.before.before.if-has-2.false)
+    (c.has-3.ensures ∙ ap (λ (k : ℕ). member (set_in a.sets.now k) a.f) c.before.before.inquiring_at-i.ensures.0)
 
-pub has-open-spec : {M : Type 1} → statement M
-has-open-spec =
+pub has_open_spec : {M : Type 1} → statement M
+has_open_spec =
     tie.close
     (tie.spec
     (λ c κs. search rules)

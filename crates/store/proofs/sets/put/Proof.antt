@@ -13,9 +13,9 @@ seats-are t = sym (length-map t.args.rest.seats _) ∙ t.well-formed.1.0.1.1.0.1
 
 returns : tie.Need-returns
 returns c = let s = c.before in let t = s.before.before in let a = t.args in (
-  ap (λ (r : Rest). board_of s.put-sets.new.0 r) c.put-seat.ensures
-      ∙ put-board a.q a.p a.sets.now _ a.rest t.requires.0.0 t.requires.0.1 s.put-sets.ensures (seats-are t),
-  (c.put-seat.ensures, s.put-sets.ensures.is_store),
+  ap (λ (r : Rest). board_of s.put_sets.new.0 r) c.put_seat.ensures
+      ∙ put-board a.q a.p a.sets.now _ a.rest t.requires.0.0 t.requires.0.1 s.put_sets.ensures (seats-are t),
+  (c.put_seat.ensures, s.put_sets.ensures.is_store),
 )
 
 pub put_spec : {M : Type 1} → statement M

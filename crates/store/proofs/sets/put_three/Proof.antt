@@ -6,12 +6,12 @@ use Rattle.store.proofs.sets.put_three.Tie as tie
 
 returns : tie.Need-returns
 returns c = let second = c.before.before in let first = second.before.before in let start = first.before.before in let a = start.args in
-    three-put a.k a.x a.y a.z a.sets.now first.put.new.0 second.put2.new.0 c.put3.new.0
-    start.requires.0 start.requires.1 first.put.ensures.1 second.put2.ensures.1 c.put3.ensures.1
+    three-put a.k a.x a.y a.z a.sets.now first.put.new.0 second.put-2.new.0 c.put-3.new.0
+    start.requires.0 start.requires.1 first.put.ensures.s_after_2 second.put-2.ensures.s_after_2 c.put-3.ensures.s_after_2
     (search rules) (search rules) (search rules)
 
-pub put-three-spec : {M : Type 1} → statement M
-put-three-spec =
+pub put_three_spec : {M : Type 1} → statement M
+put_three_spec =
     tie.close
     (tie.spec
     (λ c. search rules)

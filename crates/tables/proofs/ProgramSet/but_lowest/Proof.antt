@@ -11,5 +11,5 @@ returns : tie.Need-returns
 returns c = let t = c.before.before in let s = t.args.self in let w : s.bits < 2 ^ 32 = search rules in
     ap {B = ProgramSet} (λ x. record { bits = x }) (lowest_cleared s t.requires w)
 
-pub but-lowest-spec : {M : Type 1} → statement M
-but-lowest-spec = tie.close (tie.spec (λ c. search rules) returns)
+pub but_lowest_spec : {M : Type 1} → statement M
+but_lowest_spec = tie.close (tie.spec (λ c. search rules) returns)

@@ -9,7 +9,7 @@ use Rattle.tables.proofs.Digits.{ones_all}
 use Rattle.tables.proofs.ProgramSet.count.Statement.{statement}
 use Rattle.tables.proofs.ProgramSet.count.Tie as tie
 
-cast-result : tie.Need-overflow-cast-result
+cast-result : tie.Need-overflow_cast-result
 cast-result c = let n = c.before.args.self.bits in let w : n < 2 ^ 32 = search rules in let h = ones-le 32 n w in record { fits = omega arith }
 
 returns : tie.Need-returns

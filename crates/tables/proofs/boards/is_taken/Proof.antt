@@ -13,37 +13,37 @@ use borrow.Author.Rules.{rules}
 use Rattle.tables.proofs.boards.is_taken.Statement.{statement}
 use Rattle.tables.proofs.boards.is_taken.Tie as tie
 
-abbrev invariant-loop : tie.invariant-loop
+abbrev invariant-loop : tie.invariant-loop-i
 invariant-loop p f n rest i₀ i = (1 ≤ i) × (i ≤ 33) × (taken_in rest p f n ≡ any (λ k. other_uses (seat_at rest k) k p f n) (rising (33 - i) i))
 
-abbrev decreases-loop : tie.decreases-loop
+abbrev decreases-loop : tie.decreases-loop-i
 decreases-loop p f n rest i₀ i = 33 - i
 
-loop-holds : tie.Need-loop-init invariant-loop decreases-loop
+loop-holds : tie.Need-loop-i-init invariant-loop decreases-loop
 unfolding everyone
 loop-holds c = (search rules, search rules, refl)
 
 -- whether i is another that has it
 abbrev test : tie.Start invariant-loop decreases-loop → ℕ → Bool
-test s i = let a = s.args in other_uses (seat_at a.t1 i) i a.p a.f a.n
+test s i = let a = s.args in other_uses (seat_at a.rest i) i a.p a.f a.n
 
-returns : tie.Need-returns invariant-loop decreases-loop
+returns : tie.Need-returns-then-another_has invariant-loop decreases-loop
 returns c = let t = c.before in let l = t.before.before.before in
-    sym (rw (sym t.another-has.ensures ∙ c.if1.true) at (l.loop.invariant.2 ∙ any_step (test l.before) l.loop.i (omega arith)))
+    sym (rw (sym t.another_has.ensures ∙ c.if-another_has.true) at (l.loop-i.invariant.2 ∙ any_step (test l.before) l.loop-i.i (omega arith)))
 
-loop-again : tie.Need-loop-preserved invariant-loop decreases-loop
+loop-again : tie.Need-loop-i-preserved invariant-loop decreases-loop
 loop-again c = let t = c.before in let l = t.before.before.before in (
   search rules,
   search rules,
-  rw (add-one l.loop.i) (rw (sym t.another-has.ensures ∙ c.if1.false) at
-      (l.loop.invariant.2 ∙ any_step (test l.before) l.loop.i (omega arith))),
+  rw (add-one l.loop-i.i) (rw (sym t.another_has.ensures ∙ c.if-another_has.false) at
+      (l.loop-i.invariant.2 ∙ any_step (test l.before) l.loop-i.i (omega arith))),
 )
 
-returns-2 : tie.Need-returns-2 invariant-loop decreases-loop
-returns-2 c = let l = c.before in sym (l.loop.invariant.2 ∙ any-end (test l.before) l.loop.i (omega arith))
+returns-2 : tie.Need-returns invariant-loop decreases-loop
+returns-2 c = let l = c.before in sym (l.loop-i.invariant.2 ∙ any-end (test l.before) l.loop-i.i (omega arith))
 
-pub is-taken-spec : {M : Type 1} → statement M
-is-taken-spec =
+pub is_taken_spec : {M : Type 1} → statement M
+is_taken_spec =
     tie.close
     (tie.spec
     invariant-loop

@@ -9,43 +9,43 @@ use borrow.Author.Rules.{rules}
 use Rattle.tables.proofs.rows.claimed_by.Statement.{statement}
 use Rattle.tables.proofs.rows.claimed_by.Tie as tie
 
-abbrev invariant-loop : tie.invariant-loop
+abbrev invariant-loop : tie.invariant-loop-rest
 invariant-loop sets claimed₀ rest₀ claimed rest = Rest rest₀ rest × SharedBy (claimed_at sets) (came rest₀ rest) claimed
 
-abbrev decreases-loop : tie.decreases-loop
+abbrev decreases-loop : tie.decreases-loop-rest
 decreases-loop sets claimed₀ rest₀ claimed rest = rest.bits
 
-loop-holds : tie.Need-loop-init invariant-loop decreases-loop
+loop-holds : tie.Need-loop-rest-init invariant-loop decreases-loop
 loop-holds c = let a = c.args in (λ x e. e, shared-none (claimed_at a.sets.now) (came a.set a.set) (came-start a.set))
 
-lowest-requires : tie.Need-lowest-requires invariant-loop decreases-loop
-lowest-requires c κs = c.if1.true
+lowest-requires : tie.Need-lowest-p-requires invariant-loop decreases-loop
+lowest-requires c κs = c.loop-rest-test.true
 
-claims-of-requires : tie.Need-claims-of-requires invariant-loop decreases-loop
-claims-of-requires c κs = ((c.lowest.ensures.1.0, c.lowest.ensures.1.1), c.before.before.before.before.requires)
+claims-of-requires : tie.Need-claims_of-files-requires invariant-loop decreases-loop
+claims-of-requires c κs = ((c.lowest-p.ensures.1.0, c.lowest-p.ensures.1.1), c.before.before.before.before.requires)
 
-loop-less : tie.Need-loop-smaller invariant-loop decreases-loop
-loop-less c = let l = c.before.before.before.lowest in let s = c.before.before.before.before in
-    rw (c.but-lowest.ensures, sym l.ensures.0) (without_lt s.before.before.loop.rest l.result s.if1.true l.ensures.1.2)
+loop-less : tie.Need-loop-rest-smaller invariant-loop decreases-loop
+loop-less c = let l = c.before.before.before.lowest-p in let s = c.before.before.before.before in
+    rw (c.but_lowest-rest.ensures, sym l.ensures.0) (without_lt s.before.before.loop-rest.rest l.result s.loop-rest-test.true l.ensures.1.2)
 
-loop-again : tie.Need-loop-preserved invariant-loop decreases-loop
-loop-again c = let l = c.before.before.before.lowest in let s = c.before.before.before.before.before.before in
+loop-again : tie.Need-loop-rest-preserved invariant-loop decreases-loop
+loop-again c = let l = c.before.before.before.lowest-p in let s = c.before.before.before.before.before.before in
     let a = s.before.args in let g = claimed_at a.sets.now in let p = l.result in let h = l.ensures.1.2 in
-    let r = s.loop.rest in
-    rw (c.but-lowest.ensures, sym l.ensures.0, c.before.with.ensures, c.before.before.claims-of.ensures) (
-      rest_more a.set r p s.loop.invariant.0,
-      shared-more g (came a.set r) (came a.set (without_program r p)) p s.loop.claimed
+    let r = s.loop-rest.rest in
+    rw (c.but_lowest-rest.ensures, sym l.ensures.0, c.before.with-claimed.ensures, c.before.before.claims_of-files.ensures) (
+      rest_more a.set r p s.loop-rest.invariant.0,
+      shared-more g (came a.set r) (came a.set (without_program r p)) p s.loop-rest.claimed
           (claimed-words a.sets.now s.before.requires p l.ensures.1.0 l.ensures.1.1) (came-not a.set r p h)
-          (came-here a.set r p s.loop.invariant.0 h) (came-other a.set r p) s.loop.invariant.1,
+          (came-here a.set r p s.loop-rest.invariant.0 h) (came-other a.set r p) s.loop-rest.invariant.1,
     )
 
 returns : tie.Need-returns invariant-loop decreases-loop
-returns c = let l = c.before.before.loop in let a = c.before.before.before.args in
+returns c = let l = c.before.before.loop-rest in let a = c.before.before.before.args in
     shared_same (claimed_at a.sets.now) (came a.set l.rest) (has_program a.set) l.claimed
-    (λ p. came-all a.set l.rest p c.if1.false) l.invariant.1
+    (λ p. came-all a.set l.rest p c.loop-rest-test.false) l.invariant.1
 
-pub claimed-by-spec : {M : Type 1} → statement M
-claimed-by-spec =
+pub claimed_by_spec : {M : Type 1} → statement M
+claimed_by_spec =
     tie.close
     (tie.spec
     invariant-loop

@@ -19,43 +19,43 @@ use Rattle.tables.proofs.rows.fill_rows.Tie as tie
 abbrev row_bits : Sets → ProgramSet → ℕ → ℕ
 row_bits sets a i = (packed (held_by sets (suc i) (without_program a (suc i))) 32).bits
 
-abbrev invariant-loop : tie.invariant-loop
+abbrev invariant-loop : tie.invariant-loop-rest
 invariant-loop sets admitted rows₀ claimed rest₀ rows rest = WroteTo rest₀ (row_bits sets admitted) rows₀ rest rows
 
-abbrev decreases-loop : tie.decreases-loop
+abbrev decreases-loop : tie.decreases-loop-rest
 decreases-loop sets admitted rows₀ claimed rest₀ rows rest = rest.bits
 
-loop-holds : tie.Need-loop-init invariant-loop decreases-loop
+loop-holds : tie.Need-loop-rest-init invariant-loop decreases-loop
 loop-holds c = let a = c.before.args in wrote-start a.admitted (row_bits a.sets.now a.admitted) a.rows.now (search rules)
 
-lowest-requires : tie.Need-lowest-requires invariant-loop decreases-loop
-lowest-requires c κs = c.if1.true
+lowest-requires : tie.Need-lowest-p-requires invariant-loop decreases-loop
+lowest-requires c κs = c.loop-rest-test.true
 
-row-of-requires : tie.Need-row-of-requires invariant-loop decreases-loop
-row-of-requires c κs = let l = c.lowest in let s = c.before.before.before in
-    ((l.ensures.1.0, l.ensures.1.1), s.loop.invariant.0 l.result l.ensures.1.2, s.before.claimed-by.ensures, s.before.before.requires.1)
+row-of-requires : tie.Need-row_of-row-requires invariant-loop decreases-loop
+row-of-requires c κs = let l = c.lowest-p in let s = c.before.before.before in
+    ((l.ensures.1.0, l.ensures.1.1), s.loop-rest.invariant.0 l.result l.ensures.1.2, s.before.claimed_by-claimed.ensures, s.before.before.requires.1)
 
-loop-less : tie.Need-loop-smaller invariant-loop decreases-loop
-loop-less c = let l = c.before.before.lowest in let s = c.before.before.before in
-    rw (c.but-lowest.ensures, sym l.ensures.0) (without_lt s.before.before.loop.rest l.result s.if1.true l.ensures.1.2)
+loop-less : tie.Need-loop-rest-smaller invariant-loop decreases-loop
+loop-less c = let l = c.before.before.before.lowest-p in let s = c.before.before.before in
+    rw (c.but_lowest-rest.ensures, sym l.ensures.0) (without_lt s.before.before.before.loop-rest.rest l.result s.before.loop-rest-test.true l.ensures.1.2)
 
-loop-again : tie.Need-loop-preserved invariant-loop decreases-loop
-loop-again c = let l = c.before.before.lowest in let s = c.before.before.before.before.before in let a = s.before.before.args in
+loop-again : tie.Need-loop-rest-preserved invariant-loop decreases-loop
+loop-again c = let l = c.before.before.before.lowest-p in let s = c.before.before.before.before.before in let a = s.before.before.before.args in
     let z : l.result ≡ suc (l.result - 1) = omega (arith, l.ensures.1.0) in
-    rw (c.but-lowest.ensures, sym l.ensures.0) (wrote-more a.admitted (row_bits a.sets.now a.admitted) a.rows.now
-    s.loop.rest s.loop.rows l.result c.before.row_of.result.bits s.loop.invariant l.ensures.1
-    (ap (λ (r : ProgramSet). r.bits) c.before.row_of.ensures
+    rw (c.but_lowest-rest.ensures, sym l.ensures.0) (wrote-more a.admitted (row_bits a.sets.now a.admitted) a.rows.now
+    s.before.loop-rest.rest s.before.loop-rest.rows l.result c.before.before.row_of-row.result.bits s.before.loop-rest.invariant l.ensures.1
+    (ap (λ (r : ProgramSet). r.bits) c.before.before.row_of-row.ensures
     ∙ ap (λ (n : ℕ). (packed (held_by a.sets.now n (without_program a.admitted n)) 32).bits) z))
 
 returns : tie.Need-returns invariant-loop decreases-loop
 unfolding rows_of
-returns c = let l = c.before.before.loop in let t = c.before.before.before.before in let a = t.args in
-    wrote-done a.admitted (row_bits a.sets.now a.admitted) a.rows.now l.rest l.rows c.if1.false l.invariant
+returns c = let l = c.before.before.loop-rest in let t = c.before.before.before.before in let a = t.args in
+    wrote-done a.admitted (row_bits a.sets.now a.admitted) a.rows.now l.rest l.rows c.loop-rest-test.false l.invariant
     ∙ places_same _ _ 32 0 (λ i h m. ap (cond (has_program a.admitted (suc i)) (row_bits a.sets.now a.admitted i))
     (ap (λ (x : List ℕ). get_or x i 0) t.requires.0 ∙ get_or-replicate 32 i 0 0 (omega arith)))
 
-pub fill-rows-spec : {M : Type 1} → statement M
-fill-rows-spec =
+pub fill_rows_spec : {M : Type 1} → statement M
+fill_rows_spec =
     tie.close
     (tie.spec
     invariant-loop

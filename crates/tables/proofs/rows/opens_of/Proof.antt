@@ -12,7 +12,7 @@ use Rattle.tables.proofs.rows.opens_of.Statement.{statement}
 use Rattle.tables.proofs.rows.opens_of.Tie as tie
 
 -- where the three places are known
-module _ (c : tie.After-inquiring-at) where
+module _ (c : tie.After-inquiring_at-i) where
   abbrev start : tie.Start
   start = c.before.before.before
 
@@ -25,7 +25,7 @@ module _ (c : tie.After-inquiring-at) where
   third : length (row_in start.args.sets.now c.inquiring-at.result) ≡ word_count
   third = start.pre.1.words_are c.inquiring-at.result c.inquiring-at.ensures.1
 
-slice-aggregate-join : tie.Need-slice-aggregate-join
+slice-aggregate-join : tie.Need-slice_bounds-join-end
 slice-aggregate-join c = sym (first c.before.before)
 
 join-requires : tie.Need-join-requires
@@ -35,7 +35,7 @@ join-requires c κs = let r = c.before.before.before.before in first r ∙ sym (
 two : (k : tie.After-join) → length k.join.new.0 ≡ word_count
 two k = ap length k.join.ensures ∙ length-wordwise bit_or _ _ ∙ first k.before.before.before.before.before
 
-slice-aggregate-join-2 : tie.Need-slice-aggregate-join-2
+slice-aggregate-join-2 : tie.Need-slice_bounds-join-end-3
 slice-aggregate-join-2 c = sym (two c.before.before)
 
 join-requires-2 : tie.Need-join-requires-2
@@ -44,12 +44,12 @@ join-requires-2 c κs = let k = c.before.before.before.before in two k ∙ sym (
 returns : tie.Need-returns
 returns c = let m = c.before in let k = m.before.before.before.before.before in let i = k.before.before.before.before.before in
     let a = (start i).args.sets.now in
-    m.join2.ensures ∙ ap₂ (λ (x : List ℕ) (y : ℕ). wordwise bit_or x (row_in a y))
-    (k.join.ensures ∙ ap₂ (λ (x y : ℕ). wordwise bit_or (row_in a x) (row_in a y)) i.before.before.writing-at.ensures.0 i.before.reading-at.ensures.0)
-    i.inquiring-at.ensures.0
+    m.join-2.ensures ∙ ap₂ (λ (x : List ℕ) (y : ℕ). wordwise bit_or x (row_in a y))
+    (c.before.before.before.before.before.join.ensures ∙ ap₂ (λ (x y : ℕ). wordwise bit_or (row_in a x) (row_in a y)) i.writing_at-w.ensures.0 c.before.before.before.before.before.before.before.before.before.before.reading_at-r.ensures.0)
+    c.before.before.before.before.before.before.before.before.before.inquiring_at-i.ensures.0
 
-pub opens-of-spec : {M : Type 1} → statement M
-opens-of-spec =
+pub opens_of_spec : {M : Type 1} → statement M
+opens_of_spec =
     tie.close
     (tie.spec
     (λ c κs. search rules)

@@ -5,14 +5,14 @@ use borrow.Author.Rules.{rules}
 use Rattle.vectors.proofs.hosted.adler.Statement.{statement}
 use Rattle.vectors.proofs.hosted.adler.Tie as tie
 
-abbrev invariant-loop : tie.invariant-loop
+abbrev invariant-loop : tie.invariant-loop-i
 invariant-loop s a₀ b₀ i₀ a b i = (i ≤ length s) × (a < 65521) × (b < 65521)
 
-abbrev decreases-loop : tie.decreases-loop
+abbrev decreases-loop : tie.decreases-loop-i
 decreases-loop s a₀ b₀ i₀ a b i = length s - i
 
-pub adler-spec : {M : Type 1} → statement M
-adler-spec =
+pub adler_spec : {M : Type 1} → statement M
+adler_spec =
     tie.close
     (tie.spec
     invariant-loop

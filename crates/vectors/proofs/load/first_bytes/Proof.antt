@@ -6,11 +6,11 @@ use borrow.Author.Rules.{rules}
 use Rattle.vectors.proofs.load.first_bytes.Statement.{statement}
 use Rattle.vectors.proofs.load.first_bytes.Tie as tie
 
-slice-aggregate-result : tie.Need-slice-aggregate-result
+slice-aggregate-result : tie.Need-slice_bounds-result-end-2
 slice-aggregate-result c = sym (length-take-le _ _ (omega arith))
 
-pub first-bytes-spec : {M : Type 1} → statement M
-first-bytes-spec =
+pub first_bytes_spec : {M : Type 1} → statement M
+first_bytes_spec =
     tie.close
     (tie.spec
     (λ c. search rules)

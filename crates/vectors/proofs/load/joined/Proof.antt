@@ -6,14 +6,14 @@ use borrow.Author.Rules.{rules}
 use Rattle.vectors.proofs.load.joined.Statement.{statement}
 use Rattle.vectors.proofs.load.joined.Tie as tie
 
-abbrev invariant-loop : tie.invariant-loop
+abbrev invariant-loop : tie.invariant-loop-i
 invariant-loop name ending path₀ i₀ path i = (i ≤ 64) × (length path ≡ 64)
 
-abbrev decreases-loop : tie.decreases-loop
+abbrev decreases-loop : tie.decreases-loop-i
 decreases-loop name ending path₀ i₀ path i = 64 - i
 
-pub joined-spec : {M : Type 1} → statement M
-joined-spec =
+pub joined_spec : {M : Type 1} → statement M
+joined_spec =
     tie.close
     (tie.spec
     invariant-loop

@@ -6,11 +6,11 @@ use borrow.Author.Rules.{rules}
 use Rattle.vectors.proofs.load.opened.Statement.{statement}
 use Rattle.vectors.proofs.load.opened.Tie as tie
 
-slice-aggregate-open-read : tie.Need-slice-aggregate-open-read
+slice-aggregate-open-read : tie.Need-slice_bounds-open_read-end
 slice-aggregate-open-read c = sym (length-take-le _ _ (omega arith))
 
-pub opened-spec : {M : Type 1} → statement M
-opened-spec =
+pub opened_spec : {M : Type 1} → statement M
+opened_spec =
     tie.close
     (tie.spec
     (λ c κs. search rules)

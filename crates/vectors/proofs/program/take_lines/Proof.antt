@@ -5,14 +5,14 @@ use borrow.Author.Rules.{rules}
 use Rattle.vectors.proofs.program.take_lines.Statement.{statement}
 use Rattle.vectors.proofs.program.take_lines.Tie as tie
 
-abbrev invariant-loop : tie.invariant-loop
+abbrev invariant-loop : tie.invariant-loop-from
 invariant-loop input expected s₀ from₀ s from = from ≤ length input + 1
 
-abbrev decreases-loop : tie.decreases-loop
+abbrev decreases-loop : tie.decreases-loop-from
 decreases-loop input expected s₀ from₀ s from = (length input + 1) - from
 
-pub take-lines-spec : {M : Type 1} → statement M
-take-lines-spec =
+pub take_lines_spec : {M : Type 1} → statement M
+take_lines_spec =
     tie.close
     (tie.spec
     invariant-loop

@@ -13,8 +13,8 @@ join-requires c κs = same-words (search rules) (search rules)
 returns : tie.Need-returns
 returns c = let j = c.before in let k = j.before.before.before.before.before in rw (j.join.ensures, k.less.ensures)
 
-pub by-others-spec : {M : Type 1} → statement M
-by-others-spec =
+pub by_others_spec : {M : Type 1} → statement M
+by_others_spec =
     tie.close
     (tie.spec
     (λ c. search rules)

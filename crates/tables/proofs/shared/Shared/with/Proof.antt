@@ -12,10 +12,10 @@ join-requires c κs = same-words (search rules) (search rules)
 
 returns : tie.Need-returns
 returns c = let j = c.before.before.before.before.before in let k = j.before.before.before.before in
-    rw (c.before.join2.ensures, j.join.ensures, k.cut.ensures)
+    rw (c.before.join-2.ensures, j.join.ensures, k.cut.ensures)
 
-pub with-spec : {M : Type 1} → statement M
-with-spec =
+pub with_spec : {M : Type 1} → statement M
+with_spec =
     tie.close
     (tie.spec
     (λ c. search rules)
