@@ -84,7 +84,8 @@ class Places:
     def __init__(self, of):
         self.at = {}
         for p, n, a, c in zip(of["places"], of["places_by_name"], of["arms"], of["clauses"]):
-            self.at[norm(p[0])] = (norm(p[1]) if p[1] else None, norm(p[2][0]), p[2][1], a, c["fields"] if c else None, n)
+            told = (c["fields"] if c else None, of["params"].get(p[3]))
+            self.at[norm(p[0])] = (norm(p[1]) if p[1] else None, norm(p[2][0]), p[2][1], a, told, n)
         self.asked = {norm(a[0]): norm(b[0]) for a, b in zip(of["needs"], of["asked_at"])}
         self.new_asked = {a[1]: norm(b[0]) for a, b in zip(of["needs"], of["asked_at"])}
         self.steps = {v[1]: v for v in self.at.values() if v[1]}
@@ -92,6 +93,8 @@ class Places:
         self.loops = len(of["loops"])
         # Own functions whose result is a place.
         self.helpers = {}
+        # The place that an own function takes first.
+        self.takes = {}
         self.old_names = {k: k for k in self.at}
 
 
@@ -107,7 +110,7 @@ def block(text, places, path):
     if not head:
         return text
     name, typ = head[1], head[2]
-    env = {}
+    env, named = {}, {}
     lhs = re.search(r"(?m)^" + re.escape(name) + r"((?: [^=\n]*)?) =", text[head.end() - 1 :])
     given = re.findall(r"\{[^}]*\}|[^\s]+", lhs[1]) if lhs else []
     given = [g for g in given if not g.startswith("{")]
@@ -123,17 +126,30 @@ def block(text, places, path):
                 part = part[part.index("}") + 1 :].strip()
             for m in re.finditer(r"\(([^:()]+) : ((?:[^()]|\([^()]*\))*)\)", part) if part.startswith("(") and re.match(r"\([^:()]+ : ", part) else [None]:
                 names, t = (m[1].split(), m[2]) if m else ([None], part)
-                for _ in names:
+                for x in names:
                     k = re.match(r"tie\.(\S+)", t.strip())
                     if k and n < len(given) and norm(k[1]) in places.old_names:
                         env[given[n]] = ("place", norm(k[1]), given[n], norm(k[1]))
+                    if k and x and norm(k[1]) in places.old_names:
+                        named[x] = ("place", norm(k[1]), x, norm(k[1]))
                     n += 1
         result = re.match(r"tie\.(\S+)", top_arrows(typ)[-1].strip())
         if result and norm(result[1]) in places.old_names:
             places.helpers[name] = norm(result[1])
+            straight = re.search(r"(?m)^" + re.escape(name) + r" (\S+) = (\S+?)((?:\.before)*)$", text)
+            if straight and straight[1] == straight[2] and straight[1] in env:
+                here, there = env[straight[1]][1], norm(result[1])
+                if there in above(here, places):
+                    way = "".join("." + x for x in befores(here, there, places))
+                    return text[: straight.start(3)] + way + text[straight.end(3) :]
+        if given and given[0] in env:
+            places.takes[name] = env[given[0]][1]
     body_at = head.end() - 1
     if "tie.spec" in text:
         return text[:body_at] + spec_of(text[body_at:], places, f"{path}: {name}")
+    if named:
+        at = head.start(2)
+        return text[:at] + paths(text[at:body_at], named, places, f"{path}: {name}") + paths(text[body_at:], env, places, f"{path}: {name}")
     return text[:body_at] + paths(text[body_at:], env, places, f"{path}: {name}")
 
 
@@ -245,8 +261,13 @@ def walk(var, of, fields, places, where):
         f = fields[i]
         if kind[0] == "step" and f == "ensures":
             kind = ("ensures", kind[1])
-        elif kind[0] == "ensures" and kind[1] and re.fullmatch(r"\d+", f) and int(f) < len(kind[1]):
-            f = kind[1][int(f)]
+        elif kind[0] == "step" and f in ("new", "last", "auto", "kept") and kind[1] and kind[1][1]:
+            ones = 0
+            while i + 1 + ones < len(fields) and fields[i + 1 + ones] == "1":
+                ones += 1
+            if fields[i + 1 + ones : i + 2 + ones] == ["0"] and ones < len(kind[1][1]):
+                out += ["new" if f == "last" else "auto" if f == "kept" else f, kind[1][1][ones]]
+                return None, out + fields[i + 2 + ones :]
             kind = (None,)
         else:
             kind = (None,)
@@ -293,7 +314,21 @@ def paths(text, env, places, where):
                 env.pop(m[3], None)
         return (m[2] or "") + ".".join(new) + (m[6] or "")
 
-    return word.sub(one, text)
+    def given(m):
+        """A place that is handed to an own function is the one that the function takes."""
+        var = env.get(m[3])
+        if not var or m[2] not in places.takes:
+            return m[0]
+        wanted = places.takes[m[2]]
+        _, here = var[0], var[1]
+        if wanted in above(var[1], places):
+            return m[1] + m[2] + " " + m[3] + "".join("." + x for x in befores(var[1], wanted, places))
+        if wanted in above(var[3], places):
+            return m[1] + m[2] + " " + var[2] + "".join("." + x for x in befores(var[3], wanted, places))
+        return m[0]
+
+    turned = word.sub(one, text)
+    return re.sub(r"(?<![\w.'-])()(" + CHAR + r"+) (" + CHAR + r"+)((?:\.before)*)(?![\w.'-])", given, turned)
 
 
 def main():

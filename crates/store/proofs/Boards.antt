@@ -78,7 +78,7 @@ pub board_is : (b : Board) (sets : Sets) (r : Rest) → SetsOf b sets → RestOf
 unfolding board_of
 board_is b sets r s t n = same-board (board_of sets r) b
     (programs_are b sets (λ i. get_or r.seats i no_seat) s t.seats-are n)
-    t.waiting-is t.entry-is t.favoured-is t.initial-is t.leaves-are t.passed-are
+    t.waiting-is t.entry-is t.favoured_is t.initial-is t.leaves-are t.passed-are
 
 -- the seat of one program more
 pub seats_more : (b : Board) (i : ℕ) (l : List Seat) → i < length l → SeatsTo b i l

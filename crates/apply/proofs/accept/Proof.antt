@@ -58,35 +58,35 @@ do-return-requires c κs = let t = c.before.before in let s = t.before in
 
 returns : tie.Need-returns-in-Enter
 returns c = let t = c.before.before.before in
-    (c.do_enter.ensures.comes_to ∙ does t.before t.in-Enter.is, c.do_enter.ensures.in_form)
+    (c.do_enter.ensures.0 ∙ does t.before t.in-Enter.is, c.do_enter.ensures.1)
 
 returns-2 : tie.Need-returns-in-Open
 returns-2 c = let t = c.before.before.before in
-    (c.do_open.ensures.comes_to ∙ does t.before t.in-Open.is, c.do_open.ensures.in_form)
+    (c.do_open.ensures.0 ∙ does t.before t.in-Open.is, c.do_open.ensures.1)
 
 returns-3 : tie.Need-returns-in-Close
 returns-3 c = let t = c.before.before.before in
-    (c.do_close.ensures.comes_to ∙ does t.before t.in-Close.is, c.do_close.ensures.in_form)
+    (c.do_close.ensures.0 ∙ does t.before t.in-Close.is, c.do_close.ensures.1)
 
 returns-4 : tie.Need-returns-in-Drop
 returns-4 c = let t = c.before.before.before in
-    (c.do_drop.ensures.comes_to ∙ does t.before t.in-Drop.is, c.do_drop.ensures.in_form)
+    (c.do_drop.ensures.0 ∙ does t.before t.in-Drop.is, c.do_drop.ensures.1)
 
 returns-5 : tie.Need-returns-in-Leave
 returns-5 c = let t = c.before.before.before in
-    (c.do_leave.ensures.comes_to ∙ does t.before t.in-Leave.is, c.do_leave.ensures.in_form)
+    (c.do_leave.ensures.0 ∙ does t.before t.in-Leave.is, c.do_leave.ensures.1)
 
 returns-6 : tie.Need-returns-in-Cancel
 returns-6 c = let t = c.before.before.before in
-    (c.do_cancel.ensures.comes_to ∙ does t.before t.in-Cancel.is, c.do_cancel.ensures.in_form)
+    (c.do_cancel.ensures.0 ∙ does t.before t.in-Cancel.is, c.do_cancel.ensures.1)
 
 returns-7 : tie.Need-returns-in-Fetch
 returns-7 c = let t = c.before.before in let s = t.before in
-    (c.do_fetch.ensures.comes_to ∙ does s c.before.before.in-Fetch.is, (s.requires.4, c.do_fetch.ensures.entries.0, c.do_fetch.ensures.entries.1))
+    (c.do_fetch.ensures.0 ∙ does s c.before.before.in-Fetch.is, (s.requires.4, c.do_fetch.ensures.1.0, c.do_fetch.ensures.1.1))
 
 returns-8 : tie.Need-returns-in-Return
 returns-8 c = let t = c.before.before.before in
-    (c.do_return.ensures.comes_to ∙ does t.before t.in-Return.is, c.do_return.ensures.in_form)
+    (c.do_return.ensures.0 ∙ does t.before t.in-Return.is, c.do_return.ensures.1)
 
 pub accept_spec : {M : Type 1} → statement M
 accept_spec =

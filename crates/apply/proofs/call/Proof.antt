@@ -9,9 +9,9 @@ use Rattle.apply.proofs.call.Tie as tie
 
 returns : tie.Need-returns-then-p-eq0
 returns c = let i = c.before.before.before in let k = i in let s = k in let a = s.args in (
-  c.refused.ensures.comes_to ∙ apply_far (board_of a.sets.now a.rest) a.a
+  c.refused.ensures.0 ∙ apply_far (board_of a.sets.now a.rest) a.a
       (program-none a.a.program c.before.before.program_of-p.result c.before.before.program_of-p.ensures.0 c.before.if-p-eq0.true),
-  (s.requires.1, none_entries a.lines.now s.requires.2, c.refused.ensures.carries),
+  (s.requires.1, none_entries a.lines.now s.requires.2, c.refused.ensures.1),
 )
 
 call-by-requires : tie.Need-call_by-requires

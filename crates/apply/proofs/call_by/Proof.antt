@@ -14,7 +14,7 @@ use Rattle.apply.proofs.call_by.Tie as tie
 
 -- the record's number is known, and the file's before it
 abbrev numbered : tie.After-check_call-check → tie.After-record_of-n
-numbered k = k.before.before.before.before
+numbered k = k.before.before.before
 
 abbrev start : tie.After-check_call-check → tie.Start
 start k = (numbered k).before.before
@@ -31,15 +31,15 @@ abbrev wanted : tie.Start → Call
 wanted s = asked s s.args.a.file s.args.a.item
 
 -- what the checks say
-told : (k : tie.After-check_call-check) → k.check-call.result ≡ checked (board (start k)) (wanted (start k))
+told : (k : tie.After-check_call-check) → k.check_call-check.result ≡ checked (board (start k)) (wanted (start k))
 told k = let n = numbered k in let f = n.before in let s = start k in let a = s.args in
     k.check_call-check.ensures
     ∙ ap (λ (x : Seat). near_check a.sets.now a.p x f.file_of-f.result n.record_of-n.result a.a.verb a.a.claims) k.before.seat_at-seat.ensures
     ∙ checked-near a.sets.now a.rest a.p s.requires.0.0 s.requires.0.1 s.requires.3 _ a.a.file _ a.a.item a.a.claims f.file_of-f.ensures.0 n.record_of-n.ensures a.a.verb
 
 -- once they have passed, the call is that with their numbers
-same : (k : tie.After-check_call-check) → let s = start k in k.check-call.result ≡ Check.Passed
-    → asked s (numbered k).before.file-of.result (numbered k).record_of.result ≡ wanted s
+same : (k : tie.After-check_call-check) → let s = start k in k.check_call-check.result ≡ Check.Passed
+    → asked s (numbered k).before.file_of-f.result (numbered k).record_of-n.result ≡ wanted s
 same k e = let n = numbered k in let s = start k in let a = s.args in
     call_same (board s) a.p _ a.a.file _ a.a.item a.a.claims
     n.before.file_of-f.ensures.0 n.record_of-n.ensures a.a.verb (sym (told k) ∙ e)
@@ -56,16 +56,16 @@ accept-requires c κs = let t = c.before.before in let k = t.before in let s = s
 
 returns : tie.Need-returns-in-Passed
 returns c = let t = c.before.before.before in let k = t.before in let s = start k in let a = s.args in let e = t.in-Passed.is in (
-  c.accept.ensures.comes_to ∙ ap (accepted (board s)) (same k e) ∙ apply-passed (board s) (wanted s) (sym (told k) ∙ e)
+  c.accept.ensures.0 ∙ ap (accepted (board s)) (same k e) ∙ apply-passed (board s) (wanted s) (sym (told k) ∙ e)
       ∙ by_program (board s) a.a a.p s.requires.1,
-  c.accept.ensures.in_form,
+  c.accept.ensures.1,
 )
 
 returns-2 : tie.Need-returns-in-Failed
-returns-2 c = let t = c.before.before in let d = c.before.check.given in let k = t.before.before in let s = start k in let a = s.args in (
-  c.refused.ensures.comes_to ∙ apply-failed (board s) (wanted s) d.0.0 (sym (told k) ∙ d.1)
+returns-2 c = let t = c.before.before in let d = c.before.check.given in let k = t.before.before in let s = start c.before.before in let a = s.args in (
+  c.refused.ensures.0 ∙ apply-failed (board s) (wanted s) d.0.0 (sym (told c.before.before) ∙ d.1)
       ∙ by_program (board s) a.a a.p s.requires.1,
-  (s.requires.3, none_entries a.lines.now s.requires.4, c.refused.ensures.carries),
+  (s.requires.3, none_entries a.lines.now s.requires.4, c.refused.ensures.1),
 )
 
 pub call_by_spec : {M : Type 1} → statement M

@@ -16,7 +16,7 @@ board s = board_of s.args.sets.now s.args.rest
 
 -- the board before settling
 changed : (k : tie.After-drop) → let s = k.before.before in let a = s.args in
-    board_of k.drop.new.0 a.rest ≡ set_program (board s) a.p (dropping (at (board s) a.p) a.f)
+    board_of k.drop.new.sets a.rest ≡ set_program (board s) a.p (dropping (at (board s) a.p) a.f)
 changed k = let s = k.before.before in let a = s.args in ap (λ (x : Sets). board_of x a.rest) k.drop.ensures
     ∙ dropped-board a.sets.now a.rest a.p a.f s.requires.0.0 s.requires.0.1 s.requires.3
 
@@ -30,7 +30,7 @@ done-requires c κs = let k = c.before.before in let s = k.before.before in let 
 returns : tie.Need-returns
 unfolding drop_file
 returns c = let k = c.before.before.before in let a = k.before.before.args in
-    (c.done.ensures.comes_to ∙ ap (λ (x : Board). done x a.p a.f) (changed k), c.done.ensures.in_form)
+    (c.done.ensures.0 ∙ ap (λ (x : Board). done x a.p a.f) (changed k), c.done.ensures.1)
 
 pub do_drop_spec : {M : Type 1} → statement M
 do_drop_spec = tie.close (tie.spec (λ c κs. search rules) done-requires returns)

@@ -29,10 +29,10 @@ put-held-requires c κs = let s = c.before.before in let a = s.args in
 
 returns : tie.Need-returns-then-favoured-ne0
 returns c = let h = c.before.before.before in let i = h.before.before in let s = i in let a = s.args in (
-  c.answered.ensures.comes_to ∙ ap (λ (x : Board). reply x Answer.Held (line Word.Held a.p 0 ∷ [])) c.before.before.put_held-c.ensures.result_after
+  c.answered.ensures.0 ∙ ap (λ (x : Board). reply x Answer.Held (line Word.Held a.p 0 ∷ [])) c.before.before.put_held-c.ensures.0
       ∙ enter-held (board s) a.p a.claims.writable a.claims.readable a.claims.inquirable
       (subst (λ (n : ℕ). n ≢ 0) (sym (favoured_is a.sets.now a.rest)) c.before.before.before.before.if-favoured-ne0.true),
-  (c.before.before.put_held-c.ensures.store, c.answered.ensures.entries.0, c.answered.ensures.entries.1),
+  (c.before.before.put_held-c.ensures.1, c.answered.ensures.1.0, c.answered.ensures.1.1),
 )
 
 oldest-overdue-requires : tie.Need-oldest_overdue-overdue-requires
@@ -51,19 +51,19 @@ hold-for-requires c κs = let i = c.before.before in let o = i.before in let s =
 
 returns-2 : tie.Need-returns-then-overdue-ne0
 returns-2 c = let i = c.before.before.before in let o = i.before in let e = o.before.before in let s = e in let a = s.args in (
-  c.hold_for.ensures.comes_to
-      ∙ enter-for (board s) a.p a.claims.writable a.claims.readable a.claims.inquirable o.oldest_overdue-overdue.result (nobody e)
+  c.hold_for.ensures.0
+      ∙ enter-for (board s) a.p a.claims.writable a.claims.readable a.claims.inquirable o.oldest_overdue-overdue.result (nobody c.before.before.before.before.before)
       (overdue_some (board s) o.oldest_overdue-overdue.result s.requires.1.loose o.oldest_overdue-overdue.ensures i.if-overdue-ne0.true).0,
-  c.hold_for.ensures.in_form,
+  c.hold_for.ensures.1,
 )
 
 returns-3 : tie.Need-returns
 returns-3 c = let r = c.before.before.before in let i = r.before.before in let o = i.before in let e = o.before in
     let s = e in let a = s.args in (
-      c.answered-2.ensures.comes_to ∙ ap (λ (x : Board). reply x Answer.Admit (line Word.Admit a.p 0 ∷ [])) c.before.before.put_running-c.ensures.result_after
-          ∙ enter-runs (board s) a.p a.claims.writable a.claims.readable a.claims.inquirable (nobody e)
+      c.answered-2.ensures.0 ∙ ap (λ (x : Board). reply x Answer.Admit (line Word.Admit a.p 0 ∷ [])) c.before.before.put_running-c.ensures.0
+          ∙ enter-runs (board s) a.p a.claims.writable a.claims.readable a.claims.inquirable (nobody c.before.before.before.before.before.before)
           (overdue-none (board s) c.before.before.before.before.before.oldest_overdue-overdue.result s.requires.1.loose c.before.before.before.before.before.oldest_overdue-overdue.ensures c.before.before.before.before.if-overdue-ne0.false),
-      (c.before.before.put_running-c.ensures.store, c.answered-2.ensures.entries.0, c.answered-2.ensures.entries.1),
+      (c.before.before.put_running-c.ensures.1, c.answered-2.ensures.1.0, c.answered-2.ensures.1.1),
     )
 
 pub do_enter_spec : {M : Type 1} → statement M

@@ -18,7 +18,7 @@ abbrev board : tie.Start → Board
 board s = board_of s.args.sets.now s.args.rest
 
 -- whether another has it
-has : (t : tie.After-is_taken) → let s = t.before in let a = s.args in t.is-taken.result ≡ taken (board s) a.p a.f a.n
+has : (t : tie.After-is_taken) → let s = t.before in let a = s.args in t.is_taken.result ≡ taken (board s) a.p a.f a.n
 has t = let a = t.before.args in t.is_taken.ensures ∙ seats-taken a.sets.now a.rest a.p a.f a.n
 
 put-waiting-requires : tie.Need-put_waiting-c-requires
@@ -27,16 +27,16 @@ put-waiting-requires c κs = let s = c.before.before in let a = s.args in
 
 returns : tie.Need-returns-then-is_taken
 returns c = let w = c.before.before in let i = w.before in let t = i.before in let s = t.before in let a = s.args in (
-  c.answered.ensures.comes_to ∙ ap (λ (x : Board). reply x Answer.Wait (line_of Word.Wait a.p a.f a.n ∷ [])) w.put_waiting-c.ensures
+  c.answered.ensures.0 ∙ ap (λ (x : Board). reply x Answer.Wait (line_of Word.Wait a.p a.f a.n ∷ [])) w.put_waiting-c.ensures
       ∙ fetch_waits (board s) a.p a.f a.n (sym (has t) ∙ i.if-is_taken.true),
-  c.answered.ensures.entries,
+  c.answered.ensures.1,
 )
 
 returns-2 : tie.Need-returns
 returns-2 c = let w = c.before.before in let i = w.before in let t = i.before in let s = t.before in let a = s.args in (
-  c.answered-2.ensures.comes_to ∙ ap (λ (x : Board). reply x Answer.Given (line_of Word.Given a.p a.f a.n ∷ [])) w.put_record-c.ensures
+  c.answered-2.ensures.0 ∙ ap (λ (x : Board). reply x Answer.Given (line_of Word.Given a.p a.f a.n ∷ [])) w.put_record-c.ensures
       ∙ fetch-gets (board s) a.p a.f a.n (sym (has t) ∙ i.if-is_taken.false),
-  c.answered-2.ensures.entries,
+  c.answered-2.ensures.1,
 )
 
 pub do_fetch_spec : {M : Type 1} → statement M

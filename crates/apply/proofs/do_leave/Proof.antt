@@ -19,11 +19,11 @@ abbrev board : tie.Start → Board
 board s = board_of s.args.sets.now s.args.rest
 
 -- the record in use, and its file
-file : (k : tie.After-seat_at-seat) → k.seat-at.result.file ≡ (at (board k.before) k.before.args.p).file
+file : (k : tie.After-seat_at-seat) → k.seat_at-seat.result.file ≡ (at (board k.before) k.before.args.p).file
 file k = let s = k.before in let a = s.args in ap (λ (t : Seat). t.file) k.seat_at-seat.ensures
     ∙ sym (file-is a.sets.now a.rest a.p s.requires.0.0 s.requires.0.1 s.requires.3)
 
-item : (k : tie.After-seat_at-seat) → k.seat-at.result.item ≡ (at (board k.before) k.before.args.p).item
+item : (k : tie.After-seat_at-seat) → k.seat_at-seat.result.item ≡ (at (board k.before) k.before.args.p).item
 item k = let s = k.before in let a = s.args in ap (λ (t : Seat). t.item) k.seat_at-seat.ensures
     ∙ sym (item-is a.sets.now a.rest a.p s.requires.0.0 s.requires.0.1 s.requires.3)
 
@@ -32,26 +32,26 @@ seat k = k.before.before
 
 counted-requires : tie.Need-counted-c-requires
 counted-requires c κs = let k = c.before in let s = (seat k).before in let a = s.args in
-    subst (λ (r : Rest). r.leaves ≤ 32) (sym c.put-left.ensures.value.0) (leaves-few a.sets.now a.rest s.pre.1)
+    subst (λ (r : Rest). r.leaves ≤ 32) (sym c.put-left.ensures.1.0) (leaves-few a.sets.now a.rest s.pre.1)
 
 -- the board before the record is handed on
 gone : (n : tie.After-counted-c) → let k = n.before.before in let s = (seat k).before in
-    board_of k.put.new.0 n.counted.result ≡ count_leave (set_program (board s) s.args.p no_program)
-gone n = let k = n.before.before in n.counted-c.ensures ∙ ap count_leave n.before.put-left.ensures.result_after
+    board_of n.before.put-left.new.sets n.counted-c.result ≡ count_leave (set_program (board s) s.args.p no_program)
+gone n = let k = n.before.before in n.counted-c.ensures ∙ ap count_leave n.before.put-left.ensures.0
 
 handed_on-requires : tie.Need-handed_on-requires
 handed_on-requires c κs = let n = c.before.before in let k = n.before.before in let s = (seat k).before in let a = s.args in (
   leave_hands (board s) _ a.p _ _ (gone n) (file (seat k)) (item (seat k)) s.pre.1 s.pre.2,
-  c.before.before.before.put-left.ensures.value.1,
+  c.before.before.before.put-left.ensures.1.1,
   s.pre.4,
 )
 
 returns : tie.Need-returns
 unfolding leave
 returns c = let n = c.before.before.before in let k = n.before.before in let s = (seat k).before in let a = s.args in (
-  c.handed_on.ensures.comes_to ∙ ap (λ (x : Board). finish (hand_on x (seat k).seat_at-seat.result.file (seat k).seat_at-seat.result.item) a.p 0) (gone n)
+  c.handed_on.ensures.0 ∙ ap (λ (x : Board). finish (hand_on x (seat k).seat_at-seat.result.file (seat k).seat_at-seat.result.item) a.p 0) (gone n)
       ∙ ap₂ (λ (x y : ℕ). finish (hand_on (count_leave (set_program (board s) a.p no_program)) x y) a.p 0) (file (seat k)) (item (seat k)),
-  c.handed_on.ensures.in_form,
+  c.handed_on.ensures.1,
 )
 
 pub do_leave_spec : {M : Type 1} → statement M

@@ -14,13 +14,13 @@ put-held-requires c κs = let s = c.before in let a = s.args in
 
 favour-waiter-requires : tie.Need-favour_waiter-progress-requires
 favour-waiter-requires c κs = let o = c.before.before in
-    let n = ap (λ (w : Written). w.count) c.before.one_line-held.ensures.result_after in ((search rules, search rules), omega arith, c.before.one_line-held.ensures.rest_value.1)
+    let n = ap (λ (w : Written). w.count) c.before.one_line-held.ensures.0 in ((search rules, search rules), omega arith, c.before.one_line-held.ensures.1.1)
 
 returns : tie.Need-returns
 returns c = let o = c.before.before.before in let h = o.before.before.before in let a = h.args in (
   held_for_is _ _ (board_of a.sets.now a.rest) _ a.p a.claims.writable a.claims.readable a.claims.inquirable a.w
-      c.before.before.before.before.put_held-c.ensures.result_after c.before.before.one_line-held.ensures.result_after c.favour_waiter-progress.ensures.result_after,
-  (c.before.before.before.before.put_held-c.ensures.store, c.favour_waiter-progress.ensures.entries, none_carries _),
+      c.before.before.before.before.put_held-c.ensures.0 c.before.before.one_line-held.ensures.0 c.favour_waiter-progress.ensures.0,
+  (c.before.before.before.before.put_held-c.ensures.1, c.favour_waiter-progress.ensures.1, none_carries _),
 )
 
 pub hold_for_spec : {M : Type 1} → statement M

@@ -12,9 +12,9 @@ returns : tie.Need-returns
 unfolding board_of hold
 returns c = let n = c.before.before.before.before in let a = n.before.args in (
   with-entry _ c.put-c.result _
-      (c.put-c.ensures.result_after ∙ ap (set_program (board_of a.sets.now a.rest) a.p) n.new_program-held.ensures)
+      (c.put-c.ensures.0 ∙ ap (set_program (board_of a.sets.now a.rest) a.p) n.new_program-held.ensures)
       _ _ c.before.before.append-longer.ensures,
-  c.put-c.ensures.value.1,
+  c.put-c.ensures.1.1,
 )
 
 pub put_held_spec : {M : Type 1} → statement M

@@ -13,13 +13,13 @@ use Rattle.apply.proofs.put_running.Tie as tie
 tally-requires : tie.Need-tally-passed-requires
 unfolding board_of
 tally-requires c κs = let k = c.before in let s = k.before.before in
-    subst (λ (r : Rest). CountsFew r.passed) (sym c.put-c.ensures.value.0) s.requires.1.counts.counted.most
+    subst (λ (r : Rest). CountsFew r.passed) (sym c.put-c.ensures.1.0) s.requires.1.counts.counted.most
 
 returns : tie.Need-returns
 unfolding admit
 returns c = let k = c.before.before in let n = k.before.before in let a = n.args in
-    let e = c.before.put-c.ensures.result_after ∙ ap (set_program (board_of a.sets.now a.rest) a.p) c.before.before.before.new_program-runs.ensures in
-    (with-passed _ c.before.put-c.result _ e _ _ (c.tally-passed.ensures ∙ ap tallied e), c.before.put-c.ensures.value.1)
+    let e = c.before.put-c.ensures.0 ∙ ap (set_program (board_of a.sets.now a.rest) a.p) c.before.before.before.new_program-runs.ensures in
+    (with-passed _ c.before.put-c.result _ e _ _ (c.tally-passed.ensures ∙ ap tallied e), c.before.put-c.ensures.1.1)
 
 pub put_running_spec : {M : Type 1} → statement M
 put_running_spec = tie.close (tie.spec (λ c κs. search rules) (λ c κs. search rules) tally-requires returns)

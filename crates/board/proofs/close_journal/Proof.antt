@@ -11,7 +11,7 @@ use Rattle.board.proofs.close_journal.Tie as tie
 
 -- where the journal of a last line ends
 abbrev placed : tie.After-order_line-len → tie.After-o-1
-placed k = k.before.before.before.before
+placed k = k.before.before.before
 
 -- a last line is served
 abbrev last : tie.After-o-1 → tie.After-last_line-last
@@ -22,7 +22,7 @@ begin l = l.before.before.before.before.before.before
 
 order-line-requires : tie.Need-order_line-len-requires
 order-line-requires c κs = let u = last c.before.before.before in let l = u.last_line-last in
-    (simp (length-take, length-drop) (omega (arith, l.ensures.place_le_journal_room.0, l.kept.1.1.1.0, (begin u).requires.1.1)), l.ensures.place_le_journal_room.2)
+    (simp (length-take, length-drop) (omega (arith, l.ensures.1.0, l.auto.journal, (begin u).requires.1.1)), l.ensures.1.2)
 
 returns : tie.Need-returns
 returns c =
@@ -30,13 +30,13 @@ returns c =
     let s = begin u in
     let l = u.last_line-last in
     let o = c.before.before.order_line-len in
-    let h = l.ensures.place_le_journal_room.0 in
-    let j = l.kept.1.1.1.0 in
-    let m : order_columns < length o.new.1.1.0 = rw o.auto.1.1.0 (simp (length-take, length-drop) (omega (arith, h, j, s.requires.1.1))) in (
-      close_is _ (board_of l.last.0 l.result.rest) l.last.1.1.1.0 o.new.1.1.0 l.result.out.place o.result
-          (omega (arith, h, j, s.requires.1.1)) (omega (arith, o.ensures.upper_bound, m))
-          l.ensures.journal_after o.ensures.out_after,
-      (omega (arith, h, o.ensures.upper_bound), l.ensures.place_le_journal_room.1),
+    let h = l.ensures.1.0 in
+    let j = l.auto.journal in
+    let m : order_columns < length o.new.out = rw o.auto.out (simp (length-take, length-drop) (omega (arith, h, j, s.requires.1.1))) in (
+      close_is _ (board_of l.new.sets l.result.rest) l.new.journal o.new.out l.result.out.place o.result
+          (omega (arith, h, j, s.requires.1.1)) (omega (arith, o.ensures.1, m))
+          l.ensures.0 o.ensures.0,
+      (omega (arith, h, o.ensures.1), l.ensures.1.1),
     )
 
 pub close_journal_spec : {M : Type 1} → statement M

@@ -27,9 +27,9 @@ returns c =
     let k = c.before.before.serve_line in
     let e : take cut_line a.part.now ≡ take cut_line (take a.s.kept a.kept.now ++ a.part.now) = rw t.if-len-eq0.true in (
       call-served (board s) _ a.journal.now a.s.out.place s.requires.0.0 s.requires.1.0 s.requires.1.1
-          _ _ _ k.ensures.rest_after k.ensures.place_value.0 k.ensures.place_value.1.0
+          _ _ _ k.ensures.0 k.ensures.1.0 k.ensures.1.1.0
           ∙ ap (λ (l : List ℕ). served (held (board s) l j)) (c.before.before.before.before.cut.ensures ∙ e),
-      k.ensures.place_value.1.1,
+      k.ensures.1.1.1,
     )
 
 abbrev start : tie.After-keep-n → tie.Start
@@ -39,7 +39,7 @@ slice-aggregate-serve-line : tie.Need-slice_bounds-serve_line-end-2
 slice-aggregate-serve-line c =
     let u = c.before.before.before.before in
     let k = c.before.before.before.keep-n in
-    sym (length-take-le k.result k.new.0 (omega (arith, k.ensures.upper_bound, k.auto.0, (start u).requires.0.2)))
+    sym (length-take-le k.result k.new.kept (omega (arith, k.ensures.1, k.auto.kept, (start u).requires.0.2)))
 
 -- the part goes to the bytes kept
 returns-2 : tie.Need-returns
@@ -50,9 +50,9 @@ returns-2 c =
     let j = take a.s.out.place a.journal.now in
     let k = c.before.before.serve_line-2 in (
       call-served (board s) _ a.journal.now a.s.out.place s.requires.0.0 s.requires.1.0 s.requires.1.1
-          _ _ _ k.ensures.rest_after k.ensures.place_value.0 k.ensures.place_value.1.0
-          ∙ ap (λ (l : List ℕ). served (held (board s) l j)) c.before.before.before.before.before.before.before.keep-n.ensures.kept_after,
-      k.ensures.place_value.1.1,
+          _ _ _ k.ensures.0 k.ensures.1.0 k.ensures.1.1.0
+          ∙ ap (λ (l : List ℕ). served (held (board s) l j)) c.before.before.before.before.before.before.before.keep-n.ensures.0,
+      k.ensures.1.1.1,
     )
 
 pub end_line_spec : {M : Type 1} → statement M

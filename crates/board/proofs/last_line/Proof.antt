@@ -20,7 +20,7 @@ returns c =
 
 -- bytes are kept
 abbrev some : tie.After-end_line → tie.Else-s-eq0
-some k = k.before.before.before.before.before
+some k = k.before.before.before.before.before.before
 
 end-line-requires : tie.Need-end_line-requires
 end-line-requires c κs = let s = c.before.before.before.before.before.before.before.before in
@@ -32,10 +32,10 @@ returns-2 c =
     let s = (some u).before.before.before.before in
     let a = s.args in
     let k = u.end_line in (
-      k.ensures.journal_after
+      k.ensures.0
           ∙ last_some (board s) a.kept.now a.journal.now a.s.kept a.s.out.place (some u).if-s-eq0.false
           s.pre.0.1 (omega (arith, s.pre.0.1, s.pre.0.2)) s.pre.1.0,
-      (omega (arith, k.ensures.rest_after.2, s.pre.1.0), k.ensures.rest_after.3, k.ensures.rest_after.4),
+      (omega (arith, k.ensures.1.2, s.pre.1.0), k.ensures.1.3, k.ensures.1.4),
     )
 
 pub last_line_spec : {M : Type 1} → statement M

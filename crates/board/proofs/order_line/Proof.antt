@@ -17,7 +17,7 @@ same_length : tie.Need-shape_of-out
 same_length c =
     let u = c.before.before in
     let k = u.put_programs-n in
-    length-set k.new.0 k.result 10 ∙ k.auto.0 ∙ (worded u).copy.auto.1.0
+    length-set k.new.out k.result 10 ∙ k.auto.out ∙ (worded u).copy.auto.dst
 
 returns : tie.Need-returns
 unfolding order_of
@@ -28,10 +28,10 @@ returns c =
     let w = (worded u).copy in
     let o = u.before.before.before.carried_in-order in
     let k = u.put_programs-n in (
-      order_is o.result.at a.out.now w.last.1.0 k.new.0 k.result w.ensures.1 k.ensures.out_after
-          (omega (arith, k.ensures.upper_bound, k.auto.0, w.kept.1.0, s.pre.0))
+      order_is o.result.at a.out.now w.last.1.0 k.new.out k.result w.ensures.1 k.ensures.0
+          (omega (arith, k.ensures.1, k.auto.out, w.kept.1.0, s.pre.0))
           ∙ ap (λ (x : Order). order_line x.at) o.ensures,
-      omega (arith, k.ensures.upper_bound),
+      omega (arith, k.ensures.1),
     )
 
 pub order_line_spec : {M : Type 1} → statement M

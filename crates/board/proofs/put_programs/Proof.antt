@@ -30,7 +30,7 @@ loop-holds c = (omega arith, omega arith, refl, start (columns_of program_width)
 
 -- an order has 32 places
 long : (s : tie.Start invariant-loop decreases-loop) → length s.args.programs ≡ 32
-long s = s.well-formed.1.0.1.0.1
+long s = s.well_formed.1.0.1.0.1
 
 put-columns-requires : tie.Need-put_columns-requires invariant-loop decreases-loop
 put-columns-requires c κs = simp (length-take, length-drop) (omega arith)
@@ -44,8 +44,8 @@ loop-again c =
     let n = long s in (
       omega arith,
       omega arith,
-      same_len_mid l.at (length l.out - l.at) l.out k.new.0 k.auto.0 ∙ l.invariant.2,
-      step (columns_of program_width) program_width (columns_length program_width) s.args.out.now l.out k.new.0 s.args.programs
+      same_len_mid l.at (length l.out - l.at) l.out k.new.part k.auto.part ∙ l.invariant.2,
+      step (columns_of program_width) program_width (columns_length program_width) s.args.out.now l.out k.new.part s.args.programs
           0 word_width l.i l.at (omega arith) (omega arith) l.invariant.1 l.invariant.3 k.ensures,
       names_more s.args.programs l.i (omega arith) c.before.before.before.before.if-p-eq0.false l.invariant.4,
     )

@@ -38,7 +38,7 @@ loop-holds c =
 
 loop-again : tie.Need-loop-turns-preserved invariant-loop decreases-loop
 loop-again c =
-    let k = c.before.before.before.before.take_chunk-s.ensures.rest_after in
+    let k = c.before.before.before.before.take_chunk-s.ensures.1 in
     (k.1, k.2, search rules, search rules, search rules, k.0, k.4)
 
 pub serve_input_spec : {M : Type 1} → statement M

@@ -23,11 +23,11 @@ returns c =
     let s = k.before.before.before.before.before.before.before in
     let a = s.before.args in
     let l = k.line-served.ensures in
-    let e = ap (λ (r : Reply). r.board) l.comes_to in
+    let e = ap (λ (r : Reply). r.board) l.0 in
     let n = board-size a.sets.now a.s.rest in
-    let h = place_fits (board s) a.line.now a.journal.now a.s.out.place n in
-    let t = line-sound (board s) a.line.now a.journal.now a.s.out.place n s.before.requires.0 in
-    (e, (l.place_value.0, (l.place_value.1.0, (ap sound e ∙ t, refl, omega (arith, h, l.place_value.0), refl, l.place_value.1.1.0))))
+    let h = place_fits (board s.before) a.line.now a.journal.now a.s.out.place n in
+    let t = line-sound (board s.before) a.line.now a.journal.now a.s.out.place n s.before.requires.0 in
+    (e, (l.1.0, (l.1.1.0, (ap sound e ∙ t, refl, omega (arith, h, l.1.0), refl, l.1.1.1.0))))
 
 pub serve_line_spec : {M : Type 1} → statement M
 serve_line_spec = tie.close (tie.spec line-requires (λ c. search rules) returns)

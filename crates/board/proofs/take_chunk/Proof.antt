@@ -47,11 +47,11 @@ turn k = k.before.before.before.before.before.before
 
 -- what was taken lies within the read
 within : (k : tie.After-take_part-s invariant-loop decreases-loop)
-    → k.take_part.result.taken ≤ length (start (turn k)).args.chunk.now - (turn k).loop.at
+    → k.take_part-s.result.taken ≤ length (start (turn k)).args.chunk.now - (turn k).loop-at.at
 within k =
     let r = (start (turn k)).args.chunk.now in
     let at = (turn k).loop-at.at in
-    omega (arith, k.take_part-s.ensures.rest_after.1.1, length-take (length r - at) (drop at r), length-drop at r)
+    omega (arith, k.take_part-s.ensures.1.1.1, length-take (length r - at) (drop at r), length-drop at r)
 
 -- the length of a read is a number of 64 bits
 fits : (s : tie.Start invariant-loop decreases-loop) → length s.args.chunk.now < 18446744073709551616
@@ -66,7 +66,7 @@ add_at c =
 loop-less : tie.Need-loop-at-smaller invariant-loop decreases-loop
 loop-less c =
     let k = c.before.before.before.before.before.before.before in
-    omega (arith, within k, k.take_part-s.ensures.rest_after.1.0)
+    omega (arith, within k, k.take_part-s.ensures.1.1.0)
 
 loop-again : tie.Need-loop-at-preserved invariant-loop decreases-loop
 loop-again c =
@@ -76,14 +76,14 @@ loop-again c =
     let r = (start (turn u)).args.chunk.now in
     let n = within u in (
       omega (arith, n, l.inv.0),
-      k.ensures.rest_after.0.1,
+      k.ensures.1.0.1,
       c.flush-s.ensures.0,
-      k.auto.1.1.1.0 ∙ l.inv.3,
-      k.auto.1.1.1.1.0 ∙ l.inv.4,
-      chunk_more _ (held (board_of l.sets l.s.rest) (take l.s.kept l.kept) []) _ r l.at k.result.taken n l.inv.5 k.ensures.journal_after,
-      k.ensures.rest_after.0.0,
-      (λ f. c.flush-s.ensures.1 (k.ensures.rest_after.0.3 ∙ l.inv.7 f)),
-      k.ensures.rest_after.0.4,
+      k.auto.kept ∙ l.inv.3,
+      k.auto.journal ∙ l.inv.4,
+      chunk_more _ (held (board_of l.sets l.s.rest) (take l.s.kept l.kept) []) _ r l.at k.result.taken n l.inv.5 k.ensures.0,
+      k.ensures.1.0.0,
+      (λ f. c.flush-s.ensures.1 (k.ensures.1.0.3 ∙ l.inv.7 f)),
+      k.ensures.1.0.4,
     )
 
 returns : tie.Need-returns invariant-loop decreases-loop

@@ -61,11 +61,11 @@ returns c =
     let p = s.args.part.now in
     let j = take l.s.out.place l.journal in
     let z : e.result ≡ length p = t.if-end-part.true in (
-      ap (λ (x : List ℕ). held (board_of l.sets l.s.rest) x j) k.keep.ensures.kept_after
+      ap (λ (x : List ℕ). held (board_of l.sets l.s.rest) x j) k.keep.ensures.0
           ∙ part-ends _ (board_of l.sets l.s.rest) (take l.s.kept l.kept) j p l.at e.result
-          (omega (arith, length-take l.s.kept l.kept)) e.ensures.value l.inv.5 z,
+          (omega (arith, length-take l.s.kept l.kept)) e.ensures.0 l.inv.5 z,
       (
-        (l.inv.6, k.keep.ensures.upper_bound, omega (arith, l.inv.2), l.inv.7, l.inv.8),
+        (l.inv.6, k.keep.ensures.1, omega (arith, l.inv.2), l.inv.7, l.inv.8),
         (omega (arith, z, s.requires.1.2), omega (arith, z), (λ h. absurd (omega (arith, z, h)))),
       ),
     )
@@ -75,7 +75,7 @@ abbrev end : tie.After-end_line-s invariant-loop decreases-loop → tie.After-li
 end k = k.before.before.before.before.before.before
 
 -- it ends before the part does
-ends-within : (k : tie.After-end_line-s invariant-loop decreases-loop) → (end k).line-end.result < length (start (turn (end k))).args.part.now
+ends-within : (k : tie.After-end_line-s invariant-loop decreases-loop) → (end k).line_end-end.result < length (start (turn (end k))).args.part.now
 ends-within k =
     let e = (end k).line_end-end in
     let ne : e.result ≢ length (start (turn (end k))).args.part.now = k.before.before.before.before.before.if-end-part.false in
@@ -83,17 +83,17 @@ ends-within k =
     omega arith
 
 -- a line was served
-line_taken : (k : tie.After-end_line-s invariant-loop decreases-loop) → let a = (start (turn (end k))).args in let r = k.end_line.result in
-    held (board_of k.end_line.new.0 r.rest) (take r.kept k.end_line.new.1.1.1.0) (take r.out.place k.end_line.new.1.1.1.1.0)
-    ≡ fed (held (board_of a.sets.now a.start.rest) (take a.start.kept a.kept.now) []) (take ((end k).line-end.result + 1) a.part.now)
+line_taken : (k : tie.After-end_line-s invariant-loop decreases-loop) → let a = (start (turn (end k))).args in let r = k.end_line-s.result in
+    held (board_of k.end_line-s.new.sets r.rest) (take r.kept k.end_line-s.new.kept) (take r.out.place k.end_line-s.new.journal)
+    ≡ fed (held (board_of a.sets.now a.start.rest) (take a.start.kept a.kept.now) []) (take ((end k).line_end-end.result + 1) a.part.now)
 line_taken k =
     let e = (end k).line_end-end in
     let l = (turn (end k)).loop-at in
     let p = (start (turn (end k))).args.part.now in
     let r = k.end_line-s.result in
-    let j = take r.out.place k.end_line-s.new.1.1.1.1.0 in
-    ap (λ (n : ℕ). held (board_of k.end_line-s.new.0 r.rest) (take n k.end_line-s.new.1.1.1.0) j) k.end_line-s.ensures.rest_after.1
-    ∙ k.end_line-s.ensures.journal_after
+    let j = take r.out.place k.end_line-s.new.journal in
+    ap (λ (n : ℕ). held (board_of k.end_line-s.new.sets r.rest) (take n k.end_line-s.new.kept) j) k.end_line-s.ensures.1.1
+    ∙ k.end_line-s.ensures.0
     ∙ part-line _ (board_of l.sets l.s.rest) (take l.s.kept l.kept) (take l.s.out.place l.journal) p l.at e.result
     (omega (arith, length-take l.s.kept l.kept)) e.ensures.0 l.inv.5 (ends-within k)
 
@@ -109,11 +109,11 @@ add_at c =
 
 same-length-3 : tie.Need-shape_of-kept-then-s-gt-LAST_PLACE invariant-loop decreases-loop
 same-length-3 c = let k = c.before.before.before.before.before.before in let l = turn (end k) in
-    k.end_line-s.auto.1.1.1.0 ∙ l.loop-at.invariant.3 ∙ sym (start l).requires.0.2
+    k.end_line-s.auto.kept ∙ l.loop-at.invariant.3 ∙ sym (start l).requires.0.2
 
 same-length-4 : tie.Need-shape_of-journal-then-s-gt-LAST_PLACE invariant-loop decreases-loop
 same-length-4 c = let k = c.before.before.before.before.before.before in let l = turn (end k) in
-    k.end_line-s.auto.1.1.1.1.0 ∙ l.loop-at.invariant.4 ∙ sym (start l).requires.1.1
+    k.end_line-s.auto.journal ∙ l.loop-at.invariant.4 ∙ sym (start l).requires.1.1
 
 -- the journal has no room for another call
 returns-2 : tie.Need-returns-then-s-gt-LAST_PLACE invariant-loop decreases-loop
@@ -124,7 +124,7 @@ returns-2 c =
     let h = ends-within u in (
       line_taken u,
       (
-        (k.ensures.rest_after.0, omega (arith, k.ensures.rest_after.1), omega (arith, k.ensures.rest_after.2, l.inv.2), k.ensures.rest_after.3 ∙ l.inv.7, k.ensures.rest_after.4),
+        (k.ensures.1.0, omega (arith, k.ensures.1.1), omega (arith, k.ensures.1.2, l.inv.2), k.ensures.1.3 ∙ l.inv.7, k.ensures.1.4),
         (omega arith, omega arith, (λ _. omega (arith, c.if-s-gt-LAST_PLACE.true))),
       ),
     )
@@ -136,14 +136,14 @@ loop-again c =
     let l = (turn (end u)).loop-at in
     let h = ends-within u in (
       omega arith,
-      omega (arith, k.ensures.rest_after.1),
+      omega (arith, k.ensures.1.1),
       omega (arith, c.if-s-gt-LAST_PLACE.false),
-      k.auto.1.1.1.0 ∙ l.inv.3,
-      k.auto.1.1.1.1.0 ∙ l.inv.4,
+      k.auto.kept ∙ l.inv.3,
+      k.auto.journal ∙ l.inv.4,
       line_taken u,
-      k.ensures.rest_after.0,
-      k.ensures.rest_after.3 ∙ l.inv.7,
-      k.ensures.rest_after.4,
+      k.ensures.1.0,
+      k.ensures.1.3 ∙ l.inv.7,
+      k.ensures.1.4,
     )
 
 -- the part ends with a line

@@ -21,7 +21,7 @@ loop-holds : tie.Need-loop-k-init invariant-loop decreases-loop
 loop-holds c = (search rules, search rules, λ g s. close_none g c.args.rows.now s)
 
 loop-again : tie.Need-loop-k-preserved invariant-loop decreases-loop
-loop-again c = let l = c.before.before.before.loop-k in let r = c.pass.new.0 in (
+loop-again c = let l = c.before.before.before.loop-k in let r = c.pass.new.rows in (
   search rules,
   c.pass.ensures.0,
   λ g s. close_more g l.k r (omega arith) l.invariant.0 (c.pass.ensures.1 (paths g (above l.k)) (l.invariant.2 g s)),

@@ -1,5 +1,6 @@
 -- `reply_to` meets its contract. Assumes nothing.
 use mathlib.Core.Path.{◌≡◌, refl, sym, ap, ◌∙◌}
+use borrow.Author.Tests.{not-true, not-false}
 use Rattle.rules.specs.declared.Board.{Board}
 use Rattle.rules.specs.declared.Reply.{Reply}
 use Rattle.rules.specs.Orders.{carried}
@@ -25,7 +26,7 @@ start j = j.before.before.before.before
 
 -- the board by its sets and the rest
 abbrev board : tie.After-judge-j → Board
-board j = let t = j.before.before.take-rest in board_of t.new.1.0 t.result
+board j = let t = j.before.before.take-rest in board_of t.new.sets t.result
 
 same-board : (j : tie.After-judge-j) → board j ≡ (start j).args.b
 same-board j = j.before.before.take-rest.ensures.1
@@ -33,11 +34,11 @@ same-board j = j.before.before.take-rest.ensures.1
 returns : tie.Need-returns-then-not-j
 unfolding direct
 returns c = let i = c.before in let j = i.before.before in
-    rw (sym (j.judge-j.ensures.0 ∙ ap sound (same-board j)) ∙ i.if-not-j.true) c.refused_unsound.ensures
+    rw (sym (j.judge-j.ensures.0 ∙ ap sound (same-board j)) ∙ not-true j.judge-j.result.sound i.if-not-j.true) c.refused_unsound.ensures
 
 call-requires : tie.Need-call-changed-requires
 call-requires c κs = let i = c.before.before in let j = i.before.before in
-    (sym j.judge-j.ensures.0 ∙ i.if-not-j.false, j.before.before.take-rest.ensures.0.0, refl)
+    (sym j.judge-j.ensures.0 ∙ not-false j.judge-j.result.sound i.if-not-j.false, j.before.before.take-rest.ensures.0.0, refl)
 
 -- where the call is known
 abbrev tested : tie.After-call-changed → tie.Else-not-j
@@ -45,19 +46,19 @@ tested k = k.before.before.before
 
 complete-requires : tie.Need-complete-requires
 complete-requires c κs = let k = c.before.before.before in let j = (tested k).before.before in let e = k.call-changed.ensures in (
-  λ h. let n = sym (ap (λ (x : Reply). refused x.answer) e.comes_to) ∙ h in
-      j.judge.ensures.1 ∙ sym (ap (λ (x : Board). as_order (carried x)) (ap (λ (x : Reply). x.board) e.comes_to
+  λ h. let n = sym (ap (λ (x : Reply). refused x.answer) e.0) ∙ h in
+      j.judge.ensures.1 ∙ sym (ap (λ (x : Board). as_order (carried x)) (ap (λ (x : Reply). x.board) e.0
       ∙ apply-same (board j) (call_of (start j).args.a) n)),
-  e.in_form.0,
-  e.in_form.1,
-  e.in_form.2,
+  e.1.0,
+  e.1.1,
+  e.1.2,
 )
 
 returns-2 : tie.Need-returns
 unfolding direct
 returns-2 c = let k = c.before.before.before.before in let i = tested k in let j = i.before.before in
-    rw (sym (j.judge-j.ensures.0 ∙ ap sound (same-board j)) ∙ i.if-not-j.false)
-    (c.complete.ensures ∙ k.call-changed.ensures.comes_to ∙ ap (λ (x : Board). apply x (call_of (start j).args.a)) (same-board j))
+    rw (sym (j.judge-j.ensures.0 ∙ ap sound (same-board j)) ∙ not-false j.judge-j.result.sound i.if-not-j.false)
+    (c.complete.ensures ∙ k.call-changed.ensures.0 ∙ ap (λ (x : Board). apply x (call_of (start j).args.a)) (same-board j))
 
 pub reply_to_spec : {M : Type 1} → statement M
 reply_to_spec =

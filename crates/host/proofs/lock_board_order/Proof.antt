@@ -2,6 +2,7 @@
 use mathlib.Core.Path.{◌≡◌, refl, ap, sym, ◌∙◌}
 use mathlib.Core.Bool.{true}
 use lib.ListN.{length}
+use borrow.Author.Tests.{not-true, not-false}
 use Rattle.laws.specs.Tests.{never}
 use Rattle.laws.specs.Lists.{found}
 use Rattle.rules.specs.Orders.{carried}
@@ -21,12 +22,12 @@ start k = k.before.before.before.before
 
 -- the board that was read
 abbrev found-board : tie.After-load_in-loaded → Loaded
-found-board k = loaded_in k.load_in-loaded.new.1.0 k.load_in-loaded.result
+found-board k = loaded_in k.load_in-loaded.new.sets k.load_in-loaded.result
 
 returns : tie.Need-returns-then-not-ok
 returns c = let k = c.before.before in let a = (start k).args in
     let e = Laws.order-refused a.image.now a.order.now (ap (λ (x : Loaded). x.ok)
-    (Laws.image_layout _ (found-board k) k.load_in-loaded.ensures.result_after (c.before.if-not-ok.true))) in
+    (Laws.image_layout _ (found-board k) k.load_in-loaded.ensures.0 (not-true k.load_in-loaded.result.ok c.before.if-not-ok.true))) in
     (c.refusal_answer.ensures ∙ sym e.0, sym e.1)
 
 -- where the layout is known to be an image's, before the board is tested
@@ -37,21 +38,21 @@ abbrev loaded : tie.After-judge-j → tie.After-load_in-loaded
 loaded j = (laid_out j).before
 
 judge-requires : tie.Need-judge-j-requires
-judge-requires c κs = c.before.before.before.load_in-loaded.ensures.store
+judge-requires c κs = c.before.before.before.load_in-loaded.ensures.1
 
 -- what the test says of the board
 says : (j : tie.After-judge-j) → let b = (found-board (loaded j)).board in
-    (j.judge.result.sound ≡ sound b) × (j.judge.result.order ≡ as_order (carried b))
+    (j.judge-j.result.sound ≡ sound b) × (j.judge-j.result.order ≡ as_order (carried b))
 says j = j.judge-j.ensures
 
-ok : (j : tie.After-judge-j) → (loaded j).load-in.result.ok ≡ true
-ok j = (laid_out j).if-not-ok.false
+ok : (j : tie.After-judge-j) → (loaded j).load_in-loaded.result.ok ≡ true
+ok j = not-false (loaded j).load_in-loaded.result.ok (laid_out j).if-not-ok.false
 
 returns-2 : tie.Need-returns-then-not-j
 returns-2 c = let t = c.before in let j = t.before.before in let k = loaded j in let a = (start k).args in
     let e = Laws.order-refused a.image.now a.order.now (ap (λ (x : Loaded). x.ok)
-    (Laws.image_unsound _ (found-board k) k.load_in-loaded.ensures.result_after (ok j)
-    (sym (says j).0 ∙ t.if-not-j.true))) in
+    (Laws.image_unsound _ (found-board k) k.load_in-loaded.ensures.0 (ok j)
+    (sym (says j).0 ∙ not-true j.judge-j.result.sound t.if-not-j.true))) in
     (c.refusal_answer-then-not-j.ensures ∙ sym e.0, sym e.1)
 
 -- where the board is sound
@@ -59,7 +60,7 @@ abbrev judged : tie.Else-not-j → tie.After-judge-j
 judged t = t.before.before
 
 sure : (t : tie.Else-not-j) → sound (found-board (loaded (judged t))).board ≡ true
-sure t = let j = judged t in sym (says j).0 ∙ t.if-not-j.false
+sure t = let j = judged t in sym (says j).0 ∙ not-false j.judge-j.result.sound t.if-not-j.false
 
 returns-3 : tie.Need-returns-in_default
 returns-3 c = let m = c.before in let t = m.before.before in let j = (judged t).judge-j in
@@ -82,9 +83,9 @@ found_in p = p.before.before.before
 returns-4 : tie.Need-returns
 returns-4 c = let p = c.before.before in let k = (found_in p).kind in let t = ordered (found_in p) in
     let j = (judged t).judge-j in let l = loaded (judged t) in let a = (start l).args in
-    let e = Laws.order-read a.image.now a.order.now j.result.order.at k.given.0.0 j.result.order (found-board l) l.load_in-loaded.ensures.result_after
+    let e = Laws.order-read a.image.now a.order.now j.result.order.at k.given.0.0 j.result.order (found-board l) l.load_in-loaded.ensures.0
     (ok (judged t)) (sure t) (says (judged t)).1 k.given.1 refl in
-    (p.put_order.ensures.value ∙ sym e.0, p.put_order.ensures.buffer_after ∙ sym e.1)
+    (p.put_order.ensures.0 ∙ sym e.0, p.put_order.ensures.1 ∙ sym e.1)
 
 pub lock_board_order_spec : {M : Type 1} → statement M
 lock_board_order_spec =

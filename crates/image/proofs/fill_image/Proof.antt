@@ -37,7 +37,7 @@ returns c =
     let m = made sets b.seats in
     let k = rows-length inquiry_section inquiry_of 32 m inquiry_length (made_size sets b.seats) in
     let e₆ = put-after inquiries_section (map inquiry_of m) e₅ k
-    (put_part front_section.size (inquiries_section.write (map inquiry_of m)) p₅.put_places-3.new.0 p₆.put_inquiries.new.0
+    (put_part front_section.size (inquiries_section.write (map inquiry_of m)) p₅.put_places-3.new.out p₆.put_inquiries.new.out
     (p₆.put_inquiries.ensures ∙ rw k)) in
     put_all e₆ s.requires.0
 

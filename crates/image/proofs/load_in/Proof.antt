@@ -36,10 +36,10 @@ returns-2 c =
     let good = rows.before.before in
     let s = good.before.before.before.before in
     let l = s.args.image.now in (
-      read-good l rows.read_rows-seats.new.1.0 _ (omega arith) (sym good.before.rows_fit.ensures ∙ good.if-rows_fit.true)
-          rows.read_rows-seats.ensures.sets_of
+      read-good l rows.read_rows-seats.new.sets _ (omega arith) (sym good.before.rows_fit.ensures ∙ good.if-rows_fit.true)
+          rows.read_rows-seats.ensures.1
           (record {
-            seats-are = rows.read_rows-seats.ensures.seats_to;
+            seats-are = rows.read_rows-seats.ensures.0;
             waiting-is = waiting.read_places-waiting.ensures;
             entry-is = entry.read_places-entry.ensures;
             favoured_is = sym (byte_at l numbers_at 0);
@@ -47,7 +47,7 @@ returns-2 c =
             leaves-are = sym (byte_at l numbers_at 2);
             passed-are = counts.read_places-passed.ensures;
           }),
-      rows.read_rows-seats.ensures.sets_of.0,
+      rows.read_rows-seats.ensures.1.0,
     )
 
 returns-3 : tie.Need-returns

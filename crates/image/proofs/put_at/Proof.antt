@@ -14,7 +14,7 @@ returns : tie.Need-returns
 returns c =
     let s = c.before.before.before.before.before.before in
     let out = s.args.out.now in let src = s.args.src.now in let at = s.args.at in
-    put_part at src out c.before.before.copy.new.1.0 (c.before.before.copy.ensures.1
+    put_part at src out c.before.before.copy.new.dst (c.before.before.copy.ensures.1
     ∙ ap (λ (l : List ℕ). l ++ drop (length src) (take (length out - at) (drop at out))) (take_all (length src) src (omega arith)))
 
 pub put_at_spec : {M : Type 1} → statement M

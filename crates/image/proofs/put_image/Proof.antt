@@ -8,7 +8,7 @@ use Rattle.image.proofs.put_image.Tie as tie
 
 returns : tie.Need-returns
 returns c = let w = c.before.before in let t = w.before.before.before in let out = t.before.before.before.args.out.now in
-    (w.put_image_of.ensures.value, w.put_image_of.ensures.out_after ∙ ap (image_in out) t.take-rest.ensures.1)
+    (w.put_image_of.ensures.0, w.put_image_of.ensures.1 ∙ ap (image_in out) t.take-rest.ensures.1)
 
 pub put_image_spec : {M : Type 1} → statement M
 put_image_spec =

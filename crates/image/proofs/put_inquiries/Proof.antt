@@ -40,7 +40,7 @@ loop-again c =
     let z : l.i + 1 - 1 ≡ l.i = omega arith in (
       omega arith,
       omega arith,
-      put-row_part inquiry_bytes inquiry_section.size inquiry_length a.out.now l.out p.put_inquiry.new.0 m no_program l.i
+      put-row_part inquiry_bytes inquiry_section.size inquiry_length a.out.now l.out p.put_inquiry.new.out m no_program l.i
           (omega (arith, made_size a.sets.now a.seats)) l.invariant.2
           (rw (made_in a.sets.now a.seats l.i (search rules)) (rw z at p.put_inquiry.ensures)),
     )

@@ -40,7 +40,7 @@ loop-again c =
     let z : l.i + 1 - 1 ≡ l.i = omega arith in (
       omega arith,
       omega arith,
-      put-row_part row_bytes row_section.size row-length a.out.now l.out p.put_row.new.0 m no_program l.i
+      put-row_part row_bytes row_section.size row-length a.out.now l.out p.put_row.new.out m no_program l.i
           (omega (arith, made_size a.sets.now a.seats)) l.invariant.2
           (rw (made_in a.sets.now a.seats l.i (search rules)) (rw z at p.put_row.ensures)),
     )

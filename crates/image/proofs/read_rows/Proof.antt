@@ -46,14 +46,14 @@ loop-again c =
     let z : l.i + 1 - 1 ≡ l.i = omega arith in
     let row = row-part row_section s l.i in
     let inquiry = row-after-part inquiry_section s front_section.size l.i in
-    let put : PutAt (in_place b l.i) l.i l.sets t.read_sets.new.1.1.0
+    let put : PutAt (in_place b l.i) l.i l.sets t.read_sets.new.sets
     = rw (row_in s l.i h) (rw (z, row, inquiry) at t.read_sets.ensures) in
     let e : c.read_seat-seat.result ≡ seat_of (in_place b l.i)
     = rw (row_in s l.i h) (rw (row, inquiry) at c.read_seat-seat.ensures) in (
       search rules,
       search rules,
       put.is_store,
-      sets_more b l.i l.sets t.read_sets.new.1.1.0 h put l.invariant.3,
+      sets_more b l.i l.sets t.read_sets.new.sets h put l.invariant.3,
       rw e (seats_more b l.i l.seats (omega (arith, l.invariant.1)) l.invariant.4),
     )
 

@@ -30,8 +30,8 @@ row-fits-requires c κs =
 
 -- what the test of a program's rows says
 tested : (c : tie.After-row_fits invariant-loop decreases-loop)
-    → agreeAt row_section inquiry_section rows_agree c.before.before.before.before.loop.i c.before.before.before.before.before.before.args.s.now
-    (inquiries_in c.before.before.before.before.before.before.args.s.now) ≡ c.row-fits.result
+    → agreeAt row_section inquiry_section rows_agree c.before.before.before.before.loop-i.i c.before.before.before.before.before.before.args.s.now
+    (inquiries_in c.before.before.before.before.before.before.args.s.now) ≡ c.row_fits.result
 tested c =
     let s = c.before.before.before.before.before.before.args.s.now in let i = c.before.before.before.before.loop-i.i in
     rw (← row-part row_section s i, ← row-after-part inquiry_section s front_section.size i) (sym c.row_fits.ensures)

@@ -18,12 +18,12 @@ returns c =
     let t = c.before.before in
     let s = t.before.before in
     let a = s.args in
-    let w : c.put.new.0 ≡ words_for word_count (set_section.read a.s.now)
-    = c.put.ensures.s_after ∙ ap₂ words_for (s.requires.1.1.words_are a.k s.requires.1.0) t.read_set-t.ensures in (
+    let w : c.put.new.s ≡ words_for word_count (set_section.read a.s.now)
+    = c.put.ensures.0 ∙ ap₂ words_for (s.requires.1.1.words_are a.k s.requires.1.0) t.read_set-t.ensures in (
       ap (set a.sets.now a.k) w,
       (
-        ap set_of (sym w) ∙ c.put.ensures.s_after_2 ∙ t.read_set-t.ensures,
-        put-row a.sets.now a.k c.put.new.0 s.requires.1.1 (ap length w ∙ length_for word_count (set_section.read a.s.now)),
+        ap set_of (sym w) ∙ c.put.ensures.1 ∙ t.read_set-t.ensures,
+        put-row a.sets.now a.k c.put.new.s s.requires.1.1 (ap length w ∙ length_for word_count (set_section.read a.s.now)),
       ),
     )
 

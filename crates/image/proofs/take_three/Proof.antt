@@ -12,9 +12,9 @@ returns c =
     let s = first.before.before.before.before.before in
     let a = s.args in
     three-taken a.k (set_section.read a.a.now) (set_section.read a.b.now) (set_section.read a.c.now) s.requires.1.0 s.requires.1.1
-    (record { puts = first.take_set.ensures.sets_after; reads = first.take_set.ensures.s_value.0 })
-    (record { puts = second.take_set-2.ensures.sets_after; reads = second.take_set-2.ensures.s_value.0 })
-    (record { puts = c.take_set-3.ensures.sets_after; reads = c.take_set-3.ensures.s_value.0 })
+    (record { puts = first.take_set.ensures.0; reads = first.take_set.ensures.1.0 })
+    (record { puts = second.take_set-2.ensures.0; reads = second.take_set-2.ensures.1.0 })
+    (record { puts = c.take_set-3.ensures.0; reads = c.take_set-3.ensures.1.0 })
 
 pub take_three_spec : {M : Type 1} → statement M
 take_three_spec =

@@ -49,9 +49,9 @@ end-there c =
     let n₃ = third n₄ in
     let n₂ = second n₃ in
     let n₁ = first n₂ in
-    end_in (start n₄).args.part.now (copied n₁).copy.last.1.0 n₁.put_number.last.0 n₂.put_number-2.last.0
-    n₃.put_number-3.last.0 n₄.put_number-4.new.0 (copied n₁).copy.kept.1.0 n₁.put_number.kept.0 n₂.put_number-2.kept.0
-    n₃.put_number-3.kept.0 n₄.put_number-4.auto.0 (start n₄).requires
+    end_in (start n₄).args.part.now (copied n₁).copy.new.dst n₁.put_number.new.part n₂.put_number-2.new.part
+    n₃.put_number-3.new.part n₄.put_number-4.new.part (copied n₁).copy.auto.dst n₁.put_number.auto.part n₂.put_number-2.auto.part
+    n₃.put_number-3.auto.part n₄.put_number-4.auto.part (start n₄).requires
 
 same_length : tie.Need-shape_of-part
 same_length c = let s = start c.before.before in let a = s.args in

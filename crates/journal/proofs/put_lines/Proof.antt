@@ -46,11 +46,11 @@ loop-again c =
     let l32 : length ls ≡ 32 = places s in
     let read : n.line_in-l.result ≡ get_or ls l.i (line_in []) =
     n.line_in-l.ensures ∙ sym (get_or-map line_in s.args.lines.now l.i []) in
-    let e : _ = step line_bytes journal_line line-length s.args.journal.now l.journal k.new.0
+    let e : _ = step line_bytes journal_line line-length s.args.journal.now l.journal k.new.part
     ls (line_in []) s.args.place l.i l.at (omega arith) (omega arith) l.invariant.1 l.invariant.3 (rw (← read) k.ensures) in (
       omega arith,
       omega arith,
-      same_len_mid l.at (length l.journal - l.at) l.journal k.new.0 k.auto.0 ∙ l.invariant.2,
+      same_len_mid l.at (length l.journal - l.at) l.journal k.new.part k.auto.part ∙ l.invariant.2,
       e,
     )
 

@@ -1,5 +1,6 @@
 -- `line_call` meets its contract. Assumes nothing.
 use mathlib.Core.Path.{◌≡◌, refl, ap, sym, ◌∙◌}
+use borrow.Author.Tests.{not-true, not-false}
 use Rattle.rules.specs.declared.Board.{Board}
 use Rattle.rules.specs.declared.Reply.{Reply}
 use Rattle.rules.specs.Orders.{carried}
@@ -27,7 +28,7 @@ begin j = j.before.before.before.before.before.before
 
 -- the board by its sets and the rest
 abbrev board : tie.After-judge-j → Board
-board j = let t = j.before.before.take-rest in board_of t.new.1.0 t.result
+board j = let t = j.before.before.take-rest in board_of t.new.sets t.result
 
 same-board : (j : tie.After-judge-j) → board j ≡ (begin j).args.b
 same-board j = j.before.before.take-rest.ensures.1
@@ -43,7 +44,7 @@ judged l = l.before.before.before.before.before.before
 returns : tie.Need-returns-then-not-j
 returns c = let i = c.before in let j = i.before.before in let a = (begin j).args in
     let e = call_unsound a.b a.line.now a.journal.now a.place
-    (sym (j.judge-j.ensures.0 ∙ ap sound (same-board j)) ∙ i.if-not-j.true) in (
+    (sym (j.judge-j.ensures.0 ∙ ap sound (same-board j)) ∙ not-true j.judge-j.result.sound i.if-not-j.true) in (
       rw e c.refused_unsound-reply.ensures,
       (
         rw e,
@@ -57,27 +58,27 @@ returns c = let i = c.before in let j = i.before.before in let a = (begin j).arg
 
 line-requires : tie.Need-line-s-requires
 line-requires c κs = let i = c.before.before.before in let j = i.before.before in
-    (sym j.judge-j.ensures.0 ∙ i.if-not-j.false, j.before.before.take-rest.ensures.0.0, refl)
+    (sym j.judge-j.ensures.0 ∙ not-false j.judge-j.result.sound i.if-not-j.false, j.before.before.take-rest.ensures.0.0, refl)
 
 complete-requires : tie.Need-complete-reply-requires
 complete-requires c κs = let l = c.before.before.before.before.before in let j = judged l in let a = (begin j).args in let k = l.before.line-s.ensures in (
-  λ h. let n = sym (ap (λ (x : Reply). refused x.answer) k.comes_to) ∙ h in
-      j.judge-j.ensures.1 ∙ sym (ap (λ (x : Board). as_order (carried x)) (ap (λ (x : Reply). x.board) k.comes_to
+  λ h. let n = sym (ap (λ (x : Reply). refused x.answer) k.0) ∙ h in
+      j.judge-j.ensures.1 ∙ sym (ap (λ (x : Board). as_order (carried x)) (ap (λ (x : Reply). x.board) k.0
       ∙ refused-same (board j) a.line.now a.journal.now a.place n)),
-  k.place_value.1.1.0,
-  k.place_value.1.1.1,
-  k.place_value.1.1.2,
+  k.1.1.1.0,
+  k.1.1.1.1,
+  k.1.1.1.2,
 )
 
 returns-2 : tie.Need-returns
 returns-2 c = let f = c.before in let l = f.before.before.before.before.before.before in let k = l.before.line-s.ensures in let j = judged l in
     let s = begin j in let a = s.args in let e = same-board j in
-    let q = f.complete-reply.ensures ∙ k.comes_to ∙ ap (λ (x : Board). (outcome x s).reply) e in (
+    let q = f.complete-reply.ensures ∙ k.0 ∙ ap (λ (x : Board). (outcome x s).reply) e in (
       q,
       (
-        k.place_value.0 ∙ ap (λ (x : Board). (outcome x s).place) e,
+        k.1.0 ∙ ap (λ (x : Board). (outcome x s).place) e,
         (
-          k.place_value.1.0 ∙ ap (λ (x : Board). (outcome x s).journal) e,
+          k.1.1.0 ∙ ap (λ (x : Board). (outcome x s).journal) e,
           line_carries a.b a.line.now a.journal.now a.place f.complete-reply.result c.loop_of-carries.result q c.loop_of-carries.ensures,
         ),
       ),

@@ -17,7 +17,7 @@ begin l = l.before.before.before.before
 
 -- the reply with them is that of the call
 whole : (l : tie.After-lines_of-written) → let a = (begin l).args in
-    ◌≡◌ {A = Reply} (replied (record { board = l.before.board.result; lines = l.lines_of.result; count = a.c.progress.count }) a.c.answer)
+    ◌≡◌ {A = Reply} (replied (record { board = l.before.board-b.result; lines = l.lines_of-written.result; count = a.c.progress.count }) a.c.answer)
     (replied (written_in a.sets.now a.lines.now a.c.progress) a.c.answer)
 whole l = let a = (begin l).args in replied_by _ _ _ _ a.c.progress.count a.c.answer l.before.board-b.ensures l.lines_of-written.ensures
 

@@ -26,7 +26,7 @@ numbered w = w.before
 abbrev read : tie.In-Number → tie.After-read_number-field
 read f = f.before
 
-number_is : (f : tie.In-Number) → file_in (read f).before.before.before.args.part.now ≡ Field.Number f.in-Number.f
+number_is : (f : tie.In-Number) → file_in (read f).before.before.before.args.part.now ≡ Field.Number f.in-Number.n
 number_is f = sym (read f).read_number-field.ensures ∙ f.in-Number.is
 
 returns-2 : tie.Need-returns-then-g-f

@@ -3,7 +3,7 @@ use Prim.Native.Nat.{ℕ, ◌+◌}
 use mathlib.Core.Path.{◌≡◌, ap, ap₂, sym, ◌∙◌}
 use mathlib.Core.Bool.{true}
 use lib.ListN.{drop}
-use borrow.Author.Tests.{not-false}
+use borrow.Author.Tests.{not-true, not-false}
 use Rattle.rules.specs.declared.Verb.{Verb}
 use Rattle.request.specs.declared.Group.{Group}
 use Rattle.request.specs.Verbs.{entry_length}
@@ -59,16 +59,16 @@ abbrev q-of : tie.After-read_group-i → Group
 q-of n = q (read-q n.before)
 
 v-good : (n : tie.After-read_group-q) → (v-then n).good ≡ true
-v-good n = n.before.if-not-v.false
+v-good n = not-false (v-then n).good n.before.if-not-v.false
 
 q-good : (n : tie.After-read_group-i) → (q-of n).good ≡ true
-q-good n = n.before.if-not-q.false
+q-good n = not-false (q-of n).good n.before.if-not-q.false
 
 good : (e : tie.Else-not-i) → let n = read-j e in Laws.AllFiles (v-of n) (q-of n) (j n)
-good e = let n = read-j e in (v-good (read-q n.before), q-good n, e.if-not-i.false)
+good e = let n = read-j e in (v-good (read-q n.before), q-good n, not-false (j n).good e.if-not-i.false)
 
 v-rises : (e : tie.Else-not-v-2) → (v-of (read-j (all_files e))).rising ≡ true
-v-rises e = e.if-not-v-2.false
+v-rises e = not-false (v-of (read-j (all_files e))).rising e.if-not-v-2.false
 
 q-rises : (e : tie.Else-not-q-2) → (q-of (read-j (all_files (v-risen e)))).rising ≡ true
 q-rises e = not-false (q-of (read-j (all_files (v-risen e)))).rising e.if-not-q-2.false
@@ -95,38 +95,38 @@ returns c = let n = c.before.before.before in let a = (start n).args in
     let later = group_from a.r (drop (entry_length a.w) a.line.now) no_group in
     c.refusing.ensures ∙ sym (Laws.enter_by_lem a.verb a.line.now a.program a.w a.r a.j
     ∙ ap (λ (x : Group). Laws.enter_by a.verb x later (later-j (start n)) a.program) (sym n.read_group-v.ensures)
-    ∙ Laws.v-bad a.verb (v n) later (later-j (start n)) a.program (c.before.if-not-v.true))
+    ∙ Laws.v-bad a.verb (v n) later (later-j (start n)) a.program (not-true (v n).good c.before.if-not-v.true))
 
 returns-2 : tie.Need-returns-then-not-q
 returns-2 c = let n = c.before.before.before in let a = (begun-q n).args in
     c.refusing-then-not-q.ensures ∙ sym (by_two n ∙ Laws.q-bad a.verb (v-then n) (q n) (later-j (begun-q n)) a.program (v-good n)
-    (c.before.if-not-q.true))
+    (not-true (q n).good c.before.if-not-q.true))
 
 returns-3 : tie.Need-returns-then-not-i
 returns-3 c = let n = c.before.before.before in let a = (begun-j n).args in
     c.refusing-then-not-i.ensures ∙ sym (by-groups n ∙ Laws.j-bad a.verb (v-of n) (q-of n) (j n) a.program (v-good (read-q n.before)) (q-good n)
-    (c.before.if-not-i.true))
+    (not-true (j n).good c.before.if-not-i.true))
 
 returns-4 : tie.Need-returns-then-not-v-2
 returns-4 c = let e = c.before.before.before in let n = read-j e in let a = (begun-j n).args in
     c.refusing-then-not-v-2.ensures ∙ sym (by-groups n ∙ Laws.v-falls a.verb (v-of n) (q-of n) (j n) a.program (good e)
-    (c.before.if-not-v-2.true))
+    (not-true (v-of n).rising c.before.if-not-v-2.true))
 
 returns-5 : tie.Need-returns-then-not-q-2
 returns-5 c = let s = c.before.before.before in let e = all_files s in let n = read-j e in let a = (begun-j n).args in
     c.refusing-then-not-q-2.ensures ∙ sym (by-groups n ∙ Laws.q-falls a.verb (v-of n) (q-of n) (j n) a.program (good e) (v-rises s)
-    (c.before.if-not-q-2.true))
+    (not-true (q-of n).rising c.before.if-not-q-2.true))
 
 returns-6 : tie.Need-returns-then-not-i-2
 returns-6 c = let f = c.before.before.before in let s = v-risen f in let e = all_files s in let n = read-j e in let a = (begun-j n).args in
     c.refusing-then-not-i-2.ensures ∙ sym (by-groups n ∙ Laws.j-falls a.verb (v-of n) (q-of n) (j n) a.program (good e) (v-rises s) (q-rises f)
-    (c.before.if-not-i-2.true))
+    (not-true (j n).rising c.before.if-not-i-2.true))
 
 returns-7 : tie.Need-returns
 returns-7 c = let k = c.before.before.before.before in let f = k.before.before in let s = v-risen f in let e = all_files s in
     let n = read-j e in let a = (begun-j n).args in
     c.taking.ensures ∙ sym (by-groups n ∙ Laws.all-good a.verb (v-of n) (q-of n) (j n) a.program (good e) (v-rises s) (q-rises f)
-    (k.if-not-i-2.false))
+    (not-false (j n).rising k.if-not-i-2.false))
 
 pub read_files_spec : {M : Type 1} → statement M
 read_files_spec =

@@ -18,13 +18,13 @@ search-rest-requires c κs = let k = c.before.before in let a = k.before.before.
 
 returns : tie.Need-returns-then-not-search_rest
 returns c = let k = c.before.before.before.before.before.before in let a = k.before.args in let n = k.count-n in let s = c.before.search_rest in
-    ap (λ (x : Bool). outcome x n.result s.new.1.1.1.1.0) (sym (c.if-not-search_rest.true))
-    ∙ order_in_is a.rows.now s.new.1.1.1.1.0 a.left n.result s.result n.ensures.0 s.ensures
+    ap (λ (x : Bool). outcome x n.result s.new.at) (sym (c.if-not-search_rest.true))
+    ∙ order_in_is a.rows.now s.new.at a.left n.result s.result n.ensures.0 s.ensures
 
 returns-2 : tie.Need-returns
 returns-2 c = let k = c.before.before.before.before.before.before in let a = k.before.args in let n = k.count-n in let s = c.before.search_rest in
-    ap (λ (x : Bool). outcome x n.result s.new.1.1.1.1.0) (sym (c.if-not-search_rest.false))
-    ∙ order_in_is a.rows.now s.new.1.1.1.1.0 a.left n.result s.result n.ensures.0 s.ensures
+    ap (λ (x : Bool). outcome x n.result s.new.at) (sym (c.if-not-search_rest.false))
+    ∙ order_in_is a.rows.now s.new.at a.left n.result s.result n.ensures.0 s.ensures
 
 pub order_in_spec : {M : Type 1} → statement M
 order_in_spec = tie.close (tie.spec (λ c κs. search rules) (λ c. search rules) (λ c κs. search rules) search-rest-requires returns returns-2)

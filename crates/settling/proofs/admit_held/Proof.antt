@@ -23,7 +23,7 @@ decreases-loop sets lines₀ s₀ p₀ lines s p = length (names (board_of sets 
 -- ---- stations
 
 abbrev start : tie.At-loop-p invariant-loop decreases-loop → tie.Start invariant-loop decreases-loop
-start l = l.before.before
+start l = l.before.before.before
 
 -- the board with its lines at a turn
 abbrev at : tie.At-loop-p invariant-loop decreases-loop → Written
@@ -36,32 +36,32 @@ loop-holds c = let a = c.before.before.requires in
 
 oldest-overdue-requires : tie.Need-oldest_overdue-overdue-requires invariant-loop decreases-loop
 unfolding board_of
-oldest-overdue-requires c κs = let l = c.before in all_waiting (at l).board l.before.loop-p.invariant.0.loose
+oldest-overdue-requires c κs = let l = c.before in all_waiting (at l.before).board l.before.loop-p.invariant.0.loose
 
 favour-waiter-requires : tie.Need-favour_waiter-requires invariant-loop decreases-loop
 favour-waiter-requires c κs =
     let i = c.before in let o = i.before.oldest_overdue-overdue in let t = i.before.before in let l = t.before in let v = l.before.loop-p.invariant in
-    let r = overdue_some (at l).board o.result v.0.loose o.ensures i.if-overdue-ne0.true in
-    (r.1, overdue-fits _ (at l) v.0 (λ e. t.before.loop-p-test.true (v.1 ∙ e)) o.result r.0, v.2)
+    let r = overdue_some (at l.before).board o.result v.0.loose o.ensures i.if-overdue-ne0.true in
+    (r.1, overdue-fits _ (at l.before) v.0 (λ e. t.before.loop-p-test.true (v.1 ∙ e)) o.result r.0, v.2)
 
 returns : tie.Need-returns-then-overdue-ne0 invariant-loop decreases-loop
 unfolding board_of
 returns c =
     let i = c.before.before in let o = i.before.oldest_overdue-overdue in let t = i.before.before in let l = t.before in let v = l.before.loop-p.invariant in
-    let r = overdue_some (at l).board o.result v.0.loose o.ensures i.if-overdue-ne0.true in (
-      c.favour_waiter.ensures.result_after ∙ overdue-is _ (at l) v.0 (λ e. t.before.loop-p-test.true (v.1 ∙ e)) o.result r.0,
-      c.favour_waiter.ensures.entries,
+    let r = overdue_some (at l.before).board o.result v.0.loose o.ensures i.if-overdue-ne0.true in (
+      c.favour_waiter.ensures.0 ∙ overdue-is _ (at l.before) v.0 (λ e. t.before.loop-p-test.true (v.1 ∙ e)) o.result r.0,
+      c.favour_waiter.ensures.1,
     )
 
 admit-one-requires : tie.Need-admit_one-s-requires invariant-loop decreases-loop
 unfolding board_of
 admit-one-requires c κs =
     let i = c.before in let o = i.before.oldest_overdue-overdue in let t = i.before.before in let l = t.before in let v = l.before.loop-p.invariant in
-    let n = overdue-none (at l).board o.result v.0.loose o.ensures i.if-overdue-ne0.false in
-    let r = first_range _ (at l) v.0 (λ e. t.before.loop-p-test.true (v.1 ∙ e)) in
+    let n = overdue-none (at l.before).board o.result v.0.loose o.ensures i.if-overdue-ne0.false in
+    let r = first_range _ (at l.before) v.0 (λ e. t.before.loop-p-test.true (v.1 ∙ e)) in
     let p = v.1 in let x = r.0 in let y = r.1 in (
       (omega arith, omega arith),
-      one-fits _ (at l) v.0 (λ e. t.before.loop-p-test.true (v.1 ∙ e)) n,
+      one-fits _ (at l.before) v.0 (λ e. t.before.loop-p-test.true (v.1 ∙ e)) n,
       v.0.counts.counted.most,
       (start l).requires.4,
       v.2,

@@ -33,9 +33,9 @@ admit-held-requires c κs = let i = c.before in let o = i.before in let e = o.be
 returns-2 : tie.Need-returns-then-p-eq0
 unfolding board_of
 returns-2 c = let i = c.before.before in let o = i.before in let e = o.before in let s = e.before.before in let w = first s in (
-  c.admit_held.ensures.result_after ∙ run-held-is w e.if-favoured-ne0.false
+  c.admit_held.ensures.0 ∙ run-held-is w e.if-favoured-ne0.false
       (candidate-none w.board o.oldest_unused-p.result s.requires.0 o.oldest_unused-p.ensures i.if-p-eq0.true),
-  c.admit_held.ensures.entries,
+  c.admit_held.ensures.1,
 )
 
 favour-waiter-requires : tie.Need-favour_waiter-requires
@@ -48,8 +48,8 @@ returns-3 : tie.Need-returns
 unfolding board_of
 returns-3 c = let i = c.before.before in let o = i.before in let e = o.before in let s = e.before.before in let w = first s in
     let r = candidate_some w.board o.oldest_unused-p.result s.requires.0 o.oldest_unused-p.ensures i.if-p-eq0.false in (
-      c.favour_waiter.ensures.result_after ∙ favour-is w o.oldest_unused-p.result e.if-favoured-ne0.false r.0,
-      c.favour_waiter.ensures.entries,
+      c.favour_waiter.ensures.0 ∙ favour-is w o.oldest_unused-p.result e.if-favoured-ne0.false r.0,
+      c.favour_waiter.ensures.1,
     )
 
 pub choose_next_spec : {M : Type 1} → statement M

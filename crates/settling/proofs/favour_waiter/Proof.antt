@@ -25,14 +25,14 @@ start c = c.before.before.before.before.before.before
 
 -- the file that the waiter waits for
 file : (c : tie.After-line_of) → let a = (start c).args in
-    c.before.before.before.awaited.result ≡ awaited (board_of a.sets.now a.w.rest) a.p
+    c.before.before.before.awaited-f.result ≡ awaited (board_of a.sets.now a.w.rest) a.p
 file c = let s = start c in let a = s.args in
     c.before.before.before.awaited-f.ensures ∙ ap (λ (t : Seat). awaited_of t.standing) c.before.before.before.before.seat_at-seat.ensures
     ∙ sym (ap (λ (q : Program). awaited_of q.standing) (board-at a.sets.now a.w.rest a.p s.requires.0.0 s.requires.0.1))
 
 -- the record that it waits for, or 0
 item : (c : tie.After-line_of) → let a = (start c).args in
-    c.before.before.before.before.seat-at.result.item ≡ (at (board_of a.sets.now a.w.rest) a.p).item
+    c.before.before.before.before.seat_at-seat.result.item ≡ (at (board_of a.sets.now a.w.rest) a.p).item
 item c = let s = start c in let a = s.args in ap (λ (t : Seat). t.item) c.before.before.before.before.seat_at-seat.ensures
     ∙ sym (ap (λ (q : Program). q.item) (board-at a.sets.now a.w.rest a.p s.requires.0.0 s.requires.0.1))
 

@@ -24,7 +24,7 @@ abbrev start : tie.After-oldest_for-p → tie.Start
 start o = o.before.before
 
 seats-length : (s : tie.Start) → length s.args.w.rest.seats ≡ 32
-seats-length s = sym (length-map s.args.w.rest.seats _) ∙ s.well-formed.1.1.0.1.1.0.1.1.0.1.0.1
+seats-length s = sym (length-map s.args.w.rest.seats _) ∙ s.well_formed.1.1.0.1.1.0.1.1.0.1.0.1
 
 oldest-for-requires : tie.Need-oldest_for-p-requires
 unfolding board_of
@@ -39,7 +39,7 @@ returns c = let o = c.before in let s = start o in let a = s.args in let w = wri
 )
 
 -- the oldest waiter for the record
-some-waiter : (i : tie.Else-p-eq0) → let o = i.before in let s = start o in let p = o.oldest-for.result in
+some-waiter : (i : tie.Else-p-eq0) → let o = i.before in let s = start o in let p = o.oldest_for-p.result in
     (record_waiter (board s) s.args.f s.args.n ≡ some p) × ((1 ≤ p) × (p ≤ 32))
 unfolding board_of
 some-waiter i = let o = i.before in let s = start o in let a = s.args in

@@ -38,7 +38,7 @@ returns c = let l = c.before.before.loop-k in let g = c.before.before.before.arg
 )
 
 -- the waiter is a program
-range : (i : tie.Else-p-eq0 invariant-loop decreases-loop) → let l = i.before.before.loop in let p = get_or i.before.before.before.args.line l.k 0 in
+range : (i : tie.Else-p-eq0 invariant-loop decreases-loop) → let l = i.before.before.loop-k in let p = get_or i.before.before.before.args.line l.k 0 in
     (1 ≤ p) × (p ≤ 32)
 range i = let l = i.before.before.loop-k in let m = l.invariant.3 in
     name_range i.before.before.before.args.line l.k (omega arith) i.if-p-eq0.false l.invariant.2
@@ -47,18 +47,18 @@ place-of-requires : tie.Need-place_of-i-requires invariant-loop decreases-loop
 place-of-requires c κs = range c
 
 can-serve-requires : tie.Need-can_serve-requires invariant-loop decreases-loop
-can-serve-requires c κs = let e = c.before.before in (range e, e.before.before.before.before.requires.2)
+can-serve-requires c κs = let e = c.before.before in (range e.before, e.before.before.before.before.requires.2)
 
 -- the waiter is known
 abbrev known : tie.After-can_serve invariant-loop decreases-loop → tie.Else-p-eq0 invariant-loop decreases-loop
-known g = g.before.before.before
+known g = g.before.before.before.before
 
 abbrev start : tie.After-can_serve invariant-loop decreases-loop → tie.Start invariant-loop decreases-loop
 start g = (known g).before.before.before
 
 -- whether it is given the file that it waits for
-asks : (x : tie.After-can_serve invariant-loop decreases-loop) → let g = (start x).args in let p = get_or g.line (known x).before.before.loop.k 0 in
-    x.can-serve.result ≡ not (eqb (get_or g.asked.now (p - 1) 0) 0) && give_in g.sets.now g.uses p (get_or g.asked.now (p - 1) 0)
+asks : (x : tie.After-can_serve invariant-loop decreases-loop) → let g = (start x).args in let p = get_or g.line (known x).before.before.loop-k.k 0 in
+    x.can_serve.result ≡ not (eqb (get_or g.asked.now (p - 1) 0) 0) && give_in g.sets.now g.uses p (get_or g.asked.now (p - 1) 0)
 asks x = let g = (start x).args in let p = get_or g.line (known x).before.before.loop-k.k 0 in
     x.can_serve.ensures ∙ ap (λ (i : ℕ). let f = get_or g.asked.now i 0 in not (eqb f 0) && give_in g.sets.now g.uses p f) x.before.before.before.place_of-i.ensures.0
 

@@ -44,8 +44,8 @@ place-of-requires c κs = let l = c.before.before.loop-k in let b = c.before.bef
     name_range b.waiting l.k (omega arith) c.if-w-eq0.false l.invariant.1
 
 -- whether the waiter waits for it
-asks : (w : tie.After-waits_for invariant-loop decreases-loop) → let i = w.before.before.before in let l = i.before.before.loop in
-    let s = i.before.before.before.before in w.waits-for.result ≡ those s (get_or s.args.rest.waiting l.k 0)
+asks : (w : tie.After-waits_for invariant-loop decreases-loop) → let i = w.before.before.before in let l = i.before.before.loop-k in
+    let s = i.before.before.before.before in w.waits_for.result ≡ those s (get_or s.args.rest.waiting l.k 0)
 asks w = let q = w.before.before in let i = q.before in let l = i.before.before.loop-k in let s = i.before.before.before.before in
     let b = s.args.rest in let m = l.invariant.3 in let g = name_range b.waiting l.k (omega arith) i.if-w-eq0.false l.invariant.1 in
     w.waits_for.ensures ∙ ap (λ (j : ℕ). seat_wants (get_or b.seats j no_seat) s.args.f s.args.n) q.place_of-i.ensures.0

@@ -61,7 +61,7 @@ returns-2 c = let s = c.before.before in let l = s.loop-k in let a = start s.bef
     (names-stop r.waiting l.k (omega arith) c.if-p-eq0.true)))
 
 -- the waiter is a program
-range : (i : tie.Else-p-eq0 invariant-loop decreases-loop) → let s = turn i in let p = get_or (start s.before).args.rest.waiting s.loop.k 0 in (1 ≤ p) × (p ≤ 32)
+range : (i : tie.Else-p-eq0 invariant-loop decreases-loop) → let s = turn i in let p = get_or (start s.before).args.rest.waiting s.loop-k.k 0 in (1 ≤ p) × (p ≤ 32)
 range i = let s = turn i in let l = s.loop-k in let a = start s.before in let m = l.inv.3 in
     waiter-range (board a) a.args.rest.waiting l.k (omega arith) i.if-p-eq0.false l.inv.1
 
@@ -73,7 +73,7 @@ is-unused-requires c κs = let i = c.before.before in (range i, (start (turn i).
 
 -- whether it waits for a file, in no conflicting use
 free : (w : tie.After-is_unused invariant-loop decreases-loop) → let s = turn (reached w) in let a = start s.before in
-    w.is-unused.result ≡ unused (board a) (get_or a.args.rest.waiting s.loop.k 0)
+    w.is_unused.result ≡ unused (board a) (get_or a.args.rest.waiting s.loop-k.k 0)
 free w = let i = reached w in let s = turn i in let u = s.before in let l = s.loop-k in let a = start u in let r = a.args.rest in
     let sets = a.args.sets.now in let q = w.before.before in let m = l.inv.3 in let g = range i in
     waiter-unused (board a) r.waiting l.k (omega arith) i.if-p-eq0.false l.inv.1 sets

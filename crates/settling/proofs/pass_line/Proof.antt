@@ -44,7 +44,7 @@ decreases-loop sets₀ lines₀ c₀ line asked admitted n₀ j₀ sets lines c 
 
 -- who is admitted is known
 abbrev admits : tie.After-next_given-j invariant-loop decreases-loop → tie.After-admitted_seats-admitted invariant-loop decreases-loop
-admits s = s.before.before.before.before.before
+admits s = s.before.before.before
 
 -- who waits for what is known
 abbrev asked : tie.After-next_given-j invariant-loop decreases-loop → tie.After-fill_asked invariant-loop decreases-loop
@@ -60,11 +60,11 @@ line-length : (a : tie.Start invariant-loop decreases-loop) → length a.args.w.
 line-length a = search rules
 
 seats-length : (a : tie.Start invariant-loop decreases-loop) → length a.args.w.rest.seats ≡ 32
-seats-length a = sym (length-map a.args.w.rest.seats _) ∙ a.well-formed.1.1.0.1.1.0.1.1.0.1.0.1
+seats-length a = sym (length-map a.args.w.rest.seats _) ∙ a.well_formed.1.1.0.1.1.0.1.1.0.1.0.1
 
 -- what is open at first
-uses-are : (s : tie.After-next_given-j invariant-loop decreases-loop) → s.before.before.before.uses-in.result
-    ≡ uses_in (admits s).admitted-seats.result (start s).args.sets.now
+uses-are : (s : tie.After-next_given-j invariant-loop decreases-loop) → s.before.before.uses_in-uses.result
+    ≡ uses_in (admits s).admitted_seats-admitted.result (start s).args.sets.now
 uses-are s = s.before.before.uses_in-uses.ensures
 
 next-given-requires : tie.Need-next_given-j-requires invariant-loop decreases-loop
@@ -85,8 +85,8 @@ loop-holds c = let a = start c in let w = a.args.w in let b = board_of a.args.se
         sets-are = board-sets a.args.sets.now w.rest a.requires.3;
         uses-are = ap (λ (x : ProgramSet). uses_in x a.args.sets.now)
             ((admits c).admitted_seats-admitted.ensures ∙ seats_admitted a.args.sets.now w.rest);
-        asks = asks_all a.args.sets.now w.rest (asked c).fill_asked.new.1.0 a.requires.0 (asked c).fill_asked.ensures;
-      }) (subst (λ (x : Uses). NextFor a.args.sets.now (asked c).fill_asked.new.1.0 x w.rest.waiting 0 c.next_given-j.result)
+        asks = asks_all a.args.sets.now w.rest (asked c).fill_asked.new.asked a.requires.0 (asked c).fill_asked.ensures;
+      }) (subst (λ (x : Uses). NextFor a.args.sets.now (asked c).fill_asked.new.asked x w.rest.waiting 0 c.next_given-j.result)
           (uses-are c) c.next_given-j.ensures.2),
     )
 
@@ -106,10 +106,10 @@ told g = g.before.before
 
 -- the file is given
 abbrev gave : tie.After-uses_in-uses-in-loop-j invariant-loop decreases-loop → tie.After-give invariant-loop decreases-loop
-gave u = u.before.before
+gave u = u.before
 
 -- the waiter is a program, and its line fits
-range : (i : tie.In-loop-j invariant-loop decreases-loop) → let l = i.before.loop in let p = get_or (start (begun i.before)).args.w.rest.waiting l.j 0 in
+range : (i : tie.In-loop-j invariant-loop decreases-loop) → let l = i.before.loop-j in let p = get_or (start (begun i.before)).args.w.rest.waiting l.j 0 in
     (1 ≤ p) × (p ≤ 32) × (l.n < 32)
 range i = let l = i.before.loop-j in let u = i.loop-j-test.true in give-range _ _ _ _ _ _ _ l.invariant.4 l.invariant.0 (omega arith)
 
@@ -145,7 +145,7 @@ give-requires c κs = let i = turn c.before in let r = range i in ((r.0, r.1), i
 
 uses-in-requires-2 : tie.Need-uses_in-uses-requires-in-loop-j invariant-loop decreases-loop
 uses-in-requires-2 c κs = let g = c.before in let i = turn (told g) in let s = i.before in let r = range i in
-    let p = get_or (start (begun s)).args.w.rest.waiting s.loop-j.j 0 in let f = get_or (asked (begun s)).fill_asked.last.1.0 (p - 1) 0 in
+    let p = get_or (start (begun s)).args.w.rest.waiting s.loop-j.j 0 in let f = get_or (asked (begun s)).fill_asked.new.asked (p - 1) 0 in
     subst IsStore (sym c.give.ensures) (given_store s.loop-j.sets p f r.0 r.1 s.loop-j.invariant.2)
 
 module _ (u : tie.After-uses_in-uses-in-loop-j invariant-loop decreases-loop) where
@@ -223,7 +223,7 @@ loop-again c = let u = c.before.before.before in let l = (at u).loop in (
   store_then u,
   one_entry l.lines l.n (line Word.Given (waiter u) (file u)) _ (told (gave u)).line_of.ensures l.inv.3,
   next-found _ _ _ _ _ _ (l.j + 1) _ (next-at u)
-      (subst (λ (x : Uses). NextFor (gave u).give.new.0 (files u) x (first u).args.w.rest.waiting (l.j + 1) c.next_given-j-in-loop-j.result)
+      (subst (λ (x : Uses). NextFor (gave u).give.new.sets (files u) x (first u).args.w.rest.waiting (l.j + 1) c.next_given-j-in-loop-j.result)
       (uses-then u) c.next_given-j-in-loop-j.ensures.2),
 )
 

@@ -13,7 +13,7 @@ abbrev start : tie.After-do_meet → tie.Start
 start t = t.before.before.before
 
 first : (t : tie.After-do_meet) → let a = (start t).args in
-    t.do-meet.result ≡ meets (claim_at a.sets.now a.p Write) (claim_at a.sets.now a.p Read)
+    t.do_meet.result ≡ meets (claim_at a.sets.now a.p Write) (claim_at a.sets.now a.p Read)
 first t = let sets = (start t).args.sets.now in t.do_meet.ensures
     ∙ ap₂ (λ (x y : ℕ). meets (set_in sets x) (set_in sets y)) t.before.before.writable_at-v.ensures.0 t.before.readable_at-c.ensures.0
 
@@ -22,7 +22,7 @@ abbrev asked : tie.After-do_meet-2 → tie.After-do_meet
 asked t = t.before.before.before
 
 second : (t : tie.After-do_meet-2) → let a = (start (asked t)).args in
-    t.do-meet2.result ≡ meets (claim_at a.sets.now a.p Write) (claim_at a.sets.now a.p Inquiry)
+    t.do_meet-2.result ≡ meets (claim_at a.sets.now a.p Write) (claim_at a.sets.now a.p Inquiry)
 second t = let sets = (start (asked t)).args.sets.now in t.do_meet-2.ensures
     ∙ ap₂ (λ (x y : ℕ). meets (set_in sets x) (set_in sets y)) (asked t).before.before.writable_at-v.ensures.0 t.before.inquirable_at-j.ensures.0
 

@@ -2,6 +2,7 @@
 use mathlib.Core.Path.{◌≡◌, sym, ap, ap₂, ◌∙◌}
 use mathlib.Core.Bool.{Bool, true, false, cond, ◌&&◌}
 use lib.Dec.{eqb}
+use borrow.Author.Tests.{not-true, not-false}
 use borrow.Author.Rules.{rules}
 use Rattle.laws.specs.Tests.{by_test, and_both}
 use Rattle.rules.specs.declared.Board.{Board}
@@ -86,7 +87,7 @@ past1 c = sym c.before.programs_sound.ensures ∙ c.if-not-programs_sound.false
 
 -- an order was found
 is_found : (c : tie.Else-not-ordered) → found (carried (b3 c)) ≡ true
-is_found c = let s = s3 c in sym s.requires.1.is-ordered ∙ c.if-not-ordered.false
+is_found c = let s = s3 c in sym s.requires.1.is-ordered ∙ not-false s.args.ordered c.if-not-ordered.false
 
 -- so there is no conflict
 no-conflict : (c : tie.Else-not-ordered) → no_conflict (b3 c) ≡ true
@@ -97,7 +98,7 @@ past3 c = and_both (first2 (b3 c)) (found (carried (b3 c)))
     (and_both (all (is_sound_at (b3 c)) everyone) (no_conflict (b3 c)) (past1 c.before) (no-conflict c)) (is_found c)
 
 waiting-line : (c : tie.After-line_sound) → let b = b3 c.before.before in
-    c.line-sound.result ≡ line_sound b.waiting (stands_at b false)
+    c.line_sound.result ≡ line_sound b.waiting (stands_at b false)
 unfolding board_of
 waiting-line c = let s = s3 c.before.before in let b = board s in c.line_sound.ensures
     ∙ ap (λ (s : ProgramSet). line_sound b.waiting (has_program s)) s.requires.1.waiters-are
@@ -108,7 +109,7 @@ past4 c = and_both (first3 (b4 c)) (line_sound (b4 c).waiting (stands_at (b4 c) 
     (sym (waiting-line c.before) ∙ c.if-not-line_sound.false)
 
 entry-line : (c : tie.After-line_sound-2) → let b = b4 c.before.before in
-    c.line-sound2.result ≡ line_sound b.entry (stands_at b true)
+    c.line_sound-2.result ≡ line_sound b.entry (stands_at b true)
 unfolding board_of
 entry-line c = let s = s4 c.before.before in let b = board s in c.line_sound-2.ensures
     ∙ ap (λ (s : ProgramSet). line_sound b.entry (has_program s)) s.requires.1.held-are
@@ -118,7 +119,7 @@ past5 : (c : tie.Else-not-line_sound-2) → first5 (b5 c) ≡ true
 past5 c = and_both (first4 (b5 c)) (line_sound (b5 c).entry (stands_at (b5 c) true)) (past4 c.before.before.before)
     (sym (entry-line c.before) ∙ c.if-not-line_sound-2.false)
 
-waiters : (c : tie.After-line_waiters) → let b = b5 c.before in c.line-waiters.result ≡ all (waiter_at b) (names b.waiting)
+waiters : (c : tie.After-line_waiters) → let b = b5 c.before in c.line_waiters.result ≡ all (waiter_at b) (names b.waiting)
 unfolding board_of
 waiters c = c.line_waiters.ensures
 
@@ -134,7 +135,7 @@ returns c = rw (sym c.before.programs_sound.ensures ∙ c.if-not-programs_sound.
 
 returns-2 : tie.Need-returns-then-not-ordered
 unfolding sound
-returns-2 c = let s = s1 c.before in let n = sym s.requires.1.is-ordered ∙ c.if-not-ordered.true in
+returns-2 c = let s = s1 c.before in let n = sym s.requires.1.is-ordered ∙ not-true s.args.ordered c.if-not-ordered.true in
     by_test (no_conflict (board s)) (λ t. rw (past1 c.before, t, n)) (λ t. rw (past1 c.before, t))
 
 returns-3 : tie.Need-returns-then-not-line_sound
@@ -173,7 +174,7 @@ returns-5 c = rw (
 )
 
 favours : (c : tie.After-favour_sound) → let b = b6 c.before in
-    c.favour-sound.result ≡ cond (eqb b.favoured 0) (none_favoured b) (some_favoured b)
+    c.favour_sound.result ≡ cond (eqb b.favoured 0) (none_favoured b) (some_favoured b)
 unfolding board_of
 favours c = let s = s6 c.before in let p = s.requires.1 in
     c.favour_sound.ensures s.args.sets.now p.waiters-are p.held-are p.admitted-are

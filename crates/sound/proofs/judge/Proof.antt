@@ -22,10 +22,10 @@ board s = board_of s.args.sets.now s.args.rest
 abbrev start : tie.After-order_in-order → tie.Start
 start c = c.before.before.before.before.before
 
-admitted : (c : tie.After-order_in-order) → c.before.before.before.before.admitted-seats.result ≡ admitted_set (board (start c))
+admitted : (c : tie.After-order_in-order) → c.before.before.before.before.admitted_seats-admitted.result ≡ admitted_set (board (start c))
 admitted c = c.before.before.before.before.admitted_seats-admitted.ensures ∙ seats_admitted (start c).args.sets.now (start c).args.rest
 
-order : (c : tie.After-order_in-order) → c.order-in.result ≡ as_order (carried (board (start c)))
+order : (c : tie.After-order_in-order) → c.order_in-order.result ≡ as_order (carried (board (start c)))
 order c = let s = start c in c.order_in-order.ensures
     ∙ order_of_lem (board s) _ _ _ (board-sets s.args.sets.now s.args.rest s.requires) c.before.before.fill_rows.ensures (admitted c)
 

@@ -13,7 +13,7 @@ abbrev start : tie.After-is_within → tie.Start
 start t = t.before.before.before
 
 written : (t : tie.After-is_within) → let a = (start t).args in
-    t.is_Within.result ≡ within (open_at a.sets.now a.p Write) (claim_at a.sets.now a.p Write)
+    t.is_within.result ≡ within (open_at a.sets.now a.p Write) (claim_at a.sets.now a.p Write)
 written t = let sets = (start t).args.sets.now in t.is_within.ensures
     ∙ ap₂ (λ (x y : ℕ). within (set_in sets x) (set_in sets y)) t.before.writing_at-w.ensures.0 t.before.before.writable_at-v.ensures.0
 
@@ -22,7 +22,7 @@ abbrev first : tie.After-is_within-2 → tie.After-is_within
 first t = t.before.before.before.before
 
 read : (t : tie.After-is_within-2) → let a = (start (first t)).args in
-    t.is-within2.result ≡ within (open_at a.sets.now a.p Read) (claim_at a.sets.now a.p Read)
+    t.is_within-2.result ≡ within (open_at a.sets.now a.p Read) (claim_at a.sets.now a.p Read)
 read t = let sets = (start (first t)).args.sets.now in t.is_within-2.ensures
     ∙ ap₂ (λ (x y : ℕ). within (set_in sets x) (set_in sets y)) t.before.reading_at-r.ensures.0 t.before.before.readable_at-c.ensures.0
 

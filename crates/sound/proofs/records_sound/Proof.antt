@@ -41,7 +41,7 @@ abbrev fits : tie.At-loop-p invariant-loop decreases-loop → Bool
 fits l = record_fits (seat l).standing (taken_in (rest l) l.loop-p.p (seat l).file (seat l).item)
 
 -- p has no record
-free : (c : tie.Then-n-eq0 invariant-loop decreases-loop) → let l = c.before.before.before in record_at (rest l) l.loop.p ≡ true
+free : (c : tie.Then-n-eq0 invariant-loop decreases-loop) → let l = c.before.before.before in record_at (rest l) l.loop-p.p ≡ true
 free c = let l = c.before.before.before in or_left (eqb (seat l).item 0) (fits l) (eq-eqb (seat l).item 0 c.if-n-eq0.true)
 
 loop-again : tie.Need-loop-p-preserved-then-n-eq0 invariant-loop decreases-loop
@@ -53,7 +53,7 @@ loop-again c = let l = c.before.before.before in (
 
 -- or one: what is said of it
 judged : (c : tie.After-record_fits invariant-loop decreases-loop) → let l = c.before.before.before.before.before in
-    c.record-fits.result ≡ record_at (rest l) l.loop.p
+    c.record_fits.result ≡ record_at (rest l) l.loop-p.p
 judged c = let h = c.before in let e = h.before in let l = e.before.before.before in
     c.record_fits.ensures ∙ ap (record_fits (seat l).standing) h.is_taken-taken.ensures
     ∙ sym (ap (λ (x : Bool). x || fits l) (ne_eqb (seat l).item 0 e.if-n-eq0.false))

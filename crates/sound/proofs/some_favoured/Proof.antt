@@ -28,7 +28,7 @@ right c sets e = let a = c.before.args in c.has.ensures
 
 -- the programs of the set are the admitted ones
 counted : (c : tie.After-count-n) (sets : Sets) → let a = c.before.before.before.args in let b = board_of sets a.rest in
-    a.admitted ≡ admitted_set b → length (admitted b) ≡ c.count.result
+    a.admitted ≡ admitted_set b → length (admitted b) ≡ c.count-n.result
 counted c sets e = sym (c.count-n.ensures.0 ∙ ap (λ (s : ProgramSet). length (keep (has_program s) everyone)) e
     ∙ ap length (admitted-those (board_of sets c.before.before.before.args.rest)))
 

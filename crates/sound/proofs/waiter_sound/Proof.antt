@@ -20,7 +20,7 @@ use Rattle.sound.proofs.waiter_sound.Tie as tie
 
 -- whether the file is claimed
 claimed : (h : tie.After-has_claim) (b : Board) → SetsOf b h.before.before.args.sets.now
-    → h.has-claim.result ≡ claims (at b h.before.before.args.p) h.before.before.args.f
+    → h.has_claim.result ≡ claims (at b h.before.before.args.p) h.before.before.args.f
 claimed h b s = let a = h.before.before.args in let e = h.before.before.requires.0 in h.has_claim.ensures
     ∙ same_mode (λ m. member (claim_at a.sets.now a.p m) a.f) (λ m. member (claim_of m (at b a.p)) a.f)
     (λ m. ap (λ (x : FileSet). member x a.f) (claim-is b a.sets.now s a.p e.0 e.1 m))
@@ -30,7 +30,7 @@ start o = o.before.before.before.before
 
 -- and whether it is open
 opened : (o : tie.After-has_open) (b : Board) → SetsOf b (start o).args.sets.now
-    → o.has-open.result ≡ has_open (at b (start o).args.p) (start o).args.f
+    → o.has_open.result ≡ has_open (at b (start o).args.p) (start o).args.f
 opened o b s = let a = (start o).args in let e = (start o).requires.0 in o.has_open.ensures
     ∙ same_mode (λ m. member (open_at a.sets.now a.p m) a.f) (λ m. member (open_of m (at b a.p)) a.f)
     (λ m. ap (λ (x : FileSet). member x a.f) (open_is b a.sets.now s a.p e.0 e.1 m))

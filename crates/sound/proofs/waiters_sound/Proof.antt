@@ -47,7 +47,7 @@ abbrev start : tie.Else-p-eq0 invariant-loop decreases-loop → tie.Start invari
 start e = (at e).before
 
 -- it is an admitted program
-named : (e : tie.Else-p-eq0 invariant-loop decreases-loop) → let p = get_or (start e).args.line (at e).loop.k 0 in ((1 ≤ p) × (p ≤ 32)) × (admits (board (start e)) p ≡ true)
+named : (e : tie.Else-p-eq0 invariant-loop decreases-loop) → let p = get_or (start e).args.line (at e).loop-k.k 0 in ((1 ≤ p) × (p ≤ 32)) × (admits (board (start e)) p ≡ true)
 named e = let l = (at e).loop-k in waiter_named (board (start e)) (start e).args.line l.k (omega (arith, l.inv.3)) e.if-p-eq0.false l.inv.1
 
 place-of-requires : tie.Need-place_of-i-requires invariant-loop decreases-loop
@@ -62,7 +62,7 @@ reached w = w.before.before.before.before
 
 -- whether its waiting is sound
 judged : (w : tie.After-waiter_sound invariant-loop decreases-loop) → let e = reached w in
-    w.waiter-sound.result ≡ waiter_at (board (start e)) (get_or (start e).args.line (at e).loop.k 0)
+    w.waiter_sound.result ≡ waiter_at (board (start e)) (get_or (start e).args.line (at e).loop-k.k 0)
 judged w = let e = reached w in let a = (start e).args in let b = board (start e) in let p = get_or a.line (at e).loop-k.k 0 in
     let i = w.before.before.before in
     let q = board-at a.sets.now a.rest p (named e).0.0 (named e).0.1 in w.waiter_sound.ensures b (start e).requires.0 (named e).1

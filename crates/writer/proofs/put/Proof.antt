@@ -10,7 +10,7 @@ returns : tie.Need-returns
 returns c =
     let s = c.before.before.before.before.before.before in
     let k = c.before.before.copy in
-    (refl, put_part s.args.at s.args.row.now s.args.line.now k.new.1.0 (k.ensures.1 ∙ rw (take-length s.args.row.now)))
+    (refl, put_part s.args.at s.args.row.now s.args.line.now k.new.dst (k.ensures.1 ∙ rw (take-length s.args.row.now)))
 
 pub put_spec : {M : Type 1} → statement M
 put_spec =

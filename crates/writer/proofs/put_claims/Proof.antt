@@ -23,9 +23,9 @@ returns c =
     let x = (with-v (with-q k)).put_files-after_v in
     let s = start (with-v (with-q k)) in
     let a = s.args in (
-      omega (arith, z.ensures.value, y.ensures.0, x.ensures.0),
-      claims-put a.c a.start x.result y.result a.line.now x.last.0 y.last.0 z.new.0 s.requires
-          x.ensures.0 x.ensures.1 y.ensures.0 y.ensures.1 z.ensures.line_after,
+      omega (arith, z.ensures.0, y.ensures.0, x.ensures.0),
+      claims-put a.c a.start x.result y.result a.line.now x.last.0 y.last.0 z.new.line s.requires
+          x.ensures.0 x.ensures.1 y.ensures.0 y.ensures.1 z.ensures.1,
     )
 
 pub put_claims_spec : {M : Type 1} → statement M

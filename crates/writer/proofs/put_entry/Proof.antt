@@ -33,10 +33,10 @@ returns c =
     let h = p.put_head-after_program in
     let s = start p in
     let a = s.args in (
-      omega (arith, j.ensures.value, r.ensures.0, w.ensures.0, l.ensures.value, h.ensures.value, s.requires.1),
-      entry-put a.verb a.program a.w a.r a.j a.label.now a.line.now h.last.0 l.last.0 w.last.0 r.last.0
-          j.new.0 h.result l.result w.result r.result s.requires.0 s.requires.1 h.ensures.value h.ensures.line_after
-          l.ensures.value l.ensures.line_after w.ensures.0 w.ensures.1 r.ensures.0 r.ensures.1 j.ensures.line_after,
+      omega (arith, j.ensures.0, r.ensures.0, w.ensures.0, l.ensures.0, h.ensures.0, s.requires.1),
+      entry-put a.verb a.program a.w a.r a.j a.label.now a.line.now h.new.line l.new.line w.last.0 r.last.0
+          j.new.line h.result l.result w.result r.result s.requires.0 s.requires.1 h.ensures.0 h.ensures.1
+          l.ensures.0 l.ensures.1 w.ensures.0 w.ensures.1 r.ensures.0 r.ensures.1 j.ensures.1,
     )
 
 pub put_entry_spec : {M : Type 1} → statement M

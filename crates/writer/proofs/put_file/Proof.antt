@@ -26,7 +26,7 @@ returns c =
     let k = c.before.before.put_number in
     let s = c.before.before.before.before.before.before.before in
     let e = columns_in _ s.args.f (in-set c.before.before.before.before) in
-    (omega (arith, e.0, k.ensures.value), k.ensures.line_after ∙ ap (λ (x : List ℕ). put_at s.args.at x s.args.line.now) e.1)
+    (omega (arith, e.0, k.ensures.0), k.ensures.1 ∙ ap (λ (x : List ℕ). put_at s.args.at x s.args.line.now) e.1)
 
 returns-2 : tie.Need-returns
 returns-2 c =

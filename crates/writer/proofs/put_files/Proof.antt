@@ -41,10 +41,10 @@ loop-again c =
     let d = columns_if_lem (member s.args.s l.f) l.f in (
       omega arith,
       omega arith,
-      k.auto.0 ∙ l.invariant.2,
-      omega (arith, e, d, l.invariant.3, k.ensures.value),
-      l.invariant.4 ∙ put_step (member s.args.s) l.f l.at k.result l.line k.new.0 (omega arith)
-          (omega (arith, e, d, s.requires, l.invariant.2, l.invariant.3)) k.ensures.value k.ensures.line_after,
+      k.auto.line ∙ l.invariant.2,
+      omega (arith, e, d, l.invariant.3, k.ensures.0),
+      l.invariant.4 ∙ put_step (member s.args.s) l.f l.at k.result l.line k.new.line (omega arith)
+          (omega (arith, e, d, s.requires, l.invariant.2, l.invariant.3)) k.ensures.0 k.ensures.1,
     )
 
 returns : tie.Need-returns invariant-loop decreases-loop

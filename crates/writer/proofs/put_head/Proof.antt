@@ -19,9 +19,9 @@ returns c =
     let w = p.put-at in
     let v = (known p).verb_bytes-word in
     let s = (known p).before.before in
-    let e = head_put s.args.verb s.args.program w.result v.result s.args.line.now w.last.0 k.new.0
-    s.pre v.ensures w.ensures.value w.ensures.line_after k.ensures.line_after in
-    (omega (arith, e.0, k.ensures.value), e.1)
+    let e = head_put s.args.verb s.args.program w.result v.result s.args.line.now w.new.line k.new.line
+    s.pre v.ensures w.ensures.0 w.ensures.1 k.ensures.1 in
+    (omega (arith, e.0, k.ensures.0), e.1)
 
 pub put_head_spec : {M : Type 1} → statement M
 put_head_spec =

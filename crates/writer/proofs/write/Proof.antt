@@ -23,7 +23,7 @@ abbrev in_range : tie.After-shape_of-shape → tie.Else-not-is_number
 in_range r = r.before
 
 -- what was written for this shape
-shaped : (r : tie.After-shape_of-shape) (s : Shape) (w : Writing) (after : List ℕ) → r.shape-of.result ≡ s
+shaped : (r : tie.After-shape_of-shape) (s : Shape) (w : Writing) (after : List ℕ) → r.shape_of-shape.result ≡ s
     → let a = (start (in_range r)).args in WroteAs a.a a.label.now a.line.now s w after → Wrote a.a a.label.now a.line.now w after
 shaped r s w after e h = let a = (start (in_range r)).args in
     by_shape a.a a.label.now a.line.now w after
@@ -37,26 +37,26 @@ returns c = let k = c.before.is_number in let a = c.before.before.before.before.
 returns-2 : tie.Need-returns-in-Entry
 returns-2 c = let k = c.before.before.write_enter in let m = c.before.before.before.before in
     let r = m.before in let e = in_range r in let a = (start e).args in
-    shaped r Shape.Entry k.result k.new.1.1.0 m.in-Entry.is
-    (as-entry a.a a.label.now a.line.now k.result k.new.1.1.0 (is-program e) k.ensures.value k.ensures.line_after)
+    shaped r Shape.Entry k.result k.new.line m.in-Entry.is
+    (as-entry a.a a.label.now a.line.now k.result k.new.line (is-program e) k.ensures.0 k.ensures.1)
 
 returns-3 : tie.Need-returns-in-File
 returns-3 c = let k = c.before.before.write_file in let m = c.before.before.before.before in
     let r = m.before in let e = in_range r in let a = (start e).args in
-    shaped r Shape.File k.result k.new.1.0 m.in-File.is
-    (as-file a.a a.label.now a.line.now k.result k.new.1.0 (is-program e) k.ensures.value k.ensures.line_after)
+    shaped r Shape.File k.result k.new.line m.in-File.is
+    (as-file a.a a.label.now a.line.now k.result k.new.line (is-program e) k.ensures.0 k.ensures.1)
 
 returns-4 : tie.Need-returns-in-Record
 returns-4 c = let k = c.before.before.write_record in let m = c.before.before.before.before in
     let r = m.before in let e = in_range r in let a = (start e).args in
-    shaped r Shape.Record k.result k.new.1.0 m.in-Record.is
-    (as-record a.a a.label.now a.line.now k.result k.new.1.0 (is-program e) k.ensures.value k.ensures.line_after)
+    shaped r Shape.Record k.result k.new.line m.in-Record.is
+    (as-record a.a a.label.now a.line.now k.result k.new.line (is-program e) k.ensures.0 k.ensures.1)
 
 returns-5 : tie.Need-returns-in-Alone
 returns-5 c = let k = c.before.before.write_alone in let m = c.before.before.before.before in
     let r = m.before in let e = in_range r in let a = (start e).args in
-    shaped r Shape.Alone k.result k.new.1.0 m.in-Alone.is
-    (as-alone a.a a.label.now a.line.now k.result k.new.1.0 (is-program e) k.ensures.value k.ensures.line_after)
+    shaped r Shape.Alone k.result k.new.line m.in-Alone.is
+    (as-alone a.a a.label.now a.line.now k.result k.new.line (is-program e) k.ensures.0 k.ensures.1)
 
 pub write_spec : {M : Type 1} → statement M
 write_spec =

@@ -17,8 +17,8 @@ returns-2 c =
     let k = c.before.before.put_head-end in
     let i = c.before.before.before.before in
     let a = i.before.before.args in
-    placed_all (line_as Shape.Alone a.a []) a.line.now k.new.0 alone_length k.result (alone_length_lem a.a) i.if-line-lt-ALONE_LEN.false
-    k.ensures.value k.ensures.line_after
+    placed_all (line_as Shape.Alone a.a []) a.line.now k.new.line alone_length k.result (alone_length_lem a.a) i.if-line-lt-ALONE_LEN.false
+    k.ensures.0 k.ensures.1
 
 pub write_alone_spec : {M : Type 1} → statement M
 write_alone_spec = tie.close (tie.spec returns (λ c κs. search rules) (λ c. search rules) returns-2)

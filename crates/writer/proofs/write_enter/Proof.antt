@@ -34,7 +34,7 @@ returns-3 c =
     let a = (start e).args in
     entry-placed a.a a.label.now a.line.now w.result _
     (label_good_lem a.label.now e.if-label-ne-LABEL_LEN.false (sym k.ensures ∙ i.if-not-is_label.false))
-    (w.ensures.value, w.ensures.line_after)
+    (w.ensures.0, w.ensures.1)
 
 pub write_enter_spec : {M : Type 1} → statement M
 write_enter_spec =

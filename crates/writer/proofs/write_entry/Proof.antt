@@ -14,16 +14,16 @@ use Rattle.writer.proofs.write_entry.Tie as tie
 
 -- where the counts are known
 abbrev with-r : tie.After-count-j → tie.After-count-r
-with-r k = k.before
+with-r k = k.before.before
 
 abbrev with-w : tie.After-count-j → tie.After-count-w
-with-w k = k.before.before
+with-w k = k.before.before.before.before
 
 abbrev start : tie.After-count-j → tie.Start
 start k = (with-w k).before.before.before.before
 
 -- a set has at most 64 files
-few : (k : tie.After-count-j) → ((with-w k).count.result ≤ 64) × ((with-r k).count2.result ≤ 64) × (k.count3.result ≤ 64)
+few : (k : tie.After-count-j) → ((with-w k).count-w.result ≤ 64) × ((with-r k).count-r.result ≤ 64) × (k.count-j.result ≤ 64)
 few k = let a = (start k).args in
     let v = files-length a.a.claims.writable in let q = files-length a.a.claims.readable in let j = files-length a.a.claims.inquirable in
     (omega (arith, v, (with-w k).count-w.ensures), omega (arith, q, (with-r k).count-r.ensures), omega (arith, j, k.count-j.ensures))
@@ -66,11 +66,11 @@ returns-2 c =
     let a = s.args in
     let room : entry_length (claims_count a.a.claims) ≤ length a.line.now =
     omega (arith, (fits p).if-line-len.false, (with-w k).count-w.ensures, (with-r k).count-r.ensures, k.count3.ensures) in
-    let e = head_counts a.a (with-w k).count-w.result (with-r k).count-r.result k.count3.result a.label.now a.line.now h.last.0
-    (with-w k).count-w.ensures (with-r k).count-r.ensures k.count3.ensures h.ensures.line_after in
-    placed_all (line_as Shape.Entry a.a a.label.now) a.line.now x.new.0 (entry_length (claims_count a.a.claims)) x.result
-    (enter-length a.a a.label.now s.requires) room (omega (arith, x.ensures.value, h.ensures.value))
-    (enter-put a.a h.result a.label.now a.line.now h.last.0 x.new.0 s.requires room h.ensures.value e x.ensures.line_after)
+    let e = head_counts a.a (with-w k).count-w.result (with-r k).count-r.result k.count3.result a.label.now a.line.now h.new.line
+    (with-w k).count-w.ensures (with-r k).count-r.ensures k.count3.ensures h.ensures.1 in
+    placed_all (line_as Shape.Entry a.a a.label.now) a.line.now x.new.line (entry_length (claims_count a.a.claims)) x.result
+    (enter-length a.a a.label.now s.requires) room (omega (arith, x.ensures.0, h.ensures.0))
+    (enter-put a.a h.result a.label.now a.line.now h.new.line x.new.line s.requires room h.ensures.0 e x.ensures.1)
 
 pub write_entry_spec : {M : Type 1} → statement M
 write_entry_spec =

@@ -42,11 +42,11 @@ returns-3 c =
     let h = p.put_head-at in
     let i = fits p in
     let a = (start i.before).args in
-    let e = file_put a.a h.result a.line.now h.last.0 k.new.0
-    i.if-line-lt-FILE_LEN.false h.ensures.value h.ensures.line_after k.ensures.line_after in
+    let e = file_put a.a h.result a.line.now h.new.line k.new.line
+    i.if-line-lt-FILE_LEN.false h.ensures.0 h.ensures.1 k.ensures.1 in
     file-placed a.a a.line.now _ _ (is-file i.before)
-    (placed_all (line_as Shape.File a.a []) a.line.now k.new.0 file_length k.result
-    (file_length_lem a.a) i.if-line-lt-FILE_LEN.false (omega (arith, k.ensures.value, h.ensures.value)) e)
+    (placed_all (line_as Shape.File a.a []) a.line.now k.new.line file_length k.result
+    (file_length_lem a.a) i.if-line-lt-FILE_LEN.false (omega (arith, k.ensures.0, h.ensures.0)) e)
 
 pub write_file_spec : {M : Type 1} → statement M
 write_file_spec =

@@ -59,13 +59,13 @@ returns-4 c =
     let i = fits p in
     let e = i.before in
     let a = (start (filed e)).args in
-    let m = file_put a.a h.result a.line.now h.last.0 f.last.0
-    (omega (arith, i.if-line-lt-RECORD_LEN.false)) h.ensures.value h.ensures.line_after f.ensures.1 in
-    let r = record_put a.a f.result a.line.now f.last.0 n.new.0
-    i.if-line-lt-RECORD_LEN.false (omega (arith, f.ensures.0, h.ensures.value)) m n.ensures.line_after in
+    let m = file_put a.a h.result a.line.now h.new.line f.last.0
+    (omega (arith, i.if-line-lt-RECORD_LEN.false)) h.ensures.0 h.ensures.1 f.ensures.1 in
+    let r = record_put a.a f.result a.line.now f.last.0 n.new.line
+    i.if-line-lt-RECORD_LEN.false (omega (arith, f.ensures.0, h.ensures.0)) m n.ensures.1 in
     record-placed a.a a.line.now _ _ (is-file (filed e)) (is-record e)
-    (placed_all (line_as Shape.Record a.a []) a.line.now n.new.0 record_length n.result
-    (record_length_lem a.a) i.if-line-lt-RECORD_LEN.false (omega (arith, n.ensures.value, f.ensures.0, h.ensures.value)) r)
+    (placed_all (line_as Shape.Record a.a []) a.line.now n.new.line record_length n.result
+    (record_length_lem a.a) i.if-line-lt-RECORD_LEN.false (omega (arith, n.ensures.0, f.ensures.0, h.ensures.0)) r)
 
 pub write_record_spec : {M : Type 1} → statement M
 write_record_spec =

@@ -10,7 +10,7 @@ use Rattle.apply.proofs.checks.inquiry_check.Statement.{statement}
 use Rattle.apply.proofs.checks.inquiry_check.Tie as tie
 
 -- whether the file is open for inquiry
-has-it : (h : tie.After-has) → let a = h.before.before.before.before.args in h.has.result ≡ member (open_at a.sets.now a.p Inquiry) a.f
+has-it : (h : tie.After-has) → let a = h.before.before.before.args in h.has.result ≡ member (open_at a.sets.now a.p Inquiry) a.f
 has-it h = let k = h.before.before.before in let a = k.args in
     h.has.ensures ∙ ap (λ (i : ℕ). member (set_in a.sets.now i) a.f) h.before.before.inquiring_at-i.ensures.0
 

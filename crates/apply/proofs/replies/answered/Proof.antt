@@ -11,9 +11,9 @@ use Rattle.apply.proofs.replies.answered.Tie as tie
 
 returns : tie.Need-returns
 returns c = let a = c.before.before.args in (
-  ap (λ (w : Written). replied w a.answer) c.one_line-progress.ensures.result_after
+  ap (λ (w : Written). replied w a.answer) c.one_line-progress.ensures.0
       ∙ wrote-reply (board_of a.sets.now a.rest) a.answer (line_of a.word a.p a.f a.n),
-  (c.one_line-progress.ensures.rest_value.1, none_carries _),
+  (c.one_line-progress.ensures.1.1, none_carries _),
 )
 
 pub answered_spec : {M : Type 1} → statement M

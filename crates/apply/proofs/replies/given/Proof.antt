@@ -14,11 +14,11 @@ use Rattle.apply.proofs.replies.given.Tie as tie
 
 returns : tie.Need-returns
 returns c = let s = c.before.before in let a = s.args in (
-  ap (λ (w : Written). replied w Answer.Given) c.one_line-progress.ensures.result_after
+  ap (λ (w : Written). replied w Answer.Given) c.one_line-progress.ensures.0
       ∙ wrote-reply (board_of a.sets.now a.rest) Answer.Given (line Word.Given a.p a.f),
   (
-    c.one_line-progress.ensures.rest_value.1,
-    subst (λ (r : Rest). Carries (board_of a.sets.now r) a.order) (sym c.one_line-progress.ensures.rest_value.0) s.requires.1,
+    c.one_line-progress.ensures.1.1,
+    subst (λ (r : Rest). Carries (board_of a.sets.now r) a.order) (sym c.one_line-progress.ensures.1.0) s.requires.1,
   ),
 )
 

@@ -13,18 +13,18 @@ board s = board_of s.args.sets.now s.args.rest
 
 hand-on-requires : tie.Need-hand_on-h-requires
 hand-on-requires c κs = let o = c.before.before in let s = o.before in let a = s.args in
-    let k = handing _ (board s) a.p a.f a.n c.before.one_line-w.ensures.result_after s.requires.0 in
-    (k.0, k.1, s.requires.1, c.before.one_line-w.ensures.rest_value.1)
+    let k = handing _ (board s) a.p a.f a.n c.before.one_line-w.ensures.0 s.requires.0 in
+    (k.0, k.1, s.requires.1, c.before.one_line-w.ensures.1.1)
 
 settled-requires : tie.Need-settled-progress-requires
 settled-requires c κs = let h = c.before.before in let o = h.before.before.before in let s = o.before in let a = s.args in
-    let k = handed-settles _ _ (board s) a.p a.f a.n c.before.before.before.before.one_line-w.ensures.result_after h.hand_on-h.ensures.result_after s.requires.0 in
-    (k.0, k.1, k.2, s.requires.1, h.hand_on-h.ensures.entries)
+    let k = handed-settles _ _ (board s) a.p a.f a.n c.before.before.before.before.one_line-w.ensures.0 h.hand_on-h.ensures.0 s.requires.0 in
+    (k.0, k.1, k.2, s.requires.1, h.hand_on-h.ensures.1)
 
 returns : tie.Need-returns
 returns c = let h = c.before.before.before in let o = h.before.before.before in let s = o.before in let a = s.args in (
-  finish-is _ _ (board s) a.p a.f a.n c.before.before.before.before.before.one_line-w.ensures.result_after h.hand_on-h.ensures.result_after s.requires.0 _ c.settled-progress.ensures.result_after,
-  (c.settled-progress.ensures.store.0, c.settled-progress.ensures.store.1, none_carries _),
+  finish-is _ _ (board s) a.p a.f a.n c.before.before.before.before.before.one_line-w.ensures.0 h.hand_on-h.ensures.0 s.requires.0 _ c.settled-progress.ensures.0,
+  (c.settled-progress.ensures.1.0, c.settled-progress.ensures.1.1, none_carries _),
 )
 
 pub handed_on_spec : {M : Type 1} → statement M

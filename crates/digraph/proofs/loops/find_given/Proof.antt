@@ -17,13 +17,13 @@ take-requires c κs = fresh_store
 find-by-requires : tie.Need-find_by-requires
 find-by-requires c κs = let g = c.before in let t = g.before.before in let s = t.before.before in
     subst IsStore (sym g.give.ensures)
-    (given_store t.take-rest.new.1.0 s.args.p s.args.f s.requires.0 s.requires.1 t.take-rest.ensures.0.0)
+    (given_store t.take-rest.new.sets s.args.p s.args.f s.requires.0 s.requires.1 t.take-rest.ensures.0.0)
 
 returns : tie.Need-returns
 returns c = let g = c.before.before in let t = g.before.before in let s = t.before.before in let a = s.args in
     subst (λ (x : Board). LoopOf x c.find_by.result)
     (ap (λ (x : Sets). board_of x t.take-rest.result) g.give.ensures
-    ∙ given-as a.b t.take-rest.new.1.0 t.take-rest.result t.take-rest.ensures.0 t.take-rest.ensures.1 a.p s.requires.0 s.requires.1 a.f)
+    ∙ given-as a.b t.take-rest.new.sets t.take-rest.result t.take-rest.ensures.0 t.take-rest.ensures.1 a.p s.requires.0 s.requires.1 a.f)
     c.find_by.ensures
 
 pub find_given_spec : {M : Type 1} → statement M

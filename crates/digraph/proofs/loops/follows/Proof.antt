@@ -21,10 +21,10 @@ sub-t8 : tie.Need-overflow_sub-row
 sub-t8 c = let a = (is-program c).least in search rules
 
 element-copy-out-t13 : tie.Need-bounds-rows-p
-element-copy-out-t13 c = let a = (is-program c).least in let b = (is-program c).most in search rules
+element-copy-out-t13 c = let a = (is-program c.before).least in let b = (is-program c.before).most in search rules
 
 returns-2 : tie.Need-returns
-returns-2 c = rw (left-has c.before.before) c.has-2.ensures
+returns-2 c = rw (left-has c.before.before.before) c.has-2.ensures
 
 pub follows_spec : {M : Type 1} → statement M
 follows_spec =

@@ -20,10 +20,10 @@ start t = t.before.before.before
 
 -- whether p is admitted
 stands : (u : tie.After-is_admitted) → let a = (start u.before.before).args in
-    u.is-admitted.result ≡ is_admitted (at a.b a.p).standing
+    u.is_admitted.result ≡ is_admitted (at a.b a.p).standing
 stands u = let t = u.before.before in let s = start t in let k = t.take-rest in
     u.is_admitted.ensures ∙ ap is_admitted (u.before.standing_at-s.ensures
-    ∙ stands-as s.args.b k.new.1.0 k.result k.ensures.0 k.ensures.1 s.args.p s.requires.0 s.requires.1)
+    ∙ stands-as s.args.b k.new.sets k.result k.ensures.0 k.ensures.1 s.args.p s.requires.0 s.requires.1)
 
 returns : tie.Need-returns-then-not-is_admitted
 returns c = let u = c.before in let a = (start u.before.before).args in
@@ -31,10 +31,10 @@ returns c = let u = c.before in let a = (start u.before.before).args in
 
 -- whether p claims f
 claiming : (h : tie.After-has_claim) → let a = (start h.before.before.before.before.before).args in
-    h.has-claim.result ≡ claims (at a.b a.p) a.f
+    h.has_claim.result ≡ claims (at a.b a.p) a.f
 claiming h = let t = h.before.before.before.before.before in let s = start t in let k = t.take-rest in
     h.has_claim.ensures
-    ∙ claims-as s.args.b k.new.1.0 k.result k.ensures.0 k.ensures.1 s.args.p s.requires.0 s.requires.1 s.args.f
+    ∙ claims-as s.args.b k.new.sets k.result k.ensures.0 k.ensures.1 s.args.p s.requires.0 s.requires.1 s.args.f
 
 returns-2 : tie.Need-returns-then-not-has_claim
 returns-2 c = let h = c.before in let a = (start h.before.before.before.before.before).args in
@@ -43,13 +43,13 @@ returns-2 c = let h = c.before in let a = (start h.before.before.before.before.b
 is-loop-requires : tie.Need-is_loop-requires
 is-loop-requires c κs = let g = c.before in let t = g.before.before.before.before.before.before.before.before in let s = start t in
     subst IsStore (sym g.give.ensures)
-    (given_store t.take-rest.new.1.0 s.args.p s.args.f s.requires.0 s.requires.1 t.take-rest.ensures.0.0)
+    (given_store t.take-rest.new.sets s.args.p s.args.f s.requires.0 s.requires.1 t.take-rest.ensures.0.0)
 
 returns-3 : tie.Need-returns
 returns-3 c = let g = c.before.before in let d = g.before.before in let h = d.before in let i = h.before.before in let u = i.before in
     let t = u.before.before in let s = start t in let a = s.args in let k = t.take-rest in
     c.is_loop.ensures ∙ ap (λ (x : Board). is_loop_of (step x) a.l.now) (ap (λ (x : Sets). board_of x k.result) g.give.ensures
-    ∙ given-as a.b k.new.1.0 k.result k.ensures.0 k.ensures.1 a.p s.requires.0 s.requires.1 a.f)
+    ∙ given-as a.b k.new.sets k.result k.ensures.0 k.ensures.1 a.p s.requires.0 s.requires.1 a.f)
     ∙ loop-with a.b a.p a.f a.l.now (record { least = s.requires.0; most = s.requires.1 })
     (sym (stands u) ∙ i.if-not-is_admitted.false) (sym (claiming h) ∙ d.if-not-has_claim.false)
 

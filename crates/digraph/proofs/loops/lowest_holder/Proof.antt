@@ -12,8 +12,8 @@ use Rattle.digraph.proofs.loops.lowest_holder.Statement.{statement}
 use Rattle.digraph.proofs.loops.lowest_holder.Tie as tie
 
 -- those of the set that hold back x
-by-is : (c : tie.After-and-by) → let a = c.before.before.before.args in
-    c.and.result ≡ common_of (without_program (row_of a.rows.now a.x) a.x) a.set
+by-is : (c : tie.After-and-by) → let a = c.before.before.before.before.args in
+    c.and-by.result ≡ common_of (without_program (row_of a.rows.now a.x) a.x) a.set
 by-is c = c.and-by.ensures ∙ ap (λ (s : ProgramSet). common_of s c.before.before.before.before.args.set) c.before.without-others.ensures
 
 is_x : (s : tie.Start) → is_program s.args.x ≡ true
@@ -21,11 +21,11 @@ is_x s = of_is s.args.x (record { least = search rules; most = search rules })
 
 returns : tie.Need-returns-then-by-eq0
 returns c = let k = c.before.before in let a = k.before.before.before.before.args in
-    (holder-no a.rows.now a.set a.x (is_x k.before.before.before) k.and-by.result (by-is k) c.if-by-eq0.true, search rules)
+    (holder-no a.rows.now a.set a.x (is_x k.before.before.before.before) k.and-by.result (by-is k) c.if-by-eq0.true, search rules)
 
 returns-2 : tie.Need-returns
 returns-2 c = let k = c.before.before.before in let a = k.before.before.before.before.args in let y = c.lowest in
-    (holder-at a.rows.now a.set a.x (is_x k.before.before.before) k.and-by.result y.result (by-is k) y.ensures.1, y.ensures.1.1)
+    (holder-at a.rows.now a.set a.x (is_x k.before.before.before.before) k.and-by.result y.result (by-is k) y.ensures.1, y.ensures.1.1)
 
 pub lowest_holder_spec : {M : Type 1} → statement M
 lowest_holder_spec =

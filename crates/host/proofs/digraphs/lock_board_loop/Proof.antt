@@ -2,6 +2,7 @@
 use mathlib.Core.Path.{◌≡◌}
 use mathlib.Core.Bool.{true}
 use native.Mathlib.Omega.{arith}
+use borrow.Author.Tests.{not-true, not-false}
 use Rattle.theory.specs.Programs.{Is}
 use Rattle.host.proofs.Laws.{image_read}
 use Rattle.host.proofs.Digraph.{loop-refused, loop-no-program, loop_short, loop-written}
@@ -13,8 +14,8 @@ abbrev start : tie.After-read_image-loaded → tie.Start
 start k = k.before.before.before
 
 -- where the image is read
-read : (i : tie.Else-not-ok) → i.before.read-image.result.ok ≡ true
-read i = i.if-not-ok.false
+read : (i : tie.Else-not-ok) → i.before.read_image-loaded.result.ok ≡ true
+read i = not-false i.before.read_image-loaded.result.ok i.if-not-ok.false
 
 -- where the number is one of a program, too
 abbrev read-for : tie.Else-program-gt32 → tie.Else-not-ok
@@ -26,7 +27,7 @@ is-program j = record { least = search rules; most = search rules }
 returns : tie.Need-returns-then-not-ok
 returns c = let k = c.before.before in let r = k.read_image-loaded in let a = (start k).args in
     loop-refused a.image.now a.program a.list.now r.result r.ensures c.refusal_answer.result
-    (c.before.if-not-ok.true) c.refusal_answer.ensures
+    (not-true r.result.ok c.before.if-not-ok.true) c.refusal_answer.ensures
 
 returns-2 : tie.Need-returns-then-program-eq0
 returns-2 c = let i = c.before.before in let r = i.before.read_image-loaded in let a = (start i.before).args in

@@ -13,7 +13,7 @@ returns : tie.Need-returns
 returns c = let p = c.before.before.put_order in let s = c.before.before.before.before.before in
     let f = s.find_for-found in let a = s.before.before.args in
     let n : length f.result.at ≡ 32 = search rules in
-    loop_placed a.b a.p f.result a.list.now _ p.result f.ensures n (search rules) p.ensures.value p.ensures.buffer_after
+    loop_placed a.b a.p f.result a.list.now _ p.result f.ensures n (search rules) p.ensures.0 p.ensures.1
 
 pub put_loop_spec : {M : Type 1} → statement M
 put_loop_spec = tie.close (tie.spec (λ c κs. search rules) put-order-requires (λ c. search rules) returns)

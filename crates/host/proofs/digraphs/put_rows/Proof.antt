@@ -38,8 +38,8 @@ loop-again c = let p = c.before.before in let r = bytes p in let t = turn r in
     let l = t.loop-i in let a = t.before.before.args in
     let n : length a.rows ≡ 32 = search rules in (
       omega arith,
-      p.put_at.auto.0 ∙ l.inv.1,
-      put-row (bytes_n 4) 4 row-length a.out.now l.out p.put_at.new.0 r.row_bytes-row.result a.rows 0 l.i
+      p.put_at.auto.out ∙ l.inv.1,
+      put-row (bytes_n 4) 4 row-length a.out.now l.out p.put_at.new.out r.row_bytes-row.result a.rows 0 l.i
           (omega (arith, n)) l.inv.2 r.row_bytes-row.ensures p.put_at.ensures,
     )
 

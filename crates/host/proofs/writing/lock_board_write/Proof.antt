@@ -59,9 +59,9 @@ returns-4 c =
     let i = g.before in
     let a = (start i.before).args in
     write_done a.verb a.program a.file a.item a.claims.now a.label.now a.line.now
-    k.result j.claims_in-claims.result w.result c.answer_of.result w.new.1.1.0
+    k.result j.claims_in-claims.result w.result c.answer_of.result w.new.line
     (is-verb i) (sym g.claims-good.ensures ∙ not-false g.claims-good.result l.if3.left)
-    k.ensures j.claims_in-claims.ensures w.ensures.value c.answer_of.ensures w.ensures.line_after
+    k.ensures j.claims_in-claims.ensures w.ensures.0 c.answer_of.ensures w.ensures.1
 
 pub lock_board_write_spec : {M : Type 1} → statement M
 lock_board_write_spec =

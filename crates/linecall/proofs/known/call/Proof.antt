@@ -11,8 +11,8 @@ call-requires c κs = c.before.before.before.requires
 
 returns : tie.Need-returns
 returns c = let s = c.before.before.before.before in let a = s.args in (
-  c.call.ensures.comes_to ∙ sym (direct_is_apply (board_of a.sets.now a.rest) (request_call a.q) s.requires.0),
-  c.call.ensures.in_form,
+  c.call.ensures.0 ∙ sym (direct_is_apply (board_of a.sets.now a.rest) (request_call a.q) s.requires.0),
+  c.call.ensures.1,
 )
 
 pub call_spec : {M : Type 1} → statement M

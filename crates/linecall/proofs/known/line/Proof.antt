@@ -32,32 +32,32 @@ has_room i = sym i.before.is_full.ensures ∙ i.if-is_full.false
 returns : tie.Need-returns-then-is_full
 returns c = let i = c.before.before.before in let f = i.before in let s = start f in let a = s.args in
     let e = Laws.call_full (board s) a.line.now a.journal.now a.place s.requires.0 (sym c.before.before.is_full.ensures ∙ c.before.if-is_full.true) in
-    (rw e c.refused-changed.ensures.comes_to, (rw e, (rw e, (s.requires.1, subst IsEntries (sym s.requires.2) fresh_entries, c.refused-changed.ensures.carries))))
+    (rw e c.refused-changed.ensures.0, (rw e, (rw e, (s.requires.1, subst IsEntries (sym s.requires.2) fresh_entries, c.refused-changed.ensures.1))))
 
 write-lines-requires : tie.Need-write_lines-at-requires
 write-lines-requires c κs = let p = c.before.before.before in let r = p.before.before.before in let i = roomy r in let s = start i.before in
     let e : c.before.reply_to-changed.result.progress.count ≡ (reply_to (board s) c.before.before.before.before.read-q.result).count =
-    ap (λ (x : Reply). x.count) c.before.reply_to-changed.ensures.comes_to in (
+    ap (λ (x : Reply). x.count) c.before.reply_to-changed.ensures.0 in (
       (Laws.room (length s.args.journal.now) s.args.place (has_room i)).1,
       rw e (Laws.reply_fits (board s) c.before.before.before.before.read-q.result (board-size s.args.sets.now s.args.rest) s.requires.0),
       subst FitsLine (sym c.before.before.before.before.read-q.ensures) (numbers_fit s.args.line.now),
-      c.before.reply_to-changed.ensures.in_form.1,
+      c.before.reply_to-changed.ensures.1.1,
     )
 
 -- where the reply is known
 abbrev replied : tie.After-write_lines-at → tie.After-reply_to-changed
-replied w = w.before.before.before.before
+replied w = w.before.before
 
 returns-2 : tie.Need-returns
 unfolding posted
 returns-2 c = let w = c.before.before in let p = replied w in let d = p.before.before.before in let i = roomy d in
     let s = start i.before in let a = s.args in
     let e = Laws.call_posted (board s) a.line.now a.journal.now a.place s.requires.0 (has_room i) in
-    let r = p.reply_to-changed.ensures.comes_to ∙ ap (reply_to (board s)) d.read-q.ensures in (
+    let r = p.reply_to-changed.ensures.0 ∙ ap (reply_to (board s)) d.read-q.ensures in (
       rw e r,
       (
-        rw (e, ← r, ← d.read-q.ensures) w.write_lines-at.ensures.value,
-        (rw (e, ← r, ← d.read-q.ensures) w.write_lines-at.ensures.journal_after, p.reply_to-changed.ensures.in_form),
+        rw (e, ← r, ← d.read-q.ensures) w.write_lines-at.ensures.0,
+        (rw (e, ← r, ← d.read-q.ensures) w.write_lines-at.ensures.1, p.reply_to-changed.ensures.1),
       ),
     )
 

@@ -15,7 +15,7 @@ returns c =
 returns-2 : tie.Need-returns-in-Refused
 unfolding reply_to
 returns-2 c = let k = c.before.before in let s = k in
-    (rw c.before.in-Refused.is c.refused.ensures.comes_to, (s.requires.1, subst IsEntries (sym s.requires.2) fresh_entries, c.refused.ensures.carries))
+    (rw c.before.in-Refused.is c.refused.ensures.0, (s.requires.1, subst IsEntries (sym s.requires.2) fresh_entries, c.refused.ensures.1))
 
 pub reply_to_spec : {M : Type 1} → statement M
 reply_to_spec =

@@ -36,7 +36,7 @@ returns c =
     let s = start t.before in
     let e = sym t.before.of_answer-n.ensures ∙ t.if-n-eq0.true in
     let n = own_count s.args.q (answered s) e (omega (arith, places s, s.requires.1)) in
-    (rw n p.put_lines.ensures.value, rw (own_lines s.args.q (answered s) e) p.put_lines.ensures.journal_after)
+    (rw n p.put_lines.ensures.0, rw (own_lines s.args.q (answered s) e) p.put_lines.ensures.1)
 
 -- where the REFUSE line is known
 abbrev refused : tie.After-put_line → tie.After-refuse_line-l
@@ -51,7 +51,7 @@ returns-2 c =
     let m = i.before.of_answer-n.ensures in
     let e = refused-lines s.args.q (answered s) (λ z. i.if-n-eq0.false (m ∙ z)) in
     let k = l.refuse_line-l.ensures ∙ ap (refuse_line s.args.q) m in
-    (rw e, rw (e, ← k) (put_one s.args.journal.now p.put_line.new.0 _ s.args.place p.put_line.ensures))
+    (rw e, rw (e, ← k) (put_one s.args.journal.now p.put_line.new.part _ s.args.place p.put_line.ensures))
 
 pub write_lines_spec : {M : Type 1} → statement M
 write_lines_spec =

@@ -37,21 +37,21 @@ abbrev start : tie.After-is_among → tie.Start
 start h = (known h).before
 
 -- the number is that of p's mode
-by_number : (h : tie.After-mode_at-mode) → let s = h.before in let a = s.args in clashes s h.mode-at.result ≡ used_in a.sets.now a.u a.p a.f
+by_number : (h : tie.After-mode_at-mode) → let s = h.before in let a = s.args in clashes s h.mode_at-mode.result ≡ used_in a.sets.now a.u a.p a.f
 by_number h = let s = h.before in ap (λ (k : Mode). some_mode (λ m. clashing k m && is_open s m)) h.mode_at-mode.ensures.0
 
 -- where it is not open for writing, and p doesn't open it for reading
 abbrev first : tie.Else-mode-eq1 → tie.Else-is_among
 first e = e.before.before
 
-mode-not : (e : tie.Else-mode-eq1) → eqb (known (first e).before).mode-at.result 1 ≡ false
+mode-not : (e : tie.Else-mode-eq1) → eqb (known (first e).before).mode_at-mode.result 1 ≡ false
 mode-not e = ne_eqb (known (first e).before).mode_at-mode.result 1 e.if-mode-eq1.false
 
 abbrev asked : tie.After-is_among-2 → tie.Else-mode-eq1
 asked h = h.before.before
 
 -- the answer by the number of the mode
-by_answer : (k : tie.After-mode_at-mode) (r : Bool) → clashes k.before k.mode-at.result ≡ r → let a = k.before.args in
+by_answer : (k : tie.After-mode_at-mode) (r : Bool) → clashes k.before k.mode_at-mode.result ≡ r → let a = k.before.args in
     r ≡ used_in a.sets.now a.u a.p a.f
 by_answer k r e = sym e ∙ by_number k
 

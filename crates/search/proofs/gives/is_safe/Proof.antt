@@ -37,12 +37,12 @@ picked c = c.before.before.before.before.before.before
 abbrev before : tie.After-lowest-q invariant-loop decreases-loop → tie.At-loop-found invariant-loop decreases-loop
 before l = l.before.before.before
 
-mode_is : (h : tie.After-mode_at-mode invariant-loop decreases-loop) → let a = h.before.args in mode_numbered h.mode-at.result ≡ mode_at a.sets.now a.p a.f
+mode_is : (h : tie.After-mode_at-mode invariant-loop decreases-loop) → let a = h.before.args in mode_numbered h.mode_at-mode.result ≡ mode_at a.sets.now a.p a.f
 mode_is h = h.mode_at-mode.ensures.0
 
 -- the stage, with those admitted that are
 here : (s : tie.At-loop-found invariant-loop decreases-loop) → let a = (begun s).args in
-    Here a.sets.now a.admitted a.p a.f (mode_numbered (known s).mode-at.result) s.loop.found s.loop.rest
+    Here a.sets.now a.admitted a.p a.f (mode_numbered (known s).mode_at-mode.result) s.loop-found.found s.loop-found.rest
 here s = let o = s.before.before.before in let h = s.before.before.holders_of-found in let a = (begun s).args in
     s.loop-found.invariant a.admitted (h.ensures ∙ ap (more a.sets.now a.p) o.without-others.ensures)
     (s.before.less-rest.ensures ∙ ap (λ (x : ProgramSet). less_of x h.result) o.without-others.ensures)

@@ -41,12 +41,12 @@ picked c = c.before.before.before.before.before.before
 abbrev before : tie.After-lowest-q invariant-loop decreases-loop → tie.At-loop-found invariant-loop decreases-loop
 before l = l.before.before.before
 
-mode_is : (h : tie.After-mode_at-mode invariant-loop decreases-loop) → let a = h.before.args in mode_numbered h.mode-at.result ≡ mode_at a.sets.now a.p a.f
+mode_is : (h : tie.After-mode_at-mode invariant-loop decreases-loop) → let a = h.before.args in mode_numbered h.mode_at-mode.result ≡ mode_at a.sets.now a.p a.f
 mode_is h = h.mode_at-mode.ensures.0
 
 -- those that hold p back
 first : (h : tie.After-holders_in-found invariant-loop decreases-loop) → let a = h.before.before.before.args in
-    h.holders-in.result ≡ more a.sets.now a.p (without_program a.admitted a.p)
+    h.holders_in-found.result ≡ more a.sets.now a.p (without_program a.admitted a.p)
 first h = let w = h.before in let t = w.before.before in let a = t.args in h.holders_in-found.ensures
     ∙ ap (λ (s : ProgramSet). packed (holders_in a.rows.now a.p s) 32) w.without-others.ensures
     ∙ holders_in_lem a.sets.now a.rows.now a.admitted a.p (without_program a.admitted a.p) t.requires.3 t.requires.2
@@ -54,13 +54,13 @@ first h = let w = h.before in let t = w.before.before in let a = t.args in h.hol
 
 -- the stage, with those admitted that are
 here : (s : tie.At-loop-found invariant-loop decreases-loop) → let a = (begun s).args in
-    Here a.sets.now a.admitted a.p a.f (mode_numbered (known s).mode-at.result) s.loop.found s.loop.rest
+    Here a.sets.now a.admitted a.p a.f (mode_numbered (known s).mode_at-mode.result) s.loop-found.found s.loop-found.rest
 here s = let h = s.before.before in s.loop-found.invariant (begun s).args.admitted (first h)
     (s.before.less-rest.ensures ∙ ap (λ (x : ProgramSet). less_of x h.holders_in-found.result) h.before.without-others.ensures)
 
 -- those that hold back the one asked about
 next : (h : tie.After-holders_in-holders invariant-loop decreases-loop) → let l = h.before.before.before in let s = before l in
-    h.holders-in2.result ≡ more (begun s).args.sets.now l.lowest.result s.loop.rest
+    h.holders_in-holders.result ≡ more (begun s).args.sets.now l.lowest-q.result s.loop-found.rest
 next h = let l = h.before.before.before in let s = before l in let g = (begun s).args in h.holders_in-holders.ensures
     ∙ here-holders g.sets.now g.admitted g.p g.f _ _ _ (here s) g.rows.now (begun s).requires.3 l.lowest-q.result l.lowest-q.ensures.1.2
 

@@ -21,7 +21,7 @@ mine h = let a = (start h).args in h.has.ensures ∙ ap (λ (k : ℕ). member (s
 
 -- where f is not in V, and the mode is not reading
 abbrev second : tie.After-has-2 → tie.Else-mode-eq1
-second h = h.before.before.before.before
+second h = h.before.before.before
 
 abbrev out : tie.Else-mode-eq1 → tie.Else-has
 out e = e.before.before
@@ -30,7 +30,7 @@ mode-not : (e : tie.Else-mode-eq1) → eqb (start (out e).before).args.mode 1 �
 mode-not e = ne_eqb (start (out e).before).args.mode 1 e.if-mode-eq1.false
 
 -- whether f is in Q
-theirs : (h : tie.After-has-2) → let a = (start (out (second h)).before).args in h.has3.result ≡ member (claim_at a.sets.now a.p Read) a.f
+theirs : (h : tie.After-has-2) → let a = (start (out (second h)).before).args in h.has-2.result ≡ member (claim_at a.sets.now a.p Read) a.f
 theirs h = let a = (start (out (second h)).before).args in
     h.has-2.ensures ∙ ap (λ (k : ℕ). member (set_in a.sets.now k) a.f) h.before.before.readable_at-q.ensures.0
 
@@ -40,7 +40,7 @@ returns c = let m = (start c.before).args.mode in by_test (eqb m 0) (λ t. rw (t
 
 returns-2 : tie.Need-returns-then-mode-eq1
 returns-2 c = let b = c.before.before.before in let j = b.before in let e = j.before in let a = (start e.before).args in
-    rw (c.before.before.if-mode-eq1.true, sym (mine e.before) ∙ c.before.before.before.before.if-has.false)
+    rw (c.before.before.if-mode-eq1.true, sym (mine e) ∙ c.before.before.before.before.if-has.false)
     (c.has-then-mode-eq1.ensures ∙ ap (λ (k : ℕ). member (set_in a.sets.now k) a.f) c.before.before.before.inquirable_at-j.ensures.0)
 
 returns-3 : tie.Need-returns-then-has-2
@@ -55,7 +55,7 @@ returns-4 c = let l = c.before in let h = l.before in let e = out (second h) in 
 
 returns-5 : tie.Need-returns
 returns-5 c = let z = c.before.before.before in let l = z.before in let h = l.before in let e = out (second h) in let a = (start e.before).args in
-    rw (c.before.before.if-mode-ne0.false, sym (mine e.before) ∙ e.if-has.false, sym (theirs h) ∙ c.before.before.before.if-has-2.false)
+    rw (c.before.before.if-mode-ne0.false, sym (mine e.before) ∙ e.if-has.false, sym (theirs c.before.before.before.before) ∙ c.before.before.before.if-has-2.false)
     (c.has-3.ensures ∙ ap (λ (k : ℕ). member (set_in a.sets.now k) a.f) (second h).before.inquirable_at-j.ensures.0)
 
 pub has_claim_spec : {M : Type 1} → statement M

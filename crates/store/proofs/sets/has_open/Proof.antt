@@ -17,9 +17,9 @@ mine h = let a = (start h).args in h.has.ensures ∙ ap (λ (k : ℕ). member (s
 
 -- whether it is in the second
 abbrev first : tie.After-has-2 → tie.After-has
-first h = h.before.before.before.before.before
+first h = h.before.before.before.before
 
-theirs : (h : tie.After-has-2) → let a = (start (first h)).args in h.has2.result ≡ member (open_at a.sets.now a.p Read) a.f
+theirs : (h : tie.After-has-2) → let a = (start (first h)).args in h.has-2.result ≡ member (open_at a.sets.now a.p Read) a.f
 theirs h = let a = (start (first h)).args in
     h.has-2.ensures ∙ ap (λ (k : ℕ). member (set_in a.sets.now k) a.f) h.before.before.reading_at-r.ensures.0
 
@@ -32,7 +32,7 @@ returns-2 c = let h = c.before in
 
 returns-3 : tie.Need-returns
 returns-3 c = let i = c.before.before.before in let e = i.before in let h = e.before in let a = (start (first h)).args in
-    rw (sym (mine (first h)) ∙ h.before.before.if-has.false, sym (theirs h) ∙ c.before.before.before.if-has-2.false)
+    rw (sym (mine (first h)) ∙ h.before.before.if-has.false, sym (theirs c.before.before.before.before) ∙ c.before.before.before.if-has-2.false)
     (c.has-3.ensures ∙ ap (λ (k : ℕ). member (set_in a.sets.now k) a.f) c.before.before.inquiring_at-i.ensures.0)
 
 pub has_open_spec : {M : Type 1} → statement M

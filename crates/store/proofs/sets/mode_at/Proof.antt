@@ -18,9 +18,9 @@ mine h = let a = (start h).args in h.has.ensures ∙ ap (λ (k : ℕ). member (s
 
 -- whether it is in the second
 abbrev first : tie.After-has-2 → tie.After-has
-first h = h.before.before.before.before.before
+first h = h.before.before.before.before
 
-theirs : (h : tie.After-has-2) → let a = (start (first h)).args in h.has2.result ≡ member (claim_at a.sets.now a.p Read) a.f
+theirs : (h : tie.After-has-2) → let a = (start (first h)).args in h.has-2.result ≡ member (claim_at a.sets.now a.p Read) a.f
 theirs h = let a = (start (first h)).args in
     h.has-2.ensures ∙ ap (λ (k : ℕ). member (set_in a.sets.now k) a.f) h.before.before.readable_at-q.ensures.0
 

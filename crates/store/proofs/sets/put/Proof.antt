@@ -9,11 +9,11 @@ use Rattle.store.proofs.sets.put.Statement.{statement}
 use Rattle.store.proofs.sets.put.Tie as tie
 
 seats-are : (t : tie.Start) → length t.args.rest.seats ≡ 32
-seats-are t = sym (length-map t.args.rest.seats _) ∙ t.well-formed.1.0.1.1.0.1.0.1
+seats-are t = sym (length-map t.args.rest.seats _) ∙ t.well_formed.1.0.1.1.0.1.0.1
 
 returns : tie.Need-returns
 returns c = let s = c.before in let t = s.before.before in let a = t.args in (
-  ap (λ (r : Rest). board_of s.put_sets.new.0 r) c.put_seat.ensures
+  ap (λ (r : Rest). board_of s.put_sets.new.sets r) c.put_seat.ensures
       ∙ put-board a.q a.p a.sets.now _ a.rest t.requires.0.0 t.requires.0.1 s.put_sets.ensures (seats-are t),
   (c.put_seat.ensures, s.put_sets.ensures.is_store),
 )

@@ -7,7 +7,7 @@ use Rattle.store.proofs.sets.put_sets.Tie as tie
 
 returns : tie.Need-returns
 returns c = let first = c.before.before.before.before.before in let start = first.before.before.before.before.before in let a = start.args in
-    rows-put a.q a.i a.sets.now first.put_three.new.0 c.put_three-2.new.0 start.requires.0 first.put_three.ensures
+    rows-put a.q a.i a.sets.now first.put_three.new.sets c.put_three-2.new.sets start.requires.0 first.put_three.ensures
     c.put_three-2.ensures
 
 pub put_sets_spec : {M : Type 1} → statement M

@@ -6,8 +6,8 @@ use Rattle.store.proofs.sets.put_three.Tie as tie
 
 returns : tie.Need-returns
 returns c = let second = c.before.before in let first = second.before.before in let start = first.before.before in let a = start.args in
-    three-put a.k a.x a.y a.z a.sets.now first.put.new.0 second.put-2.new.0 c.put-3.new.0
-    start.requires.0 start.requires.1 first.put.ensures.s_after_2 second.put-2.ensures.s_after_2 c.put-3.ensures.s_after_2
+    three-put a.k a.x a.y a.z a.sets.now first.put.new.s second.put-2.new.s c.put-3.new.s
+    start.requires.0 start.requires.1 first.put.ensures.1 second.put-2.ensures.1 c.put-3.ensures.1
     (search rules) (search rules) (search rules)
 
 pub put_three_spec : {M : Type 1} → statement M

@@ -8,12 +8,12 @@ use Rattle.store.proofs.sets.take.Tie as tie
 
 -- there are 32 programs
 sized : (s : tie.Start) → length s.args.b.programs ≡ 32
-sized s = simp length-map at s.well-formed.0.1.1.0.1.0.1
+sized s = simp length-map at s.well_formed.0.1.1.0.1.0.1
 
 returns : tie.Need-returns
 returns c = let t = c.before.before.before.before in let s = t.before.before in let e = t.take_sets.ensures in (
   e,
-  board_is s.args.b t.take_sets.new.1.0 _ e (record {
+  board_is s.args.b t.take_sets.new.sets _ e (record {
     seats-are = c.before.before.before.seats_of-seats.ensures;
     waiting-is = refl;
     entry-is = refl;

@@ -23,7 +23,7 @@ loop-again : tie.Need-loop-i-preserved invariant-loop decreases-loop
 loop-again c = let s = c.before.before.before.before in let l = s.loop-i in (
   search rules,
   c.put_sets.ensures.is_store,
-  sets_more s.before.args.b l.i l.sets c.put_sets.new.0 (omega arith) c.put_sets.ensures l.invariant.2,
+  sets_more s.before.args.b l.i l.sets c.put_sets.new.sets (omega arith) c.put_sets.ensures l.invariant.2,
 )
 
 returns : tie.Need-returns invariant-loop decreases-loop

@@ -32,7 +32,7 @@ join-requires : tie.Need-join-requires
 join-requires c κs = let r = c.before.before.before.before in first r ∙ sym (second r)
 
 -- the first two rows together
-two : (k : tie.After-join) → length k.join.new.0 ≡ word_count
+two : (k : tie.After-join) → length k.join.new.s ≡ word_count
 two k = ap length k.join.ensures ∙ length-wordwise bit_or _ _ ∙ first k.before.before.before.before.before
 
 slice-aggregate-join-2 : tie.Need-slice_bounds-join-end-3

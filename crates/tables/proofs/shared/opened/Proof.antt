@@ -30,13 +30,13 @@ loop-holds c = ((search rules, search rules), refl, refl, refl, refl, refl, refl
 -- ---- stations of a turn, from the last back to the start
 
 abbrev writes : tie.After-join invariant-loop decreases-loop → tie.After-writing_at-w invariant-loop decreases-loop
-writes j = j.before.before.before.before
+writes j = j.before.before.before
 
 abbrev start : tie.After-join invariant-loop decreases-loop → tie.Start invariant-loop decreases-loop
 start j = (writes j).before.before.before
 
 abbrev reads : tie.After-join-in-loop-p invariant-loop decreases-loop → tie.After-reading_at-r invariant-loop decreases-loop
-reads k = k.before.before.before.before
+reads k = k.before.before.before
 
 abbrev joined : tie.After-join-in-loop-p invariant-loop decreases-loop → tie.After-join invariant-loop decreases-loop
 joined k = (reads k).before.before
@@ -45,13 +45,13 @@ join-requires : tie.Need-join-requires invariant-loop decreases-loop
 join-requires c κs = same-words (search rules) (search (rules, c.before.before.before.before.before.requires.words_are))
 
 join-requires-2 : tie.Need-join-requires-in-loop-p invariant-loop decreases-loop
-join-requires-2 c κs = same-words (search rules) (search (rules, (start c.before.before.before.before.before).requires.words_are))
+join-requires-2 c κs = same-words (search rules) (search (rules, (start c.before.before.before.before).requires.words_are))
 
 join-requires-3 : tie.Need-join-requires-in-loop-p-2 invariant-loop decreases-loop
-join-requires-3 c κs = same-words (search rules) (search (rules, (start (joined c.before.before.before.before.before)).pre.words_are))
+join-requires-3 c κs = same-words (search rules) (search (rules, (start (joined c.before.before.before.before)).pre.words_are))
 
 loop-again : tie.Need-loop-p-preserved invariant-loop decreases-loop
-loop-again c = let m = c.before in let i = m.before.before.before.before in let k = i.before.before in let j = joined k in
+loop-again c = let m = c.before in let i = m.before.before.before.before in let k = i.before.before in let j = joined c.before.before.before.before.before.before in
     let l = (writes j).before.before.loop-p in let a = (start j).args.sets.now in (
       (search rules, search rules),
       j.join.ensures ∙ ap (λ (k : ℕ). wordwise bit_or l.writing (row_in a k)) (writes j).writing_at-w.ensures.0
@@ -60,9 +60,9 @@ loop-again c = let m = c.before in let i = m.before.before.before.before in let 
           ∙ once_more (open_row a Read) l.p l.reading l.inv.0.0 l.inv.2,
       m.join-in-loop-p-2.ensures ∙ ap (λ (k : ℕ). wordwise bit_or l.inquiring (row_in a k)) c.before.before.before.before.inquiring_at-i.ensures.0
           ∙ once_more (open_row a Inquiry) l.p l.inquiring l.inv.0.0 l.inv.3,
-      j.join.kept.0 ∙ l.inv.4,
-      c.before.before.before.before.before.before.join-in-loop-p.auto.0 ∙ l.inv.5,
-      m.join-in-loop-p-2.auto.0 ∙ l.inv.6,
+      j.join.auto.s ∙ l.inv.4,
+      c.before.before.before.before.before.before.join-in-loop-p.auto.s ∙ l.inv.5,
+      m.join-in-loop-p-2.auto.s ∙ l.inv.6,
     )
 
 returns : tie.Need-returns invariant-loop decreases-loop
