@@ -11,7 +11,7 @@ use Rattle.apply.proofs.put_waiting.Statement.{statement}
 use Rattle.apply.proofs.put_waiting.Tie as tie
 
 seats-are : (t : tie.Start) → length t.args.rest.seats ≡ 32
-seats-are t = sym (length-map t.args.rest.seats _) ∙ t.well_formed.1.0.1.1.0.1.0.1
+seats-are t = search rules
 
 returns : tie.Need-returns
 unfolding board_of

@@ -30,7 +30,7 @@ loop-holds c = (omega arith, omega arith, refl, start (columns_of program_width)
 
 -- an order has 32 places
 long : (s : tie.Start invariant-loop decreases-loop) → length s.args.programs ≡ 32
-long s = s.well_formed.1.0.1.0.1
+long s = search rules
 
 put-columns-requires : tie.Need-put_columns-requires invariant-loop decreases-loop
 put-columns-requires c κs = simp (length-take, length-drop) (omega arith)

@@ -11,7 +11,7 @@ use Rattle.settling.proofs.admit_one.Statement.{statement}
 use Rattle.settling.proofs.admit_one.Tie as tie
 
 seats-length : (s : tie.Start) → length s.args.w.rest.seats ≡ 32
-seats-length s = sym (length-map s.args.w.rest.seats _) ∙ s.well_formed.1.1.0.1.1.0.1.1.0.1.0.1
+seats-length s = search rules
 
 tally-requires : tie.Need-tally-passed-requires
 tally-requires c κs = subst (λ (r : Rest). CountsFew r.passed) (sym c.seated-c.ensures) c.before.before.before.before.requires.2

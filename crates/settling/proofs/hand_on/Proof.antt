@@ -24,7 +24,7 @@ abbrev start : tie.After-oldest_for-p → tie.Start
 start o = o.before.before
 
 seats-length : (s : tie.Start) → length s.args.w.rest.seats ≡ 32
-seats-length s = sym (length-map s.args.w.rest.seats _) ∙ s.well_formed.1.1.0.1.1.0.1.1.0.1.0.1
+seats-length s = search rules
 
 oldest-for-requires : tie.Need-oldest_for-p-requires
 unfolding board_of

@@ -60,7 +60,7 @@ line-length : (a : tie.Start invariant-loop decreases-loop) → length a.args.w.
 line-length a = search rules
 
 seats-length : (a : tie.Start invariant-loop decreases-loop) → length a.args.w.rest.seats ≡ 32
-seats-length a = sym (length-map a.args.w.rest.seats _) ∙ a.well_formed.1.1.0.1.1.0.1.1.0.1.0.1
+seats-length a = search rules
 
 -- what is open at first
 uses-are : (s : tie.After-next_given-j invariant-loop decreases-loop) → s.before.before.uses_in-uses.result

@@ -39,8 +39,8 @@ returns c = let m = (start c.before).args.mode in by_test (eqb m 0) (λ t. rw (t
     (λ t. by_test (eqb m 1) (λ u. rw (t, u, sym (mine c.before) ∙ c.if-has.true)) (λ u. rw (t, u, sym (mine c.before) ∙ c.if-has.true)))
 
 returns-2 : tie.Need-returns-then-mode-eq1
-returns-2 c = let b = c.before.before.before in let j = b.before in let e = j.before in let a = (start e.before).args in
-    rw (c.before.before.if-mode-eq1.true, sym (mine e) ∙ c.before.before.before.before.if-has.false)
+returns-2 c = let e = c.before.before.before.before in let a = (start e.before).args in
+    rw (c.before.before.if-mode-eq1.true, sym (mine e.before) ∙ c.before.before.before.before.if-has.false)
     (c.has-then-mode-eq1.ensures ∙ ap (λ (k : ℕ). member (set_in a.sets.now k) a.f) c.before.before.before.inquirable_at-j.ensures.0)
 
 returns-3 : tie.Need-returns-then-has-2
@@ -54,7 +54,7 @@ returns-4 c = let l = c.before in let h = l.before in let e = out (second h) in 
     rw (ne_eqb a.mode 0 c.if-mode-ne0.true, mode-not (second h), sym (mine e.before) ∙ e.if-has.false, sym (theirs h) ∙ l.if-has-2.false)
 
 returns-5 : tie.Need-returns
-returns-5 c = let z = c.before.before.before in let l = z.before in let h = l.before in let e = out (second h) in let a = (start e.before).args in
+returns-5 c = let h = c.before.before.before.before in let e = out (second h) in let a = (start e.before).args in
     rw (c.before.before.if-mode-ne0.false, sym (mine e.before) ∙ e.if-has.false, sym (theirs c.before.before.before.before) ∙ c.before.before.before.if-has-2.false)
     (c.has-3.ensures ∙ ap (λ (k : ℕ). member (set_in a.sets.now k) a.f) (second h).before.inquirable_at-j.ensures.0)
 

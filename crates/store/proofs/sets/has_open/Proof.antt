@@ -31,7 +31,7 @@ returns-2 c = let h = c.before in
     rw (sym (mine (first h)) ∙ h.before.before.before.if-has.false, sym (theirs h) ∙ c.if-has-2.true)
 
 returns-3 : tie.Need-returns
-returns-3 c = let i = c.before.before.before in let e = i.before in let h = e.before in let a = (start (first h)).args in
+returns-3 c = let h = c.before.before.before.before in let a = (start (first h)).args in
     rw (sym (mine (first h)) ∙ h.before.before.if-has.false, sym (theirs c.before.before.before.before) ∙ c.before.before.before.if-has-2.false)
     (c.has-3.ensures ∙ ap (λ (k : ℕ). member (set_in a.sets.now k) a.f) c.before.before.inquiring_at-i.ensures.0)
 

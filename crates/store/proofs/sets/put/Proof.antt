@@ -9,7 +9,7 @@ use Rattle.store.proofs.sets.put.Statement.{statement}
 use Rattle.store.proofs.sets.put.Tie as tie
 
 seats-are : (t : tie.Start) → length t.args.rest.seats ≡ 32
-seats-are t = sym (length-map t.args.rest.seats _) ∙ t.well_formed.1.0.1.1.0.1.0.1
+seats-are t = search rules
 
 returns : tie.Need-returns
 returns c = let s = c.before in let t = s.before.before in let a = t.args in (

@@ -8,7 +8,7 @@ use Rattle.store.proofs.sets.take.Tie as tie
 
 -- there are 32 programs
 sized : (s : tie.Start) → length s.args.b.programs ≡ 32
-sized s = simp length-map at s.well_formed.0.1.1.0.1.0.1
+sized s = search rules
 
 returns : tie.Need-returns
 returns c = let t = c.before.before.before.before in let s = t.before.before in let e = t.take_sets.ensures in (
