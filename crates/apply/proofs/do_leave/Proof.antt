@@ -32,7 +32,7 @@ seat k = k.before.before
 
 counted-requires : tie.Need-counted-c-requires
 counted-requires c κs = let k = c.before in let s = (seat k).before in let a = s.args in
-    subst (λ (r : Rest). r.leaves ≤ 32) (sym c.put-left.ensures.1.0) (leaves-few a.sets.now a.rest s.pre.1)
+    subst (λ (r : Rest). r.leaves ≤ 32) (sym c.put-left.ensures.1.0) (leaves-few a.sets.now a.rest s.requires.1)
 
 -- the board before the record is handed on
 gone : (n : tie.After-counted-c) → let k = n.before.before in let s = (seat k).before in
@@ -41,9 +41,9 @@ gone n = let k = n.before.before in n.counted-c.ensures ∙ ap count_leave n.bef
 
 handed_on-requires : tie.Need-handed_on-requires
 handed_on-requires c κs = let n = c.before.before in let k = n.before.before in let s = (seat k).before in let a = s.args in (
-  leave_hands (board s) _ a.p _ _ (gone n) (file (seat k)) (item (seat k)) s.pre.1 s.pre.2,
+  leave_hands (board s) _ a.p _ _ (gone n) (file (seat k)) (item (seat k)) s.requires.1 s.requires.2,
   c.before.before.before.put-left.ensures.1.1,
-  s.pre.4,
+  s.requires.4,
 )
 
 returns : tie.Need-returns

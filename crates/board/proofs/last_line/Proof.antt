@@ -34,8 +34,8 @@ returns-2 c =
     let k = u.end_line in (
       k.ensures.0
           ∙ last_some (board s) a.kept.now a.journal.now a.s.kept a.s.out.place (some u).if-s-eq0.false
-          s.pre.0.1 (omega (arith, s.pre.0.1, s.pre.0.2)) s.pre.1.0,
-      (omega (arith, k.ensures.1.2, s.pre.1.0), k.ensures.1.3, k.ensures.1.4),
+          s.requires.0.1 (omega (arith, s.requires.0.1, s.requires.0.2)) s.requires.1.0,
+      (omega (arith, k.ensures.1.2, s.requires.1.0), k.ensures.1.3, k.ensures.1.4),
     )
 
 pub last_line_spec : {M : Type 1} → statement M

@@ -75,14 +75,14 @@ loop-again c =
     let l = (turn u).loop-at in
     let r = (start (turn u)).args.chunk.now in
     let n = within u in (
-      omega (arith, n, l.inv.0),
+      omega (arith, n, l.invariant.0),
       k.ensures.1.0.1,
       c.flush-s.ensures.0,
-      k.auto.kept ∙ l.inv.3,
-      k.auto.journal ∙ l.inv.4,
-      chunk_more _ (held (board_of l.sets l.s.rest) (take l.s.kept l.kept) []) _ r l.at k.result.taken n l.inv.5 k.ensures.0,
+      k.auto.kept ∙ l.invariant.3,
+      k.auto.journal ∙ l.invariant.4,
+      chunk_more _ (held (board_of l.sets l.s.rest) (take l.s.kept l.kept) []) _ r l.at k.result.taken n l.invariant.5 k.ensures.0,
       k.ensures.1.0.0,
-      (λ f. c.flush-s.ensures.1 (k.ensures.1.0.3 ∙ l.inv.7 f)),
+      (λ f. c.flush-s.ensures.1 (k.ensures.1.0.3 ∙ l.invariant.7 f)),
       k.ensures.1.0.4,
     )
 

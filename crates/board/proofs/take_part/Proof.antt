@@ -63,9 +63,9 @@ returns c =
     let z : e.result ≡ length p = t.if-end-part.true in (
       ap (λ (x : List ℕ). held (board_of l.sets l.s.rest) x j) k.keep.ensures.0
           ∙ part-ends _ (board_of l.sets l.s.rest) (take l.s.kept l.kept) j p l.at e.result
-          (omega (arith, length-take l.s.kept l.kept)) e.ensures.0 l.inv.5 z,
+          (omega (arith, length-take l.s.kept l.kept)) e.ensures.0 l.invariant.5 z,
       (
-        (l.inv.6, k.keep.ensures.1, omega (arith, l.inv.2), l.inv.7, l.inv.8),
+        (l.invariant.6, k.keep.ensures.1, omega (arith, l.invariant.2), l.invariant.7, l.invariant.8),
         (omega (arith, z, s.requires.1.2), omega (arith, z), (λ h. absurd (omega (arith, z, h)))),
       ),
     )
@@ -95,7 +95,7 @@ line_taken k =
     ap (λ (n : ℕ). held (board_of k.end_line-s.new.sets r.rest) (take n k.end_line-s.new.kept) j) k.end_line-s.ensures.1.1
     ∙ k.end_line-s.ensures.0
     ∙ part-line _ (board_of l.sets l.s.rest) (take l.s.kept l.kept) (take l.s.out.place l.journal) p l.at e.result
-    (omega (arith, length-take l.s.kept l.kept)) e.ensures.0 l.inv.5 (ends-within k)
+    (omega (arith, length-take l.s.kept l.kept)) e.ensures.0 l.invariant.5 (ends-within k)
 
 -- the length of a part is a number of 64 bits
 fits : (s : tie.Start invariant-loop decreases-loop) → length s.args.part.now < 18446744073709551616
@@ -124,7 +124,7 @@ returns-2 c =
     let h = ends-within u in (
       line_taken u,
       (
-        (k.ensures.1.0, omega (arith, k.ensures.1.1), omega (arith, k.ensures.1.2, l.inv.2), k.ensures.1.3 ∙ l.inv.7, k.ensures.1.4),
+        (k.ensures.1.0, omega (arith, k.ensures.1.1), omega (arith, k.ensures.1.2, l.invariant.2), k.ensures.1.3 ∙ l.invariant.7, k.ensures.1.4),
         (omega arith, omega arith, (λ _. omega (arith, c.if-s-gt-LAST_PLACE.true))),
       ),
     )
@@ -138,11 +138,11 @@ loop-again c =
       omega arith,
       omega (arith, k.ensures.1.1),
       omega (arith, c.if-s-gt-LAST_PLACE.false),
-      k.auto.kept ∙ l.inv.3,
-      k.auto.journal ∙ l.inv.4,
+      k.auto.kept ∙ l.invariant.3,
+      k.auto.journal ∙ l.invariant.4,
       line_taken u,
       k.ensures.1.0,
-      k.ensures.1.3 ∙ l.inv.7,
+      k.ensures.1.3 ∙ l.invariant.7,
       k.ensures.1.4,
     )
 

@@ -123,7 +123,7 @@ module _ {M : Type 1} {𝓤 : Ura M} (𝓛 : Logic 𝓤) (at_mem : Memory → SP
   abbrev to-call : (Call 𝓛 at_mem run).Ghost
   to-call = ((κs', (q', (q'', tt)), tt, a', vals'), tt)
 
-  asked : ent 𝓤 (on_entry 𝓛 call.signature κs' (q', (q'', tt)) a' vals') ((Call 𝓛 at_mem run).pre to-call)
+  asked : ent 𝓤 (on_entry 𝓛 call.signature κs' (q', (q'', tt)) a' vals') ((Call 𝓛 at_mem run).requires to-call)
   asked = qed 𝓛 (tokens ∷ ‵ (owns (B.the_row ∷ ShrSlice (named 0) κ' u8 ∷ MutSlice
       (named 1) κ'' u8 ∷ u64 ∷ []) a' vals') ∷ []) ∵ join ! $ frame ! $ done !
 
@@ -175,7 +175,7 @@ module _ {M : Type 1} {𝓤 : Ura M} (𝓛 : Logic 𝓤) (at_mem : Memory → SP
         (and_then ! (load ! (from ! (fld ! refl (stop !))) (look_in ! 17 (sub ! 1 refl (whole !)))) (no_more !))))
         (from ! (stop !)) (init ! 7 refl (tt, (tt, (record { fits = room'.0 }, tt)))) $
         -- `line_call`
-        move ! (1 ∷ 6 ∷ []) $ fjoin ! $ move ! (5 ∷ 0 ∷ []) $ use2 𝓛 (raw ((Call 𝓛 at_mem run).pre to-call)) asked $
+        move ! (1 ∷ 6 ∷ []) $ fjoin ! $ move ! (5 ∷ 0 ∷ []) $ use2 𝓛 (raw ((Call 𝓛 at_mem run).requires to-call)) asked $
         calls_at ! fm (Call 𝓛 at_mem run) known to-call (and_then ! (load ! (from ! (stop !)) (look ! 9 refl))
         (and_then ! (load ! (from ! (stop !)) (look ! 17 refl)) (and_then ! (load ! (from ! (stop !)) (look ! 5 refl))
         (and_then ! (load ! (from ! (stop !)) (look ! 13 refl)) (no_more !))))) (λ w.

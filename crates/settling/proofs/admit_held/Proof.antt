@@ -70,7 +70,7 @@ admit-one-requires c κs =
 -- one more runs
 module _ (c : tie.After-first_held-p-in-loop-p invariant-loop decreases-loop) where
   abbrev ran : tie.After-admit_one-s invariant-loop decreases-loop
-  ran = c.before
+  ran = c.before.before
 
   abbrev turn : tie.In-loop-p invariant-loop decreases-loop
   turn = ran.before.before.before.before
@@ -80,7 +80,7 @@ module _ (c : tie.After-first_held-p-in-loop-p invariant-loop decreases-loop) wh
 
   more : Admitting (written_in (start turn.before).args.sets.now (start turn.before).args.lines.now (start turn.before).args.w) next
       × (length (names next.board.entry) < length (names (at turn.before).board.entry))
-  more = let i = ran.before.before in let o = i.before.oldest-overdue in let l = turn.before in let v = l.loop.inv in
+  more = let i = ran.before.before in let o = i.before.oldest-overdue in let l = turn.before in let v = l.loop.invariant in
       let n = overdue-none (at l).board o.result v.0.loose o.ensures i.if1.left in
       one_more _ (at l) v.0 (λ e. turn.loop-test.true (v.1 ∙ e)) next n
       (ran.admit-one.ensures.0 ∙ ap (λ q. after (at l) (admit_one (at l).board q)) v.1)

@@ -64,16 +64,16 @@ asks x = let g = (start x).args in let p = get_or g.line (known x).before.before
 
 returns-2 : tie.Need-returns-then-can_serve invariant-loop decreases-loop
 returns-2 c =
-    let x = c.before in let i = known x in let l = i.before.before.loop-k in let g = (start x).args in let m = l.inv.3 in (
-      l.inv.1,
-      l.inv.0,
+    let x = c.before in let i = known x in let l = i.before.before.loop-k in let g = (start x).args in let m = l.invariant.3 in (
+      l.invariant.1,
+      l.invariant.0,
       λ b s u r a.
-          let (r', a', e) = l.inv.4 b s u r a in
+          let (r', a', e) = l.invariant.4 b s u r a in
           let t = waiter-can b g.line l.k (omega arith) i.if-p-eq0.false r' g.sets.now g.asked.now g.uses x.can_serve.result
           s u a' (asks x) in (
             record {
-              onward = l.inv.1;
-              within = l.inv.0;
+              onward = l.invariant.1;
+              within = l.invariant.0;
               ready = r';
               same = e;
               gives = λ h. (i.if-p-eq0.false, sym t ∙ c.if-can_serve.true);
@@ -84,13 +84,13 @@ returns-2 c =
 
 loop-again : tie.Need-loop-k-preserved invariant-loop decreases-loop
 loop-again c =
-    let x = c.before in let i = known x in let l = i.before.before.loop-k in let g = (start x).args in let m = l.inv.3 in (
+    let x = c.before in let i = known x in let l = i.before.before.loop-k in let g = (start x).args in let m = l.invariant.3 in (
       search rules,
       search rules,
-      rw (add-one l.k) (names_left is_program g.line l.k (omega arith) i.if-p-eq0.false l.inv.2),
+      rw (add-one l.k) (names_left is_program g.line l.k (omega arith) i.if-p-eq0.false l.invariant.2),
       m,
       λ b s u r a.
-          let (r', a', e) = l.inv.4 b s u r a in
+          let (r', a', e) = l.invariant.4 b s u r a in
           let t = waiter-can b g.line l.k (omega arith) i.if-p-eq0.false r' g.sets.now g.asked.now g.uses x.can_serve.result
           s u a' (asks x) in
           let (y, d) = waiter-over b g.line l.k (omega arith) i.if-p-eq0.false r' (sym t ∙ c.if-can_serve.false) in

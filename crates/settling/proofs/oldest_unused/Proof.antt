@@ -62,21 +62,21 @@ returns-2 c = let s = c.before.before in let l = s.loop-k in let a = start s.bef
 
 -- the waiter is a program
 range : (i : tie.Else-p-eq0 invariant-loop decreases-loop) → let s = turn i in let p = get_or (start s.before).args.rest.waiting s.loop-k.k 0 in (1 ≤ p) × (p ≤ 32)
-range i = let s = turn i in let l = s.loop-k in let a = start s.before in let m = l.inv.3 in
-    waiter-range (board a) a.args.rest.waiting l.k (omega arith) i.if-p-eq0.false l.inv.1
+range i = let s = turn i in let l = s.loop-k in let a = start s.before in let m = l.invariant.3 in
+    waiter-range (board a) a.args.rest.waiting l.k (omega arith) i.if-p-eq0.false l.invariant.1
 
 place-of-requires : tie.Need-place_of-i-requires invariant-loop decreases-loop
 place-of-requires c κs = range c
 
 is-unused-requires : tie.Need-is_unused-requires invariant-loop decreases-loop
-is-unused-requires c κs = let i = c.before.before in (range i, (start (turn i).before).pre.1)
+is-unused-requires c κs = let i = c.before.before in (range i, (start (turn i).before).requires.1)
 
 -- whether it waits for a file, in no conflicting use
 free : (w : tie.After-is_unused invariant-loop decreases-loop) → let s = turn (reached w) in let a = start s.before in
     w.is_unused.result ≡ unused (board a) (get_or a.args.rest.waiting s.loop-k.k 0)
 free w = let i = reached w in let s = turn i in let u = s.before in let l = s.loop-k in let a = start u in let r = a.args.rest in
-    let sets = a.args.sets.now in let q = w.before.before in let m = l.inv.3 in let g = range i in
-    waiter-unused (board a) r.waiting l.k (omega arith) i.if-p-eq0.false l.inv.1 sets
+    let sets = a.args.sets.now in let q = w.before.before in let m = l.invariant.3 in let g = range i in
+    waiter-unused (board a) r.waiting l.k (omega arith) i.if-p-eq0.false l.invariant.1 sets
     u.uses_in-uses.result _ w.is_unused.result (board-sets sets r a.requires.1)
     (u.uses_in-uses.ensures ∙ ap (λ (y : ProgramSet). uses_in y sets) (u.before.admitted_seats-admitted.ensures ∙ seats_admitted sets r))
     (ap seat_of (board-at sets r (get_or r.waiting l.k 0) g.0 g.1)
@@ -84,16 +84,16 @@ free w = let i = reached w in let s = turn i in let u = s.before in let l = s.lo
 
 returns-3 : tie.Need-returns-then-is_unused invariant-loop decreases-loop
 returns-3 c =
-    let w = c.before in let i = reached w in let s = turn i in let l = s.loop-k in let a = start s.before in let r = a.args.rest in let m = l.inv.3 in
-    sym (rw (sym (free w) ∙ c.if-is_unused.true) at (ap (λ (x : Option ℕ). Option.get_or x 0) (l.inv.2
+    let w = c.before in let i = reached w in let s = turn i in let l = s.loop-k in let a = start s.before in let r = a.args.rest in let m = l.invariant.3 in
+    sym (rw (sym (free w) ∙ c.if-is_unused.true) at (ap (λ (x : Option ℕ). Option.get_or x 0) (l.invariant.2
     ∙ first_names_on (unused (board a)) r.waiting l.k (omega arith) i.if-p-eq0.false)))
 
 loop-again : tie.Need-loop-k-preserved invariant-loop decreases-loop
 loop-again c =
-    let w = c.before in let i = reached w in let s = turn i in let l = s.loop-k in let a = start s.before in let r = a.args.rest in let m = l.inv.3 in (
+    let w = c.before in let i = reached w in let s = turn i in let l = s.loop-k in let a = start s.before in let r = a.args.rest in let m = l.invariant.3 in (
       search rules,
-      ready-left (board a) r.waiting l.k (omega arith) i.if-p-eq0.false l.inv.1,
-      rw (add-one l.k) (rw (sym (free w) ∙ c.if-is_unused.false) at (l.inv.2
+      ready-left (board a) r.waiting l.k (omega arith) i.if-p-eq0.false l.invariant.1,
+      rw (add-one l.k) (rw (sym (free w) ∙ c.if-is_unused.false) at (l.invariant.2
           ∙ first_names_on (unused (board a)) r.waiting l.k (omega arith) i.if-p-eq0.false)),
       m,
     )

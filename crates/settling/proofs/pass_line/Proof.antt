@@ -162,44 +162,44 @@ module _ (u : tie.After-uses_in-uses-in-loop-j invariant-loop decreases-loop) wh
   waiter = get_or first.args.w.rest.waiting at.loop.j 0
 
   abbrev files : List ℕ
-  files = (asked (begun at)).fill-asked.last.1.0
+  files = (asked (begun at)).fill_asked.new.asked
 
   abbrev file : ℕ
   file = get_or files (waiter - 1) 0
 
   abbrev who : ProgramSet
-  who = (admits (begun at)).admitted-seats.result
+  who = (admits (begun at)).admitted_seats-admitted.result
 
   abbrev then : Sets
   then = given_at at.loop.sets waiter file
 
   -- what is open then
-  uses-then : u.uses-in2.result ≡ uses_in who (gave u).give.last.0
-  uses-then = u.uses-in2.ensures
+  uses-then : u.uses_in-uses-in-loop-j.result ≡ uses_in who (gave u).give.last.0
+  uses-then = u.uses_in-uses-in-loop-j.ensures
 
   sets_then : (gave u).give.last.0 ≡ then
   sets_then = (gave u).give.ensures
 
   store_then : IsStore (gave u).give.last.0
   store_then = let r = range here in
-      subst IsStore (sym sets_then) (given_store at.loop.sets waiter file r.0 r.1 at.loop.inv.2)
+      subst IsStore (sym sets_then) (given_store at.loop.sets waiter file r.0 r.1 at.loop.invariant.2)
 
   -- the board with its lines, once the waiter is served
-  next-state : state (gave u).give.last.0 (set at.loop.lines at.loop.n (told (gave u)).line-of.result) (ran (told (gave u))).served.result
+  next-state : state (gave u).give.last.0 (set at.loop.lines at.loop.n (told (gave u)).line_of.result) (ran (told (gave u))).served-c.result
       (at.loop.n + 1) ≡ state_of (given_to (board_of at.loop.sets at.loop.c) waiter file)
       (set (lines_in at.loop.lines) at.loop.n (line Word.Given waiter file)) (at.loop.n + 1)
   next-state = let r = range here in let l = at.loop in
       same-written _ _ _ _ (l.n + 1)
-      (ap₂ board_of sets_then (ran (told (gave u))).served.ensures
-      ∙ served_is l.sets l.c waiter file l.inv.2 l.inv.1 (record { least = r.0; most = r.1 }))
-      (one_line l.lines l.n (line Word.Given waiter file) _ (told (gave u)).line-of.ensures)
+      (ap₂ board_of sets_then (ran (told (gave u))).served-c.ensures
+      ∙ served_is l.sets l.c waiter file l.invariant.2 l.invariant.1 (record { least = r.0; most = r.1 }))
+      (one_line l.lines l.n (line Word.Given waiter file) _ (told (gave u)).line_of.ensures)
 
   -- what was written at first, and before the next are asked
   abbrev was : Written
   was = state first.args.sets.now first.args.lines.now first.args.w.rest first.args.w.count
 
   abbrev is : Written
-  is = state (gave u).give.last.0 (set at.loop.lines at.loop.n (told (gave u)).line-of.result) (ran (told (gave u))).served.result
+  is = state (gave u).give.last.0 (set at.loop.lines at.loop.n (told (gave u)).line_of.result) (ran (told (gave u))).served-c.result
       (at.loop.n + 1)
 
   -- the next ones are still to be asked
@@ -209,7 +209,7 @@ module _ (u : tie.After-uses_in-uses-in-loop-j invariant-loop decreases-loop) wh
       (sym next-state)
       (subst (λ (x : Sets). At was first.args.w.rest.waiting files (at.loop.j + 1) (state_of (given_to (board_of l.sets l.c) waiter file)
       (set (lines_in l.lines) l.n (line Word.Given waiter file)) (l.n + 1)) x (uses_in who x)) (sym sets_then)
-      (give-next _ _ _ _ _ _ _ l.inv.4 l.inv.0 (omega arith) (uses_in who then) refl))
+      (give-next _ _ _ _ _ _ _ l.invariant.4 l.invariant.0 (omega arith) (uses_in who then) refl))
 
 next-given-requires-2 : tie.Need-next_given-j-requires-in-loop-j invariant-loop decreases-loop
 next-given-requires-2 c κs = let u = c.before.before in let t = (here u).loop-test.true in
@@ -217,11 +217,11 @@ next-given-requires-2 c κs = let u = c.before.before in let t = (here u).loop-t
 
 loop-again : tie.Need-loop-j-preserved invariant-loop decreases-loop
 loop-again c = let u = c.before.before.before in let l = (at u).loop in (
-  l.inv.0,
+  l.invariant.0,
   ap (λ (x : Rest). length x.seats) (ran (told (gave u))).served-c.ensures
-      ∙ length-set l.c.seats (waiter u - 1) _ ∙ l.inv.1,
+      ∙ length-set l.c.seats (waiter u - 1) _ ∙ l.invariant.1,
   store_then u,
-  one_entry l.lines l.n (line Word.Given (waiter u) (file u)) _ (told (gave u)).line_of.ensures l.inv.3,
+  one_entry l.lines l.n (line Word.Given (waiter u) (file u)) _ (told (gave u)).line_of.ensures l.invariant.3,
   next-found _ _ _ _ _ _ (l.j + 1) _ (next-at u)
       (subst (λ (x : Uses). NextFor (gave u).give.new.sets (files u) x (first u).args.w.rest.waiting (l.j + 1) c.next_given-j-in-loop-j.result)
       (uses-then u) c.next_given-j-in-loop-j.ensures.2),

@@ -48,7 +48,7 @@ start e = (at e).before
 
 -- it is an admitted program
 named : (e : tie.Else-p-eq0 invariant-loop decreases-loop) → let p = get_or (start e).args.line (at e).loop-k.k 0 in ((1 ≤ p) × (p ≤ 32)) × (admits (board (start e)) p ≡ true)
-named e = let l = (at e).loop-k in waiter_named (board (start e)) (start e).args.line l.k (omega (arith, l.inv.3)) e.if-p-eq0.false l.inv.1
+named e = let l = (at e).loop-k in waiter_named (board (start e)) (start e).args.line l.k (omega (arith, l.invariant.3)) e.if-p-eq0.false l.invariant.1
 
 place-of-requires : tie.Need-place_of-i-requires invariant-loop decreases-loop
 place-of-requires c κs = (named c).0
@@ -72,16 +72,16 @@ judged w = let e = reached w in let a = (start e).args in let b = board (start e
 
 returns-2 : tie.Need-returns-then-not-waiter_sound invariant-loop decreases-loop
 returns-2 c = let w = c.before in let e = reached w in let l = (at e).loop-k in let a = (start e).args in
-    sym (rw (sym (judged w) ∙ c.if-not-waiter_sound.true) at (l.inv.2
-    ∙ all-names-on a.line l.k (waiter_at (board (start e))) (omega (arith, l.inv.3)) e.if-p-eq0.false))
+    sym (rw (sym (judged w) ∙ c.if-not-waiter_sound.true) at (l.invariant.2
+    ∙ all-names-on a.line l.k (waiter_at (board (start e))) (omega (arith, l.invariant.3)) e.if-p-eq0.false))
 
 loop-again : tie.Need-loop-k-preserved invariant-loop decreases-loop
 loop-again c = let w = c.before in let e = reached w in let l = (at e).loop-k in let a = (start e).args in (
   search rules,
-  rw (add-one l.k) (names_left (right_name (board (start e)) false) a.line l.k (omega (arith, l.inv.3)) e.if-p-eq0.false l.inv.1),
-  rw (add-one l.k) (rw (sym (judged w) ∙ c.if-not-waiter_sound.false) at (l.inv.2
-      ∙ all-names-on a.line l.k (waiter_at (board (start e))) (omega (arith, l.inv.3)) e.if-p-eq0.false)),
-  l.inv.3,
+  rw (add-one l.k) (names_left (right_name (board (start e)) false) a.line l.k (omega (arith, l.invariant.3)) e.if-p-eq0.false l.invariant.1),
+  rw (add-one l.k) (rw (sym (judged w) ∙ c.if-not-waiter_sound.false) at (l.invariant.2
+      ∙ all-names-on a.line l.k (waiter_at (board (start e))) (omega (arith, l.invariant.3)) e.if-p-eq0.false)),
+  l.invariant.3,
 )
 
 returns-3 : tie.Need-returns invariant-loop decreases-loop

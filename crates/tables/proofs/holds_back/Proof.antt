@@ -12,23 +12,23 @@ module _ (c : tie.After-inquirable_at-j) where
   abbrev start : tie.Start
   start = c.before.before.before.before.before.before
 
-  open-read : (m : Mode) → by_mode (set_in start.args.sets.now c.before.before.before.before.before.writing-at.result)
-      (set_in start.args.sets.now c.before.before.before.before.reading-at.result)
-      (set_in start.args.sets.now c.before.before.before.inquiring-at.result) m ≡ open_at start.args.sets.now start.args.p m
-  open-read Write = ap (set_in start.args.sets.now) c.before.before.before.before.before.writing-at.ensures.0
-  open-read Read = ap (set_in start.args.sets.now) c.before.before.before.before.reading-at.ensures.0
-  open-read Inquiry = ap (set_in start.args.sets.now) c.before.before.before.inquiring-at.ensures.0
+  open-read : (m : Mode) → by_mode (set_in start.args.sets.now c.before.before.before.before.before.writing_at-w.result)
+      (set_in start.args.sets.now c.before.before.before.before.reading_at-r.result)
+      (set_in start.args.sets.now c.before.before.before.inquiring_at-i.result) m ≡ open_at start.args.sets.now start.args.p m
+  open-read Write = ap (set_in start.args.sets.now) c.before.before.before.before.before.writing_at-w.ensures.0
+  open-read Read = ap (set_in start.args.sets.now) c.before.before.before.before.reading_at-r.ensures.0
+  open-read Inquiry = ap (set_in start.args.sets.now) c.before.before.before.inquiring_at-i.ensures.0
 
-  claims-read : (m : Mode) → by_mode (set_in start.args.sets.now c.before.before.writable-at.result)
-      (set_in start.args.sets.now c.before.readable-at.result)
-      (set_in start.args.sets.now c.inquirable-at.result) m ≡ claim_at start.args.sets.now start.args.q m
-  claims-read Write = ap (set_in start.args.sets.now) c.before.before.writable-at.ensures.0
-  claims-read Read = ap (set_in start.args.sets.now) c.before.readable-at.ensures.0
-  claims-read Inquiry = ap (set_in start.args.sets.now) c.inquirable-at.ensures.0
+  claims-read : (m : Mode) → by_mode (set_in start.args.sets.now c.before.before.writable_at-v.result)
+      (set_in start.args.sets.now c.before.readable_at-c.result)
+      (set_in start.args.sets.now c.inquirable_at-j.result) m ≡ claim_at start.args.sets.now start.args.q m
+  claims-read Write = ap (set_in start.args.sets.now) c.before.before.writable_at-v.ensures.0
+  claims-read Read = ap (set_in start.args.sets.now) c.before.readable_at-c.ensures.0
+  claims-read Inquiry = ap (set_in start.args.sets.now) c.inquirable_at-j.ensures.0
 
 -- the rows have as many words as a set
 touches-requires : tie.Need-touches-requires
-touches-requires c κs = let r = c.before.before.before.before.before.before.before.before.before.before.before.before in
+touches-requires c κs = let r = c.before.before.before.before.before.before in
     let s = (start r).requires.2 in let w = r in
     let n = s.words_are c.before.before.before.before.before.before.before.before.before.before.before.writing_at-w.result c.before.before.before.before.before.before.before.before.before.before.before.writing_at-w.ensures.1 in record {
       of-r = let x = r in s.words_are c.before.before.before.before.before.before.before.before.before.before.reading_at-r.result c.before.before.before.before.before.before.before.before.before.before.reading_at-r.ensures.1 ∙ sym n;
@@ -39,7 +39,7 @@ touches-requires c κs = let r = c.before.before.before.before.before.before.bef
     }
 
 returns : tie.Need-returns
-returns c = let r = c.before.before.before.before.before.before.before.before.before.before.before.before.before in
+returns c = let r = c.before.before.before.before.before.before.before in
     c.touches.ensures ∙ touching-same _ _ _ _ (open-read r) (claims-read r)
 
 pub holds_back_spec : {M : Type 1} → statement M

@@ -24,7 +24,7 @@ returns c =
     let s = start (with-v (with-q k)) in
     let a = s.args in (
       omega (arith, z.ensures.0, y.ensures.0, x.ensures.0),
-      claims-put a.c a.start x.result y.result a.line.now x.last.0 y.last.0 z.new.line s.requires
+      claims-put a.c a.start x.result y.result a.line.now x.new.line y.new.line z.new.line s.requires
           x.ensures.0 x.ensures.1 y.ensures.0 y.ensures.1 z.ensures.1,
     )
 

@@ -34,7 +34,7 @@ returns c =
     let s = start p in
     let a = s.args in (
       omega (arith, j.ensures.0, r.ensures.0, w.ensures.0, l.ensures.0, h.ensures.0, s.requires.1),
-      entry-put a.verb a.program a.w a.r a.j a.label.now a.line.now h.new.line l.new.line w.last.0 r.last.0
+      entry-put a.verb a.program a.w a.r a.j a.label.now a.line.now h.new.line l.new.line w.new.line r.new.line
           j.new.line h.result l.result w.result r.result s.requires.0 s.requires.1 h.ensures.0 h.ensures.1
           l.ensures.0 l.ensures.1 w.ensures.0 w.ensures.1 r.ensures.0 r.ensures.1 j.ensures.1,
     )

@@ -20,7 +20,7 @@ returns c =
     let v = (known p).verb_bytes-word in
     let s = (known p).before.before in
     let e = head_put s.args.verb s.args.program w.result v.result s.args.line.now w.new.line k.new.line
-    s.pre v.ensures w.ensures.0 w.ensures.1 k.ensures.1 in
+    s.requires v.ensures w.ensures.0 w.ensures.1 k.ensures.1 in
     (omega (arith, e.0, k.ensures.0), e.1)
 
 pub put_head_spec : {M : Type 1} → statement M

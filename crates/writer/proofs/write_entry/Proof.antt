@@ -20,7 +20,7 @@ abbrev with-w : tie.After-count-j → tie.After-count-w
 with-w k = k.before.before.before.before
 
 abbrev start : tie.After-count-j → tie.Start
-start k = (with-w k).before.before.before.before
+start k = (with-w k).before.before.before.before.before
 
 -- a set has at most 64 files
 few : (k : tie.After-count-j) → ((with-w k).count-w.result ≤ 64) × ((with-r k).count-r.result ≤ 64) × (k.count-j.result ≤ 64)
@@ -65,9 +65,9 @@ returns-2 c =
     let s = start k in
     let a = s.args in
     let room : entry_length (claims_count a.a.claims) ≤ length a.line.now =
-    omega (arith, (fits p).if-line-len.false, (with-w k).count-w.ensures, (with-r k).count-r.ensures, k.count3.ensures) in
-    let e = head_counts a.a (with-w k).count-w.result (with-r k).count-r.result k.count3.result a.label.now a.line.now h.new.line
-    (with-w k).count-w.ensures (with-r k).count-r.ensures k.count3.ensures h.ensures.1 in
+    omega (arith, (fits p).if-line-len.false, (with-w k).count-w.ensures, (with-r k).count-r.ensures, k.count-j.ensures) in
+    let e = head_counts a.a (with-w k).count-w.result (with-r k).count-r.result k.count-j.result a.label.now a.line.now h.new.line
+    (with-w k).count-w.ensures (with-r k).count-r.ensures k.count-j.ensures h.ensures.1 in
     placed_all (line_as Shape.Entry a.a a.label.now) a.line.now x.new.line (entry_length (claims_count a.a.claims)) x.result
     (enter-length a.a a.label.now s.requires) room (omega (arith, x.ensures.0, h.ensures.0))
     (enter-put a.a h.result a.label.now a.line.now h.new.line x.new.line s.requires room h.ensures.0 e x.ensures.1)

@@ -59,9 +59,9 @@ returns-4 c =
     let i = fits p in
     let e = i.before in
     let a = (start (filed e)).args in
-    let m = file_put a.a h.result a.line.now h.new.line f.last.0
+    let m = file_put a.a h.result a.line.now h.new.line f.new.line
     (omega (arith, i.if-line-lt-RECORD_LEN.false)) h.ensures.0 h.ensures.1 f.ensures.1 in
-    let r = record_put a.a f.result a.line.now f.last.0 n.new.line
+    let r = record_put a.a f.result a.line.now f.new.line n.new.line
     i.if-line-lt-RECORD_LEN.false (omega (arith, f.ensures.0, h.ensures.0)) m n.ensures.1 in
     record-placed a.a a.line.now _ _ (is-file (filed e)) (is-record e)
     (placed_all (line_as Shape.Record a.a []) a.line.now n.new.line record_length n.result

@@ -159,7 +159,7 @@ module _ {M : Type 1} {𝓤 : Ura M} (𝓛 : Logic 𝓤) (at_mem : Memory → SP
   to-call l ν δ = ((κs' ν, (full_share, (q, (q', tt))), tt, a' l ν δ, vals' l ν), tt)
 
   asked : (l ν : ℕ) (δ : GName) → ent 𝓤 (on_entry 𝓛 call-in.signature (κs' ν) (full_share, (q, (q', tt))) (a' l ν δ) (vals' l ν))
-      ((CallIn 𝓛 at_mem run).pre (to-call l ν δ))
+      ((CallIn 𝓛 at_mem run).requires (to-call l ν δ))
   asked l ν δ = qed 𝓛 ((‵ (flft (ν ∷ []) full_share) ⊛ tokens) ∷ ‵ (owns (MutRef (named 0) (ν ∷ []) B.the_row ∷ ShrSlice (named 1) κ u8 ∷ MutSlice
       (named 2) κ' u8 ∷ u64 ∷ []) (a' l ν δ) (vals' l ν)) ∷ []) ∵ join ! $ frame ! $ done !
 
@@ -208,7 +208,7 @@ module _ {M : Type 1} {𝓤 : Ura M} (𝓛 : Logic 𝓤) (at_mem : Memory → SP
         ⊛ ‵ (flent (ν ∷ []) (Body (mem B.the_row) l₅ 0 δ))))) (lends_ref 𝓛 B.the_row (named 0) (ν ∷ []) b l₅ 0) $ await ! tt $ pick ! (λ δ. split ! $
         -- [the reference; the lender's part; the token of ν; _10; …; _6; …; (of _5) …; _4; …; _0; …; the tokens; what the parameters own]
         move ! (25 ∷ []) $ fsplit ! $ drop ! $ move ! (1 ∷ 0 ∷ []) $ fjoin ! $ move ! (2 ∷ 24 ∷ []) $ join ! $
-        use2 𝓛 (raw ((CallIn 𝓛 at_mem run).pre (to-call l₅ ν δ))) (asked l₅ ν δ) $
+        use2 𝓛 (raw ((CallIn 𝓛 at_mem run).requires (to-call l₅ ν δ))) (asked l₅ ν δ) $
         -- `line_call_in`
         calls_at ! fm (CallIn 𝓛 at_mem run) known (to-call l₅ ν δ) (and_then ! (load ! (from ! (stop !)) (look ! 8 refl))
         (and_then ! (load ! (from ! (stop !)) (look ! 17 refl)) (and_then ! (load ! (from ! (stop !)) (look ! 4 refl))

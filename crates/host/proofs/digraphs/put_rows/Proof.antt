@@ -38,9 +38,9 @@ loop-again c = let p = c.before.before in let r = bytes p in let t = turn r in
     let l = t.loop-i in let a = t.before.before.args in
     let n : length a.rows ≡ 32 = search rules in (
       omega arith,
-      p.put_at.auto.out ∙ l.inv.1,
+      p.put_at.auto.out ∙ l.invariant.1,
       put-row (bytes_n 4) 4 row-length a.out.now l.out p.put_at.new.out r.row_bytes-row.result a.rows 0 l.i
-          (omega (arith, n)) l.inv.2 r.row_bytes-row.ensures p.put_at.ensures,
+          (omega (arith, n)) l.invariant.2 r.row_bytes-row.ensures p.put_at.ensures,
     )
 
 same_length : tie.Need-shape_of-out invariant-loop decreases-loop

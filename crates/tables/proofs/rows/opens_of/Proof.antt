@@ -16,33 +16,33 @@ module _ (c : tie.After-inquiring_at-i) where
   abbrev start : tie.Start
   start = c.before.before.before
 
-  first : length (row_in start.args.sets.now c.before.before.writing-at.result) ≡ word_count
-  first = start.pre.1.words_are c.before.before.writing-at.result c.before.before.writing-at.ensures.1
+  first : length (row_in start.args.sets.now c.before.before.writing_at-w.result) ≡ word_count
+  first = start.requires.1.words_are c.before.before.writing_at-w.result c.before.before.writing_at-w.ensures.1
 
-  second : length (row_in start.args.sets.now c.before.reading-at.result) ≡ word_count
-  second = start.pre.1.words_are c.before.reading-at.result c.before.reading-at.ensures.1
+  second : length (row_in start.args.sets.now c.before.reading_at-r.result) ≡ word_count
+  second = start.requires.1.words_are c.before.reading_at-r.result c.before.reading_at-r.ensures.1
 
-  third : length (row_in start.args.sets.now c.inquiring-at.result) ≡ word_count
-  third = start.pre.1.words_are c.inquiring-at.result c.inquiring-at.ensures.1
+  third : length (row_in start.args.sets.now c.inquiring_at-i.result) ≡ word_count
+  third = start.requires.1.words_are c.inquiring_at-i.result c.inquiring_at-i.ensures.1
 
 slice-aggregate-join : tie.Need-slice_bounds-join-end
 slice-aggregate-join c = sym (first c.before.before)
 
 join-requires : tie.Need-join-requires
-join-requires c κs = let r = c.before.before.before.before in first r ∙ sym (second r)
+join-requires c κs = let r = c.before.before.before in first r ∙ sym (second r)
 
 -- the first two rows together
 two : (k : tie.After-join) → length k.join.new.s ≡ word_count
-two k = ap length k.join.ensures ∙ length-wordwise bit_or _ _ ∙ first k.before.before.before.before.before
+two k = ap length k.join.ensures ∙ length-wordwise bit_or _ _ ∙ first k.before.before.before.before
 
 slice-aggregate-join-2 : tie.Need-slice_bounds-join-end-3
 slice-aggregate-join-2 c = sym (two c.before.before)
 
 join-requires-2 : tie.Need-join-requires-2
-join-requires-2 c κs = let k = c.before.before.before.before in two k ∙ sym (third k.before.before.before.before.before)
+join-requires-2 c κs = let k = c.before.before.before in two k ∙ sym (third k.before.before.before.before)
 
 returns : tie.Need-returns
-returns c = let m = c.before in let k = m.before.before.before.before.before in let i = k.before.before.before.before.before in
+returns c = let m = c.before in let k = m.before.before.before.before in let i = k.before.before.before.before in
     let a = (start i).args.sets.now in
     m.join-2.ensures ∙ ap₂ (λ (x : List ℕ) (y : ℕ). wordwise bit_or x (row_in a y))
     (c.before.before.before.before.before.join.ensures ∙ ap₂ (λ (x y : ℕ). wordwise bit_or (row_in a x) (row_in a y)) i.writing_at-w.ensures.0 c.before.before.before.before.before.before.before.before.before.before.reading_at-r.ensures.0)

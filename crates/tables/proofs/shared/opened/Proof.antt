@@ -48,21 +48,21 @@ join-requires-2 : tie.Need-join-requires-in-loop-p invariant-loop decreases-loop
 join-requires-2 c κs = same-words (search rules) (search (rules, (start c.before.before.before.before).requires.words_are))
 
 join-requires-3 : tie.Need-join-requires-in-loop-p-2 invariant-loop decreases-loop
-join-requires-3 c κs = same-words (search rules) (search (rules, (start (joined c.before.before.before.before)).pre.words_are))
+join-requires-3 c κs = same-words (search rules) (search (rules, (start (joined c.before.before.before.before)).requires.words_are))
 
 loop-again : tie.Need-loop-p-preserved invariant-loop decreases-loop
-loop-again c = let m = c.before in let i = m.before.before.before.before in let k = i.before.before in let j = joined c.before.before.before.before.before.before in
+loop-again c = let m = c.before in let i = m.before.before.before in let k = i.before.before in let j = joined c.before.before.before.before.before.before in
     let l = (writes j).before.before.loop-p in let a = (start j).args.sets.now in (
       (search rules, search rules),
       j.join.ensures ∙ ap (λ (k : ℕ). wordwise bit_or l.writing (row_in a k)) (writes j).writing_at-w.ensures.0
-          ∙ once_more (open_row a Write) l.p l.writing l.inv.0.0 l.inv.1,
+          ∙ once_more (open_row a Write) l.p l.writing l.invariant.0.0 l.invariant.1,
       c.before.before.before.before.before.before.join-in-loop-p.ensures ∙ ap (λ (k : ℕ). wordwise bit_or l.reading (row_in a k)) (reads k).reading_at-r.ensures.0
-          ∙ once_more (open_row a Read) l.p l.reading l.inv.0.0 l.inv.2,
+          ∙ once_more (open_row a Read) l.p l.reading l.invariant.0.0 l.invariant.2,
       m.join-in-loop-p-2.ensures ∙ ap (λ (k : ℕ). wordwise bit_or l.inquiring (row_in a k)) c.before.before.before.before.inquiring_at-i.ensures.0
-          ∙ once_more (open_row a Inquiry) l.p l.inquiring l.inv.0.0 l.inv.3,
-      j.join.auto.s ∙ l.inv.4,
-      c.before.before.before.before.before.before.join-in-loop-p.auto.s ∙ l.inv.5,
-      m.join-in-loop-p-2.auto.s ∙ l.inv.6,
+          ∙ once_more (open_row a Inquiry) l.p l.inquiring l.invariant.0.0 l.invariant.3,
+      j.join.auto.s ∙ l.invariant.4,
+      c.before.before.before.before.before.before.join-in-loop-p.auto.s ∙ l.invariant.5,
+      m.join-in-loop-p-2.auto.s ∙ l.invariant.6,
     )
 
 returns : tie.Need-returns invariant-loop decreases-loop
