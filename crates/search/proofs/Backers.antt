@@ -40,6 +40,7 @@ module _ (s t : ℕ → Bool) where
   -- as many: the second has no more
   pub keep-covers : (l : List ℕ) → Within l → length (keep t l) ≤ length (keep s l) → (a : ℕ) → a ∈ l → t a ≡ true → s a ≡ true
   unfolding keep
+  keep-covers [] f h a m e = elim m [ ]
   keep-covers (x ∷ l) f h a m e =
       let w = keep-within l (λ c i. f c (Memᴰ.tail i)) in
       by_test (s x)
