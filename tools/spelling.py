@@ -13,7 +13,7 @@ import re
 import sys
 
 CHAR = r"[^\s(){}\[\],;.@\"«»`]"
-DECLARED = re.compile(r"(?m)^((?:abbrev |unfoldable |pub |data |record |ruleset )*)(" + CHAR + r"+)(?: +[^:=\n]*)? :(?:\s|$)")
+DECLARED = re.compile(r"(?m)^ *((?:abbrev |unfoldable |pub |data |record |ruleset )*)(" + CHAR + r"+)(?: +[^:=\n]*)? :(?:\s|$)")
 FIELD = re.compile(r"(?m)^\s+(" + CHAR + r"+) : ")
 # `is_loop` is a field of a record of theorems already
 CHOSEN = {"isLoop": "is_loop_of"}
@@ -35,7 +35,7 @@ def declared(root):
     for path in antt(root):
         text = re.sub(r"--[^\n]*", "", open(path).read())
         to = local if by_hand(path) else shared
-        to.update(m[2] for m in DECLARED.finditer(text))
+        to.update(m[2] for m in DECLARED.finditer(text) if not by_hand(path) or not m[0].startswith(" "))
         for block in re.split(r"(?m)^(?=\S)", text):
             if re.match(r"(pub )?(data|record) .* where\s*$", block.split("\n")[0]):
                 fields.update(m[1] for m in FIELD.finditer(block))

@@ -15,10 +15,10 @@ use Rattle.rules.specs.Checks.{leave_check, return_check}
 use Rattle.rules.specs.Calls.{finish, count_leave}
 use Rattle.theory.specs.Programs.{put, put_other}
 use Rattle.theory.specs.Loose.{Loose, Counts, Good}
-use Rattle.theory.specs.Records.{ItemOwn, none_item, records-release}
+use Rattle.theory.specs.Records.{ItemOwn, none_item, records_release}
 use Rattle.theory.specs.Settling.{hand_ready}
 use Rattle.theory.specs.Calls.{leave_may, leave_left, return_may, item-loose, item-counted, item-put}
-use Rattle.theory.specs.Ready.{leave_room, return-room}
+use Rattle.theory.specs.Ready.{leave_room, return_room}
 use Rattle.settling.specs.Writing.{Written, after, Fits}
 use Rattle.settling.proofs.Laws.{after_then}
 use Rattle.apply.specs.Replies.{wrote, replied, Handing}
@@ -34,8 +34,8 @@ module _ (w h : Written) (b : Board) (p f r : ℕ) (e : w ≡ wrote b (line Word
   handed : h ≡ after w (hand_on b f r)
   handed = d ∙ ap (λ (y : Written). after w (hand_on y.board f r)) e
 
-  pub handed-settles : Loose h.board × Counts h.board × Fits h (settle h.board)
-  handed-settles = let a = hand_ready b f r x.loose x.counted x.records in let m = x.room in
+  pub handed_settles : Loose h.board × Counts h.board × Fits h (settle h.board)
+  handed_settles = let a = hand_ready b f r x.loose x.counted x.records in let m = x.room in
       let l = length-append (hand_on b f r).lines (settle (hand_on b f r).board).lines in
       subst (λ (y : Written). Loose y.board × Counts y.board × Fits y (settle y.board)) (sym handed)
       (a.0, a.1, let n = ap (λ (y : Written). y.count) e in omega arith)
@@ -66,7 +66,7 @@ return_hands b c p f r d x y g e = let m = return_may b p e in let q = set_item 
     (subst (λ (n : ℕ). Handing (set_program b p q) (at b p).file n) (sym y) (record {
       loose = item-loose b p 0 0 g m.is m.runs;
       counted = item-counted b p 0 0 g m.is m.runs;
-      records = records-release b.programs (put b.programs p q) p m.is (λ i j n. put_other b.programs p i q m.is j n)
+      records = records_release b.programs (put b.programs p q) p m.is (λ i j n. put_other b.programs p i q m.is j n)
           (subst ItemOwn (sym s) (none_item q refl refl)) (ap (λ (z : Program). z.item) s) m.runs g.counts.records;
-      room = return-room b g.loose.base.size (sound_of b g) p e;
+      room = return_room b g.loose.base.size (sound_of b g) p e;
     })))

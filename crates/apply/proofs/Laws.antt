@@ -39,16 +39,16 @@ use Rattle.theory.specs.Loose.{Loose, Counts, Good}
 use Rattle.theory.specs.Sound.{sound_iff, sound_good, good_sound}
 use Rattle.theory.specs.Calls.{apply-accepted, apply-refused, failed_passed, open_may, fetch_may, crowd}
 use Rattle.theory.specs.Worked.{accepted_answer}
-use Rattle.theory.specs.Ready.{Ready, entry-room, waiting-room, close-ready, drop-ready, cancel-ready, leaves-room}
+use Rattle.theory.specs.Ready.{Ready, entry-room, waiting_room, close_ready, drop-ready, cancel-ready, leaves-room}
 use Rattle.parts.specs.Entries.{Entries, IsEntries, no_entries, lines_in, entry_of}
-use Rattle.parts.proofs.Lined.{lines-set, entries_set, fresh_entries, no-lines_padded}
+use Rattle.parts.proofs.Lined.{lines-set, entries_set, fresh_entries, no_lines_padded}
 use Rattle.store.specs.declared.Seat.{Seat}
 use Rattle.store.specs.declared.Rest.{Rest}
 use Rattle.store.specs.Sets.{Sets, IsStore, open_at, claims_at, opens_at}
 use Rattle.store.specs.Store.{seat_at, seat_of, with_waiting, with_favour, with_passed, board_of}
 use Rattle.store.proofs.Laws.{open_is, claims-is}
 use Rattle.store.proofs.Boards.{board-size, board-sets}
-use Rattle.store.proofs.Changing.{seat-is}
+use Rattle.store.proofs.Changing.{seat_is}
 use Rattle.search.specs.declared.Search.{Search}
 use Rattle.search.specs.declared.Order.{Order}
 use Rattle.search.specs.Rows.{as_order}
@@ -66,8 +66,8 @@ module _ (b : Board) (c : Call) where
   pub apply-passed : checked b c ≡ Check.Passed → accepted b c ≡ apply b c
   apply-passed e = sym (apply-accepted b c e)
 
-  pub apply-failed : (r : Refusal) → checked b c ≡ Check.Failed r → refuse b r ≡ apply b c
-  apply-failed r e = sym (apply-refused b c r e)
+  pub apply_failed : (r : Refusal) → checked b c ≡ Check.Failed r → refuse b r ≡ apply b c
+  apply_failed r e = sym (apply-refused b c r e)
 
 unless-same : (b : Board) (k : Check) (r : Reply) → refused r.answer ≡ false → refused (unless b k r).answer ≡ true → (unless b k r).board ≡ b
 unfolding refuse reply
@@ -144,40 +144,40 @@ module _ (sets : Sets) (q : Rest) (p : ℕ) (h : 1 ≤ p) (k : p ≤ 32) (st : I
   abbrev b : Board
   b = board_of sets q
 
-  claims-are : (f : ℕ) → claims_at sets f Write p ≡ claims (at b p) f
-  claims-are f = claims-is b sets (board-sets sets q st) f p Write h k
+  claims_are : (f : ℕ) → claims_at sets f Write p ≡ claims (at b p) f
+  claims_are f = claims-is b sets (board-sets sets q st) f p Write h k
 
-  opens-are : (f : ℕ) → opens_at sets f p ≡ has_open (at b p) f
-  opens-are f = same_mode _ _ (λ m. ap (λ (x : FileSet). member x f) (open_is b sets (board-sets sets q st) p h k m))
+  opens_are : (f : ℕ) → opens_at sets f p ≡ has_open (at b p) f
+  opens_are f = same_mode _ _ (λ m. ap (λ (x : FileSet). member x f) (open_is b sets (board-sets sets q st) p h k m))
 
   inquires : (f : ℕ) → member (open_at sets p Inquiry) f ≡ member (at b p).inquiring f
   inquires f = ap (λ (x : FileSet). member x f) (open_is b sets (board-sets sets q st) p h k Inquiry)
 
   seated : seat_at q p ≡ seat_of (at b p)
-  seated = sym (seat-is sets q p h k st)
+  seated = sym (seat_is sets q p h k st)
 
   abbrev busy : Check → Check
   busy next = unless_busy (seat_of (at b p)) next
 
-  abbrev claimCheck : ℕ → Check
-  claimCheck f = busy (refuse_if (not (claims (at b p) f)) Refusal.NotClaimed (refuse_if (has_open (at b p) f) Refusal.IsOpen Check.Passed))
+  abbrev claim_check : ℕ → Check
+  claim_check f = busy (refuse_if (not (claims (at b p) f)) Refusal.NotClaimed (refuse_if (has_open (at b p) f) Refusal.IsOpen Check.Passed))
 
-  abbrev useCheck : ℕ → Check
-  useCheck f = busy (refuse_if (not (has_open (at b p) f)) Refusal.NotOpen Check.Passed)
+  abbrev use_check : ℕ → Check
+  use_check f = busy (refuse_if (not (has_open (at b p) f)) Refusal.NotOpen Check.Passed)
 
-  abbrev inquiryCheck : ℕ → Check
-  inquiryCheck f = busy (refuse_if (not (member (at b p).inquiring f)) Refusal.NoRecord Check.Passed)
+  abbrev inquiry_check : ℕ → Check
+  inquiry_check f = busy (refuse_if (not (member (at b p).inquiring f)) Refusal.NoRecord Check.Passed)
 
-  near-claim : (f : ℕ) → unless_busy (seat_at q p) (claim_check_at sets p f) ≡ claimCheck f
-  near-claim f = ap (λ (s : Seat). unless_busy s (claim_check_at sets p f)) seated
-      ∙ ap₂ (λ (c o : Bool). busy (refuse_if (not c) Refusal.NotClaimed (refuse_if o Refusal.IsOpen Check.Passed))) (claims-are f) (opens-are f)
+  near_claim : (f : ℕ) → unless_busy (seat_at q p) (claim_check_at sets p f) ≡ claim_check f
+  near_claim f = ap (λ (s : Seat). unless_busy s (claim_check_at sets p f)) seated
+      ∙ ap₂ (λ (c o : Bool). busy (refuse_if (not c) Refusal.NotClaimed (refuse_if o Refusal.IsOpen Check.Passed))) (claims_are f) (opens_are f)
 
-  near-use : (f : ℕ) → unless_busy (seat_at q p) (use_check_at sets p f) ≡ useCheck f
-  near-use f = ap (λ (s : Seat). unless_busy s (use_check_at sets p f)) seated
-      ∙ ap (λ (o : Bool). busy (refuse_if (not o) Refusal.NotOpen Check.Passed)) (opens-are f)
+  near_use : (f : ℕ) → unless_busy (seat_at q p) (use_check_at sets p f) ≡ use_check f
+  near_use f = ap (λ (s : Seat). unless_busy s (use_check_at sets p f)) seated
+      ∙ ap (λ (o : Bool). busy (refuse_if (not o) Refusal.NotOpen Check.Passed)) (opens_are f)
 
-  near-inquiry : (f : ℕ) → unless_busy (seat_at q p) (inquiry_check_at sets p f) ≡ inquiryCheck f
-  near-inquiry f = ap (λ (s : Seat). unless_busy s (inquiry_check_at sets p f)) seated
+  near_inquiry : (f : ℕ) → unless_busy (seat_at q p) (inquiry_check_at sets p f) ≡ inquiry_check f
+  near_inquiry f = ap (λ (s : Seat). unless_busy s (inquiry_check_at sets p f)) seated
       ∙ ap (λ (o : Bool). busy (refuse_if (not o) Refusal.NoRecord Check.Passed)) (inquires f)
 
   -- in range: the seat, then the other checks
@@ -185,44 +185,44 @@ module _ (sets : Sets) (q : Rest) (p : ℕ) (h : 1 ≤ p) (k : p ≤ 32) (st : I
     abbrev ranged : is_program p ≡ true
     ranged = is_number_lem 32 p h k
 
-    near-open : file_first f (unless_busy (seat_at q p) (claim_check_at sets p f)) ≡ open_check b p m
+    near_open : file_first f (unless_busy (seat_at q p) (claim_check_at sets p f)) ≡ open_check b p m
     unfolding open_check
-    near-open = ap (file_first f) (near-claim f) ∙ file_first_lem m f (is_program p) claimCheck ranged number
+    near_open = ap (file_first f) (near_claim f) ∙ file_first_lem m f (is_program p) claim_check ranged number
 
-    near-close : file_first f (unless_busy (seat_at q p) (use_check_at sets p f)) ≡ close_check b p m
+    near_close : file_first f (unless_busy (seat_at q p) (use_check_at sets p f)) ≡ close_check b p m
     unfolding close_check
-    near-close = ap (file_first f) (near-use f) ∙ file_first_lem m f (is_program p) useCheck ranged number
+    near_close = ap (file_first f) (near_use f) ∙ file_first_lem m f (is_program p) use_check ranged number
 
-    near-fetch : file_first f (record_first n (unless_busy (seat_at q p) (inquiry_check_at sets p f))) ≡ fetch_check b p m i
+    near_fetch : file_first f (record_first n (unless_busy (seat_at q p) (inquiry_check_at sets p f))) ≡ fetch_check b p m i
     unfolding fetch_check
-    near-fetch = ap (λ (c : Check). file_first f (record_first n c)) (near-inquiry f) ∙ ap (file_first f) (record_first_lem i n (inquiryCheck f) numbered)
-        ∙ file_first_lem m f (is_program p) (λ (g : ℕ). refuse_if (not (is_record i)) Refusal.BadRecord (inquiryCheck g)) ranged number
+    near_fetch = ap (λ (c : Check). file_first f (record_first n c)) (near_inquiry f) ∙ ap (file_first f) (record_first_lem i n (inquiry_check f) numbered)
+        ∙ file_first_lem m f (is_program p) (λ (g : ℕ). refuse_if (not (is_record i)) Refusal.BadRecord (inquiry_check g)) ranged number
 
-    near-enter : entry_check (at b p).standing c ≡ checked b (entering p c)
+    near_enter : entry_check (at b p).standing c ≡ checked b (entering p c)
     unfolding enter_check
-    near-enter = rw ranged
+    near_enter = rw ranged
 
-    near-leave : unless_running (at b p).standing Check.Passed ≡ leave_check b p
+    near_leave : unless_running (at b p).standing Check.Passed ≡ leave_check b p
     unfolding leave_check
-    near-leave = rw ranged
+    near_leave = rw ranged
 
-    near-cancel : unless_stopped (at b p).standing Check.Passed ≡ cancel_check b p
+    near_cancel : unless_stopped (at b p).standing Check.Passed ≡ cancel_check b p
     unfolding cancel_check
-    near-cancel = rw ranged
+    near_cancel = rw ranged
 
-    near-return : unless_running (at b p).standing (returned_check (at b p).item) ≡ return_check b p
+    near_return : unless_running (at b p).standing (returned_check (at b p).item) ≡ return_check b p
     unfolding return_check
-    near-return = rw ranged
+    near_return = rw ranged
 
-    pub checked-near : (v : Verb) → near_check sets p (seat_at q p) f n v c ≡ checked b (call_with v p m i c)
-    checked-near Verb.Enter = ap (λ (s : Seat). entry_check s.standing c) seated ∙ near-enter
-    checked-near Verb.Open = near-open
-    checked-near Verb.Close = near-close
-    checked-near Verb.Drop = near-open
-    checked-near Verb.Leave = ap (λ (s : Seat). unless_running s.standing Check.Passed) seated ∙ near-leave
-    checked-near Verb.Cancel = ap (λ (s : Seat). unless_stopped s.standing Check.Passed) seated ∙ near-cancel
-    checked-near Verb.Fetch = near-fetch
-    checked-near Verb.Return = ap (λ (s : Seat). unless_running s.standing (returned_check s.item)) seated ∙ near-return
+    pub checked_near : (v : Verb) → near_check sets p (seat_at q p) f n v c ≡ checked b (call_with v p m i c)
+    checked_near Verb.Enter = ap (λ (s : Seat). entry_check s.standing c) seated ∙ near_enter
+    checked_near Verb.Open = near_open
+    checked_near Verb.Close = near_close
+    checked_near Verb.Drop = near_open
+    checked_near Verb.Leave = ap (λ (s : Seat). unless_running s.standing Check.Passed) seated ∙ near_leave
+    checked_near Verb.Cancel = ap (λ (s : Seat). unless_stopped s.standing Check.Passed) seated ∙ near_cancel
+    checked_near Verb.Fetch = near_fetch
+    checked_near Verb.Return = ap (λ (s : Seat). unless_running s.standing (returned_check s.item)) seated ∙ near_return
 
 -- the check after one that has let pass
 refuse-next : (t : Bool) (r : Refusal) (next : Check) → refuse_if t r next ≡ Check.Passed → next ≡ Check.Passed
@@ -236,8 +236,8 @@ module _ (b : Board) (p f m n i : ℕ) (c : Claims) (number : f ≡ number_if (i
       by_test (is_file m) (λ e. rw e at number)
       (λ e. failed_passed Refusal.OutOfRange (rw (no_file (is_program p) m e) at k))
 
-  passed-record : (next : Check) → refuse_if (not (is_record i)) Refusal.BadRecord next ≡ Check.Passed → n ≡ i
-  passed-record next k = by_test (is_record i) (λ e. rw e at numbered) (λ e. failed_passed Refusal.BadRecord (rw e at k))
+  passed_record : (next : Check) → refuse_if (not (is_record i)) Refusal.BadRecord next ≡ Check.Passed → n ≡ i
+  passed_record next k = by_test (is_record i) (λ e. rw e at numbered) (λ e. failed_passed Refusal.BadRecord (rw e at k))
 
   -- so the call is that with their numbers
   pub call_same : (v : Verb) → checked b (call_with v p m i c) ≡ Check.Passed → call_with v p f n c ≡ call_with v p m i c
@@ -249,12 +249,12 @@ module _ (b : Board) (p f m n i : ℕ) (c : Claims) (number : f ≡ number_if (i
   call_same Verb.Leave k = refl
   call_same Verb.Cancel k = refl
   call_same Verb.Fetch k = ap₂ (Fetch p) (passed-file _ k)
-      (passed-record _ (refuse-next (not (is_program p && is_file m)) Refusal.OutOfRange _ k))
+      (passed_record _ (refuse-next (not (is_program p && is_file m)) Refusal.OutOfRange _ k))
   call_same Verb.Return k = refl
 
 pub apply_far : (b : Board) (a : Asked) → is_program a.program ≡ false → refuse b Refusal.OutOfRange ≡ apply b (call_of a)
 apply_far b a e =
-    apply-failed b (call_of a) Refusal.OutOfRange (checked_far b a.verb a.program a.file a.item a.claims e)
+    apply_failed b (call_of a) Refusal.OutOfRange (checked_far b a.verb a.program a.file a.item a.claims e)
 
 -- ---- replies
 
@@ -292,7 +292,7 @@ first_entries e x l k z = subst (λ (y : List ℕ). IsEntries (set e 0 y)) (sym 
 
 -- none is written
 pub none-lines : (b : Board) (e : Entries) → e ≡ no_entries → ◌≡◌ {A = Written} (record { board = b; lines = lines_in e; count = 0 }) (wrote b [])
-none-lines b e k = ap (λ (y : List Line). record { board = b; lines = y; count = 0 }) (ap lines_in k ∙ no-lines_padded)
+none-lines b e k = ap (λ (y : List Line). record { board = b; lines = y; count = 0 }) (ap lines_in k ∙ no_lines_padded)
 
 -- ---- lines after a line
 
@@ -347,10 +347,10 @@ module _ (sets : Sets) (r : Rest) where
     entry-room (board_of sets r) (board-size sets r) (sound_of (board_of sets r) g) p c.writable c.readable c.inquirable e,
   )
 
-  pub waiting-free : (p f : ℕ) → Good (board_of sets r) → open_check (board_of sets r) p f ≡ Check.Passed
+  pub waiting_free : (p f : ℕ) → Good (board_of sets r) → open_check (board_of sets r) p f ≡ Check.Passed
       → (r.waiting ≡ padded 0 (names r.waiting)) × (length (names r.waiting) < 32)
   unfolding board_of
-  waiting-free p f g e = (g.loose.waits.form, waiting-room (board_of sets r) (board-size sets r) (sound_of (board_of sets r) g) p f e)
+  waiting_free p f g e = (g.loose.waits.form, waiting_room (board_of sets r) (board-size sets r) (sound_of (board_of sets r) g) p f e)
 
   pub fetching-free : (p f n : ℕ) → Good (board_of sets r) → fetch_check (board_of sets r) p f n ≡ Check.Passed
       → (r.waiting ≡ padded 0 (names r.waiting)) × (length (names r.waiting) < 32)
@@ -363,7 +363,7 @@ module _ (sets : Sets) (r : Rest) where
   leaves-few g = leaves-room (board_of sets r) (board-size sets r) (sound_of (board_of sets r) g)
 
 pub close_settles : (b c : Board) (p f : ℕ) → c ≡ set_program b p (closing (at b p) f) → Good b → close_check b p f ≡ Check.Passed → Ready c
-close_settles b c p f k g e = subst Ready (sym k) (close-ready b g.loose.base.size (sound_of b g) p f e)
+close_settles b c p f k g e = subst Ready (sym k) (close_ready b g.loose.base.size (sound_of b g) p f e)
 
 pub drop_settles : (b c : Board) (p f : ℕ) → c ≡ set_program b p (dropping (at b p) f) → Good b → open_check b p f ≡ Check.Passed → Ready c
 drop_settles b c p f k g e = subst Ready (sym k) (drop-ready b g.loose.base.size (sound_of b g) p f e)
@@ -375,10 +375,10 @@ cancel_settles b c p k g e = subst Ready (sym k) (cancel-ready b g.loose.base.si
 
 module _ (sets : Sets) (r : Rest) (b : Board) (e : board_of sets r ≡ b) where
   -- out of the waiting line, and the count of p is 0
-  pub with-cancelled : (p : ℕ) (l n : List ℕ) → l ≡ padded 0 n
+  pub with_cancelled : (p : ℕ) (l n : List ℕ) → l ≡ padded 0 n
       → board_of sets (with_passed (with_waiting r l) (set r.passed (p - 1) 0)) ≡ uncount (set_waiting b n) p
   unfolding board_of
-  with-cancelled p l n k = ap (λ (y : List ℕ). board_of sets (with_passed (with_waiting r y) (set r.passed (p - 1) 0))) k
+  with_cancelled p l n k = ap (λ (y : List ℕ). board_of sets (with_passed (with_waiting r y) (set r.passed (p - 1) 0))) k
       ∙ ap (λ (x : Board). uncount (set_waiting x n) p) e
 
 module _ (sets : Sets) (r : Rest) where
@@ -409,9 +409,9 @@ module _ (b : Board) (p : ℕ) (v q j : FileSet) where
   unfolding enter
   enter-held e = rw (ne_eqb b.favoured 0 e)
 
-  pub enter-for : (w : ℕ) → b.favoured ≡ 0 → overdue b ≡ some w → hold_for b p v q j w ≡ enter b p v q j
+  pub enter_for : (w : ℕ) → b.favoured ≡ 0 → overdue b ≡ some w → hold_for b p v q j w ≡ enter b p v q j
   unfolding enter
-  enter-for w e o = rw (eq-eqb b.favoured 0 e, o)
+  enter_for w e o = rw (eq-eqb b.favoured 0 e, o)
 
   pub enter-runs : b.favoured ≡ 0 → overdue b ≡ none → reply (admit b p v q j) Answer.Admit (line Word.Admit p 0 ∷ []) ≡ enter b p v q j
   unfolding enter
@@ -451,9 +451,9 @@ module _ (b : Board) (p f : ℕ) where
   open_given u s = rw (u, s)
 
   -- no order comes back with f given
-  pub not-safe : (r : Order) → r ≡ as_order (carried (with_given b p f)) → r.kind ≡ Search.Stuck → safe b p f ≡ false
+  pub not_safe : (r : Order) → r ≡ as_order (carried (with_given b p f)) → r.kind ≡ Search.Stuck → safe b p f ≡ false
   unfolding safe
-  not-safe r o k = ap found (order-none (carried (with_given b p f)) r o k)
+  not_safe r o k = ap found (order-none (carried (with_given b p f)) r o k)
 
   -- an order does
   pub is-safe : (r : Order) (n : ℕ) → r ≡ as_order (carried (with_given b p f)) → r.kind ≡ Search.Found n → safe b p f ≡ true

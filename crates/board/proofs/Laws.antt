@@ -34,10 +34,10 @@ use Rattle.board.specs.Parts.{fed-append, fed-flushed}
 
 -- ---- where a line ends
 
-pub line-goes_on : (s : List ℕ) (i : ℕ) → i < length s → (get_or s i 0 ≡ 10 → ⊥)
+pub line_goes_on : (s : List ℕ) (i : ℕ) → i < length s → (get_or s i 0 ≡ 10 → ⊥)
     → length (first_line (drop i s)) ≡ 1 + length (first_line (drop (i + 1) s))
 unfolding first_line
-line-goes_on s i h n = rw (drop-cons s i 0 h, ne_eqb (get_or s i 0) 10 n, add-one i) (omega arith)
+line_goes_on s i h n = rw (drop-cons s i 0 h, ne_eqb (get_or s i 0) 10 n, add-one i) (omega arith)
 
 pub line-ends : (s : List ℕ) (i : ℕ) → i < length s → get_or s i 0 ≡ 10 → length (first_line (drop i s)) ≡ 0
 unfolding first_line
@@ -140,16 +140,16 @@ fed-line b line j (x ∷ l) n h e k =
 -- the same in a part of the input, where the line begins at one place and ends at another
 module _ (s : Fed) (b : Board) (line j part : List ℕ) (at end : ℕ)
     (short : length line ≤ cut_line) (ends : end ≡ at + length (first_line (drop at part))) (so : held b line j ≡ fed s (take at part)) where
-  pub part-ends : end ≡ length part → held b (take cut_line (line ++ take (end - at) (drop at part))) j ≡ fed s (take end part)
-  part-ends e =
+  pub part_ends : end ≡ length part → held b (take cut_line (line ++ take (end - at) (drop at part))) j ≡ fed s (take end part)
+  part_ends e =
       let n = length-drop at part in
       rw (take_all (end - at) (drop at part) (omega arith)) (sym (fed_part b line j (drop at part) short (omega arith))
       ∙ ap (λ (t : Fed). fed t (drop at part)) so
       ∙ sym (fed-append s (take at part) (drop at part))
       ∙ ap (fed s) (take-append-drop at part ∙ sym (take_all end part (omega arith))))
 
-  pub part-line : end < length part → served (held b (take cut_line (line ++ take (end - at) (drop at part))) j) ≡ fed s (take (end + 1) part)
-  part-line h =
+  pub part_line : end < length part → served (held b (take cut_line (line ++ take (end - at) (drop at part))) j) ≡ fed s (take (end + 1) part)
+  part_line h =
       let n = length-drop at part in
       let a : at + suc (end - at) ≡ end + 1 = omega arith in
       sym (fed-line b line j (drop at part) (end - at) short (omega arith) (omega arith))

@@ -41,8 +41,8 @@ carries_loop b r l u h c (inl e) =
     let o = unsafe_open b c (ap (λ (x : Reply). is_unsafe x.answer) (sym e) ∙ u) in
     let p = o.program in
     let told : get_or r.lines 0 blank ≡ _ = ap (λ (x : Reply). get_or x.lines 0 blank) e ∙ o.told in
-    let g = subst (λ (x : Line). LoopWith b x l) told h (and_left (is_program p) (is_admitted (at b p).standing) o.is-in) (claims_file (at b p) o.file o.claimed) in
-    rw u (ap (λ (x : Call). loop_for b x (named l)) o.call ∙ given_by b p o.file l g o.is-in o.claimed o.unsafe)
+    let g = subst (λ (x : Line). LoopWith b x l) told h (and_left (is_program p) (is_admitted (at b p).standing) o.is_in_lem) (claims_file (at b p) o.file o.claimed) in
+    rw u (ap (λ (x : Call). loop_for b x (named l)) o.call ∙ given_by b p o.file l g o.is_in_lem o.claimed o.unsafe)
 
 -- a loop found with the file given that a waiter of a sound board waits for
 pub waiter_found : (b : Board) (p f : ℕ) (l : Loop) → sound b ≡ true → Is p → is_waiting (at b p).standing ≡ true → (at b p).item ≡ 0

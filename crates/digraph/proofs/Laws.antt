@@ -20,7 +20,7 @@ use Rattle.rules.specs.Boards.{is_program, everyone, at}
 use Rattle.rules.specs.Orders.{holds_back}
 use Rattle.rules.specs.Digraph.{is_in, step, paths, reaches}
 use Rattle.theory.specs.Programs.{Is, is_of, of_is}
-use Rattle.theory.specs.Matrix.{step-iff, reaches_all, mem_in}
+use Rattle.theory.specs.Matrix.{step_iff, reaches_all, mem_in}
 use Rattle.tables.specs.declared.ProgramSet.{ProgramSet}
 use Rattle.tables.specs.ProgramSets.{has_program, without_program, union_of}
 use Rattle.store.specs.Sets.{Sets, SetsOf, holds_one}
@@ -95,7 +95,7 @@ steps_are b sets s = places_same _ _ 32 0 (λ i h k. by_test (has_program a (suc
     right false v = refl
 
     none : (x p : ℕ) → is_in b p ≡ false → step b x p ≡ false
-    none x p e = no_true (step b x p) (λ t. let (n, m, k, u) = (step-iff b x p).0 t in never (mem_in b p k) e)
+    none x p e = no_true (step b x p) (λ t. let (n, m, k, u) = (step_iff b x p).0 t in never (mem_in b p k) e)
 
     one : (x p : ℕ) → 1 ≤ x → x ≤ 32 → 1 ≤ p → p ≤ 32 → is_in b p ≡ true → holders_of sets p (without_program a p) x ≡ step b x p
     one x p l m h k e = by_test (eqb x p)

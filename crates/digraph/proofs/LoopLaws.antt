@@ -29,12 +29,12 @@ use Rattle.theory.specs.Programs.{Is, is_of, of_is, mem-everyone}
 use Rattle.theory.specs.Carried.{holds_on, carried-sound, of_order}
 use Rattle.theory.specs.Reach.{admitted-mem}
 use Rattle.theory.specs.Loops.{LeadsTo, Closes, test_two, loop_test, is_loop-same, AllHeld, walk, up_to, held_loop, round-held}
-use Rattle.theory.specs.Matrix.{step-iff, reaches-iff, itself_iff}
+use Rattle.theory.specs.Matrix.{step_iff, reaches_iff, itself_iff}
 use Rattle.store.specs.declared.Rest.{Rest}
 use Rattle.store.specs.Sets.{Sets, SetsOf, claims_at, given_at}
 use Rattle.store.specs.Store.{standing_at, board_of}
 use Rattle.store.proofs.Laws.{claims-is}
-use Rattle.store.proofs.Changing.{standing-is, given-board}
+use Rattle.store.proofs.Changing.{standing_is, given-board}
 use Rattle.tables.specs.declared.ProgramSet.{ProgramSet}
 use Rattle.tables.specs.ProgramSets.{has_program, without_program, common_of, IsLowest}
 use Rattle.tables.specs.Tables.{packed, row_of}
@@ -173,9 +173,9 @@ module _ (rows l : List ℕ) (i : ℕ) (s : ProgramSet) (z : ℕ) where
       ∙ ap (λ (t : Bool). t && goes rows (without_program s p) p (drop (suc i) l)) e
       ∙ ap (λ (n : ℕ). goes rows (without_program s p) p (drop n l)) (sym (add-one i))
 
-  pub goes-fail : i < length l → next rows s z (get_or l i 0) ≡ false → goes rows s z (drop i l) ≡ false
+  pub goes_fail : i < length l → next rows s z (get_or l i 0) ≡ false → goes rows s z (drop i l) ≡ false
   unfolding goes
-  goes-fail h e = let p = get_or l i 0 in ap (goes rows s z) (drop-cons l i 0 h)
+  goes_fail h e = let p = get_or l i 0 in ap (goes rows s z) (drop-cons l i 0 h)
       ∙ ap (λ (t : Bool). t && goes rows (without_program s p) p (drop (suc i) l)) e
 
   pub goes_end : length l ≤ i → goes rows s z (drop i l) ≡ true
@@ -184,7 +184,7 @@ module _ (rows l : List ℕ) (i : ℕ) (s : ProgramSet) (z : ℕ) where
 
 -- On a board: the rows of its steps.
 pub step-cell : (b : Board) (rows : List ℕ) → rows ≡ rows_saying (step b) → (x p : ℕ) → cell rows x p ≡ step b x p
-step-cell b rows e = cell_is (step b) rows e (λ x p t. let (n, m, k, u) = (step-iff b x p).0 t in ((admitted-mem b x m).0, (admitted-mem b p k).0))
+step-cell b rows e = cell_is (step b) rows e (λ x p t. let (n, m, k, u) = (step_iff b x p).0 t in ((admitted-mem b x m).0, (admitted-mem b p k).0))
 
 pub loop_on : (b : Board) (rows L : List ℕ) → rows ≡ rows_saying (step b) → is_loop_of (cell rows) L ≡ is_loop_of (step b) L
 loop_on b rows L e = is_loop-same (cell rows) (step b) L (step-cell b rows e)
@@ -211,28 +211,28 @@ module _ (rows : List ℕ) (s : ProgramSet) (x : ℕ) (is_x : is_program x ≡ t
       swap false true = refl
       swap false false = refl
 
-  pub holder-at : (by : ProgramSet) (y : ℕ) → by ≡ common_of (without_program (row_of rows x) x) s → IsLowest by y → y ≡ lowest_holder rows s x
+  pub holder_at : (by : ProgramSet) (y : ℕ) → by ≡ common_of (without_program (row_of rows x) x) s → IsLowest by y → y ≡ lowest_holder rows s x
   unfolding lowest_holder everyone
-  holder-at by y e (a, b, h, l) = sym (ap (λ (o : Option ℕ). Option.get_or o 0) (first_keep (has_program s) holds everyone
+  holder_at by y e (a, b, h, l) = sym (ap (λ (o : Option ℕ). Option.get_or o 0) (first_keep (has_program s) holds everyone
       ∙ first_at (λ y. has_program s y && holds y) 32 1 y a (omega arith) (sym (is y) ∙ h) (λ q k m. sym (is q) ∙ l q m)))
     where
       is : (q : ℕ) → has_program by q ≡ has_program s q && holds q
       is q = ap (λ (z : ProgramSet). has_program z q) e ∙ by-has q
 
-  pub holder-no : (by : ProgramSet) → by ≡ common_of (without_program (row_of rows x) x) s → by.bits ≡ 0 → 0 ≡ lowest_holder rows s x
+  pub holder_no : (by : ProgramSet) → by ≡ common_of (without_program (row_of rows x) x) s → by.bits ≡ 0 → 0 ≡ lowest_holder rows s x
   unfolding lowest_holder everyone
-  holder-no by e z = sym (ap (λ (o : Option ℕ). Option.get_or o 0) (first_keep (has_program s) holds everyone
+  holder_no by e z = sym (ap (λ (o : Option ℕ). Option.get_or o 0) (first_keep (has_program s) holds everyone
       ∙ first_no (λ y. has_program s y && holds y) 32 1 (λ q. sym (ap (λ (w : ProgramSet). has_program w q) e ∙ by-has q)
       ∙ no_true (has_program by q) (λ u. never (has-bit 32 by.bits q u) (ap (λ (m : ℕ). has_bit m (q - 1)) z ∙ zero_has (q - 1))))))
 
-  holder-none : (y : ℕ) → y ≡ lowest_holder rows s x → y ≡ 0 → first holds (list_of s) ≡ none
+  holder_none : (y : ℕ) → y ≡ lowest_holder rows s x → y ≡ 0 → first holds (list_of s) ≡ none
   unfolding lowest_holder
-  holder-none y e z = by_option (first holds (list_of s)) (λ u. u)
+  holder_none y e z = by_option (first holds (list_of s)) (λ u. u)
       (λ q u. let i = (set_is s q (of_mem s q (first_some holds (list_of s) q u).0)).least in let w : y ≡ q = rw u at e in absurd (omega arith))
 
-  holder-some : (y : ℕ) → y ≡ lowest_holder rows s x → y ≢ 0 → first holds (list_of s) ≡ some y
+  holder_some : (y : ℕ) → y ≡ lowest_holder rows s x → y ≢ 0 → first holds (list_of s) ≡ some y
   unfolding lowest_holder
-  holder-some y e n = by_option (first holds (list_of s)) (λ u. let w : y ≡ 0 = rw u at e in absurd (n w))
+  holder_some y e n = by_option (first holds (list_of s)) (λ u. let w : y ≡ 0 = rw u at e in absurd (n w))
       (λ q u. let w : y ≡ q = rw u at e in u ∙ ap some (sym w))
 
 -- ---- places
@@ -285,10 +285,10 @@ module _ (rows : List ℕ) (s : ProgramSet) (x : ℕ) (is_x : is_program x ≡ t
   unfolding walk
   walk_none n c e = rw e
 
-  pub walk-alone : (n : ℕ) (c : List ℕ) (y : ℕ) → n ≢ 0 → y ≡ lowest_holder rows s x → y ≡ 0 → [] ≡ walk (cell rows) (list_of s) n x c
+  pub walk_alone : (n : ℕ) (c : List ℕ) (y : ℕ) → n ≢ 0 → y ≡ lowest_holder rows s x → y ≡ 0 → [] ≡ walk (cell rows) (list_of s) n x c
   unfolding walk
-  walk-alone zero c y m e z = absurd (m refl)
-  walk-alone (suc n) c y m e z = rw (holder-none rows s x is_x y e z)
+  walk_alone zero c y m e z = absurd (m refl)
+  walk_alone (suc n) c y m e z = rw (holder_none rows s x is_x y e z)
 
   module _ (at : List ℕ) (k y j : ℕ) (l : length at ≡ 32) (a : 1 ≤ k) (b : k ≤ 32) (e : y ≡ lowest_holder rows s x) (z : y ≢ 0)
       (p : j ≡ k + place_of y (drop k at)) where
@@ -302,7 +302,7 @@ module _ (rows : List ℕ) (s : ProgramSet) (x : ℕ) (is_x : is_program x ≡ t
         let i : length (drop k at) ≡ length at - k = length-drop k at in
         let q : place_of y (drop k at) < length (drop k at) = omega arith in
         let w : j + 2 - k ≡ suc (suc (place_of y (drop k at))) = omega arith in
-        rw (here-x, w, holder-some rows s x is_x y e z, place-listed y (drop k at) q) (ap (x ∷◌) (place_up_to y (drop k at) q))
+        rw (here-x, w, holder_some rows s x is_x y e z, place-listed y (drop k at) q) (ap (x ∷◌) (place_up_to y (drop k at) q))
 
     pub walk-on : (n : ℕ) → n ≢ 0 → 32 ≤ j
         → walk (cell rows) (list_of s) (n - 1) y (drop (k - 1) (set at (k - 1) x)) ≡ walk (cell rows) (list_of s) n x (drop k at)
@@ -311,45 +311,45 @@ module _ (rows : List ℕ) (s : ProgramSet) (x : ℕ) (is_x : is_program x ≡ t
     walk-on (suc n) m h =
         let i : length (drop k at) ≡ length at - k = length-drop k at in
         let q : length (drop k at) ≤ place_of y (drop k at) = omega arith in
-        rw (here-x, holder-some rows s x is_x y e z, place_unlisted y (drop k at) q, sub-one (suc n))
+        rw (here-x, holder_some rows s x is_x y e z, place_unlisted y (drop k at) q, sub-one (suc n))
 
 -- ---- a loop found
 
 module _ (b : Board) (rows matrix : List ℕ) (f : rows ≡ rows_saying (step b)) (g : matrix ≡ matrix_of b) (s : ProgramSet)
     (e : s ≡ packed (λ p. cell matrix p p) 32) where
-  self-cell : (p : ℕ) → cell matrix p p ≡ reaches b p p
+  self_cell : (p : ℕ) → cell matrix p p ≡ reaches b p p
   unfolding matrix_of
-  self-cell p = cell_is (reaches b) matrix g
-      (λ x q t. let (k, (i, r)) = (reaches-iff b x q).0 t in ((admitted-mem b x i).0, (admitted-mem b q k).0)) p p
+  self_cell p = cell_is (reaches b) matrix g
+      (λ x q t. let (k, (i, r)) = (reaches_iff b x q).0 t in ((admitted-mem b x i).0, (admitted-mem b q k).0)) p p
 
-  self-has : (p : ℕ) → Is p → has_program s p ≡ reaches b p p
-  self-has p i = ap (λ (x : ProgramSet). has_program x p) e ∙ packed-has (λ p. cell matrix p p) 32 p (omega arith) i.least i.most
-      ∙ self-cell p
+  self_has : (p : ℕ) → Is p → has_program s p ≡ reaches b p p
+  self_has p i = ap (λ (x : ProgramSet). has_program x p) e ∙ packed-has (λ p. cell matrix p p) 32 p (omega arith) i.least i.most
+      ∙ self_cell p
 
   pub found_none : s.bits ≡ 0 → found (carried b) ≡ false → ⊥
   found_none z u = let (p, r) = (itself_iff b).1 (λ o c. never (of_order b o c) u) in
-      let i = (admitted-mem b p ((reaches-iff b p p).0 r).0).0 in
-      never (has-bit 32 s.bits p (self-has p i ∙ r)) (ap (λ (m : ℕ). has_bit m (p - 1)) z ∙ zero_has (p - 1))
+      let i = (admitted-mem b p ((reaches_iff b p p).0 r).0).0 in
+      never (has-bit 32 s.bits p (self_has p i ∙ r)) (ap (λ (m : ℕ). has_bit m (p - 1)) z ∙ zero_has (p - 1))
 
   pub found_some : (x : ℕ) → has_program s x ≡ true → found (carried b) ≡ true → ⊥
   found_some x h u = by_option (carried b) (λ v. never u (ap found v))
-      (λ o v. (itself_iff b).0 (x, sym (self-has x (set_is s x h)) ∙ h) o (carried-sound b o v))
+      (λ o v. (itself_iff b).0 (x, sym (self_has x (set_is s x h)) ∙ h) o (carried-sound b o v))
 
   self_mem : (a : ℕ) → a ∈ list_of s → reaches b a a ≡ true
-  self_mem a m = let h = of_mem s a m in sym (self-has a (set_is s a h)) ∙ h
+  self_mem a m = let h = of_mem s a m in sym (self_has a (set_is s a h)) ∙ h
 
   all_held : AllHeld (cell rows) (list_of s)
   unfolding held_in
   all_held a m =
-      let (k, (i, r)) = (reaches-iff b a a).0 (self_mem a m) in
+      let (k, (i, r)) = (reaches_iff b a a).0 (self_mem a m) in
       let (y, q, n, u, t) = round-held (holds_on b) (admitted b) a i r in
       some-any (λ i. not (eqb i a) && cell rows i a) (list_of s) y
-      (mem_of s y (self-has y (admitted-mem b y q).0 ∙ (reaches-iff b y y).1 (q, (q, t))))
-      (and_both (not (eqb y a)) (cell rows y a) (true_not (eqb y a) (ne_eqb y a n)) (step-cell b rows f y a ∙ (step-iff b y a).1 (n, q, i, u)))
+      (mem_of s y (self_has y (admitted-mem b y q).0 ∙ (reaches_iff b y y).1 (q, (q, t))))
+      (and_both (not (eqb y a)) (cell rows y a) (true_not (eqb y a) (ne_eqb y a n)) (step-cell b rows f y a ∙ (step_iff b y a).1 (n, q, i, u)))
 
-  pub found-loop : (x : ℕ) → has_program s x ≡ true → is_loop_of (step b) (walk (cell rows) (list_of s) 32 x []) ≡ true
+  pub found_loop : (x : ℕ) → has_program s x ≡ true → is_loop_of (step b) (walk (cell rows) (list_of s) 32 x []) ≡ true
   unfolding everyone
-  found-loop x h = let L = walk (cell rows) (list_of s) 32 x [] in
+  found_loop x h = let L = walk (cell rows) (list_of s) 32 x [] in
       sym (loop_on b rows L f)
       ∙ loop_test (cell rows) (list_of s) L (held_loop (cell rows) (list_of s) (list_of s) 32 x all_held (λ a m. m) (mem_of s x h)
       (let i = length_keep (has_program s) (rising 32 1) in let j = length-rising 32 1 in omega arith))
@@ -361,34 +361,34 @@ module _ (b : Board) (p f : ℕ) (L : List ℕ) where
   unfolding is_loop_with
   no_program_lem h = rw (no_true (is_program p) (λ t. h (is_of p t)))
 
-  pub not-claimed : claims (at b p) f ≡ false → is_loop_with b p f L ≡ false
+  pub not_claimed : claims (at b p) f ≡ false → is_loop_with b p f L ≡ false
   unfolding is_loop_with
-  not-claimed e = ap (λ (t : Bool). is_in b p && t && is_loop_of (step (with_given b p f)) L) e
+  not_claimed e = ap (λ (t : Bool). is_in b p && t && is_loop_of (step (with_given b p f)) L) e
       ∙ ap (λ (t : Bool). t && is_loop_of (step (with_given b p f)) L) (and_false (is_in b p))
 
   pub no_file : 64 < f → is_loop_with b p f L ≡ false
   unfolding is_loop_with
-  no_file h = not-claimed (no_true (claims (at b p) f) (λ t. let i = most 64 f (claims_file (at b p) f t) in omega arith))
+  no_file h = not_claimed (no_true (claims (at b p) f) (λ t. let i = most 64 f (claims_file (at b p) f t) in omega arith))
 
   pub not_in : is_admitted (at b p).standing ≡ false → is_loop_with b p f L ≡ false
   unfolding is_loop_with
   not_in e = ap (λ (t : Bool). (is_program p && t) && claims (at b p) f && is_loop_of (step (with_given b p f)) L) e
       ∙ ap (λ (t : Bool). t && claims (at b p) f && is_loop_of (step (with_given b p f)) L) (and_false (is_program p))
 
-  pub loop-with : Is p → is_admitted (at b p).standing ≡ true → claims (at b p) f ≡ true → is_loop_of (step (with_given b p f)) L ≡ is_loop_with b p f L
+  pub loop_with : Is p → is_admitted (at b p).standing ≡ true → claims (at b p) f ≡ true → is_loop_of (step (with_given b p f)) L ≡ is_loop_with b p f L
   unfolding is_loop_with
-  loop-with i a k = sym (ap (λ (t : Bool). t && claims (at b p) f && is_loop_of (step (with_given b p f)) L) (and_both (is_program p) _ (of_is p i) a)
+  loop_with i a k = sym (ap (λ (t : Bool). t && claims (at b p) f && is_loop_of (step (with_given b p f)) L) (and_both (is_program p) _ (of_is p i) a)
       ∙ ap (λ (t : Bool). t && is_loop_of (step (with_given b p f)) L) k)
 
 -- ---- a board taken apart
 
 module _ (b : Board) (sets : Sets) (r : Rest) (s : SetsOf b sets) (e : board_of sets r ≡ b) (p : ℕ) (h : 1 ≤ p) (k : p ≤ 32) where
-  pub stands-as : standing_at r p ≡ (at b p).standing
-  stands-as = sym (standing-is sets r p h k s.0) ∙ ap (λ (x : Board). (at x p).standing) e
+  pub stands_as : standing_at r p ≡ (at b p).standing
+  stands_as = sym (standing_is sets r p h k s.0) ∙ ap (λ (x : Board). (at x p).standing) e
 
-  pub claims-as : (f : ℕ) → claims_at sets f Write p ≡ claims (at b p) f
-  claims-as f = claims-is b sets s f p Write h k
+  pub claims_as : (f : ℕ) → claims_at sets f Write p ≡ claims (at b p) f
+  claims_as f = claims-is b sets s f p Write h k
 
-  pub given-as : (f : ℕ) → board_of (given_at sets p f) r ≡ with_given b p f
+  pub given_as : (f : ℕ) → board_of (given_at sets p f) r ≡ with_given b p f
   unfolding with_given
-  given-as f = given-board sets r p f h k s.0 ∙ ap (λ (x : Board). set_program x p (opening (at x p) f)) e
+  given_as f = given-board sets r p f h k s.0 ∙ ap (λ (x : Board). set_program x p (opening (at x p) f)) e

@@ -211,8 +211,8 @@ fill_all d v k e =
 
 -- of words x whose bits are the places that pass t: some word below n is not 0 exactly when some place below 64 * n passes
 module _ (x : ℕ → ℕ) (t : ℕ → Bool) (bits : (k j : ℕ) → j < 64 → has_bit (x k) j ≡ t (64 * k + j)) where
-  pub words-test : (n : ℕ) → ((k : ℕ) × (k < n) × (x k % 2 ^ 64 ≢ 0)) ↔ ((i : ℕ) × (i < 64 * n) × (t i ≡ true))
-  words-test n = (
+  pub words_test : (n : ℕ) → ((k : ℕ) × (k < n) × (x k % 2 ^ 64 ≢ 0)) ↔ ((i : ℕ) × (i < 64 * n) × (t i ≡ true))
+  words_test n = (
     λ (k, h, z). let (j, e) = some_has (x k % 2 ^ 64) z in let b : x k % 2 ^ 64 < 2 ^ 64 = omega arith in
         let l = high-has 64 (x k % 2 ^ 64) j b e in
         (64 * k + j, omega arith, sym (bits k j l) ∙ sym (mod_has 64 (x k) j l) ∙ e),
@@ -229,7 +229,7 @@ pub record Words (x : ℕ → ℕ) (y n : ℕ) : Type 0 where
 -- a number is 0 exactly if its words are
 module _ {x : ℕ → ℕ} {y n : ℕ} (p : Words x y n) where
   places : ((k : ℕ) × (k < n) × (x k % 2 ^ 64 ≢ 0)) ↔ ((i : ℕ) × (i < 64 * n) × (has_bit y i ≡ true))
-  places = words-test x (λ i. has_bit y i)
+  places = words_test x (λ i. has_bit y i)
       (λ k j h. let d : (64 * k + j) / 64 ≡ k = omega arith in let r : (64 * k + j) % 64 ≡ j = omega arith in
       sym (p.bits (64 * k + j) ∙ ap₂ (λ (a b : ℕ). has_bit (x a) b) d r)) n
 

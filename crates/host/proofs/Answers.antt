@@ -34,9 +34,9 @@ use Rattle.host.proofs.Laws.{number_some}
 
 -- ---- answers and readings
 
-pub by-reading : {C : Type 0} (r : Reading) → (r ≡ Reading.Taken → C) → ((n : Refusal) → r ≡ Reading.Refused n → C) → C
-by-reading Reading.Taken f g = f refl
-by-reading (Reading.Refused n) f g = g n refl
+pub by_reading : {C : Type 0} (r : Reading) → (r ≡ Reading.Taken → C) → ((n : Refusal) → r ≡ Reading.Refused n → C) → C
+by_reading Reading.Taken f g = f refl
+by_reading (Reading.Refused n) f g = g n refl
 
 -- an answer that is no refusal has no number
 pub accepted-number : (a : Answer) → refused a ≡ false → refusal_of a ≡ 0
@@ -118,7 +118,7 @@ pub first-line : (b : Board) (l : List ℕ) → (ls : List Line) × (lines_for (
 unfolding reply_to refuse reply
 first-line b l =
     by_test (eqb (refusal_of (reply_to b (request_of l)).answer) 0)
-    (λ z. by-reading (request_of l).reading
+    (λ z. by_reading (request_of l).reading
     (λ t. let e : reply_to b (request_of l) ≡ direct b (request_call (request_of l)) = ap (λ (x : Reading). reply_by b x (request_call (request_of l))) t in (
       settling_lines (reply_to b (request_of l)),
       subst (λ (r : Reply). lines_for (request_of l) r ≡ answer_line (request_of l) r.answer ∷ settling_lines r)

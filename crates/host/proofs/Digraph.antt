@@ -30,18 +30,18 @@ unfolding bytes_n
 row-length n = refl
 
 module _ (image buffer : List ℕ) (k : Loaded) (e : k ≡ read_image image) where
-  pub reach-refused : k.ok ≡ false → (reach_answer image buffer ≡ refusal_answer 1) × (reach_rows image buffer ≡ buffer)
+  pub reach_refused : k.ok ≡ false → (reach_answer image buffer ≡ refusal_answer 1) × (reach_rows image buffer ≡ buffer)
   unfolding reach_answer reach_rows
-  reach-refused h = let o = sym (ap (λ (x : Loaded). x.ok) e) ∙ h in (rw o, rw o)
+  reach_refused h = let o = sym (ap (λ (x : Loaded). x.ok) e) ∙ h in (rw o, rw o)
 
-  pub reach-short : k.ok ≡ true → length buffer < 128 → (reach_answer image buffer ≡ refusal_answer 17) × (reach_rows image buffer ≡ buffer)
+  pub reach_short : k.ok ≡ true → length buffer < 128 → (reach_answer image buffer ≡ refusal_answer 17) × (reach_rows image buffer ≡ buffer)
   unfolding reach_answer reach_rows
-  reach-short h l = let o = sym (ap (λ (x : Loaded). x.ok) e) ∙ h in let t = lt-ltb (length buffer) 128 l in (rw (o, t), rw (o, t))
+  reach_short h l = let o = sym (ap (λ (x : Loaded). x.ok) e) ∙ h in let t = lt-ltb (length buffer) 128 l in (rw (o, t), rw (o, t))
 
-  pub reach-written : (rows after : List ℕ) → k.ok ≡ true → 128 ≤ length buffer → rows ≡ matrix_of k.board → after ≡ flat (bytes_n 4) rows ++ drop 128 buffer
+  pub reach_written : (rows after : List ℕ) → k.ok ≡ true → 128 ≤ length buffer → rows ≡ matrix_of k.board → after ≡ flat (bytes_n 4) rows ++ drop 128 buffer
       → (128 ≡ reach_answer image buffer) × (after ≡ reach_rows image buffer)
   unfolding reach_answer reach_rows
-  reach-written rows after h l m a = let o = sym (ap (λ (x : Loaded). x.ok) e) ∙ h in let t = le-ltb (length buffer) 128 l in
+  reach_written rows after h l m a = let o = sym (ap (λ (x : Loaded). x.ok) e) ∙ h in let t = le-ltb (length buffer) 128 l in
       (rw (o, t), rw (o, t) (a ∙ ap (λ (r : List ℕ). flat (bytes_n 4) r ++ drop 128 buffer) (m ∙ ap (λ (x : Loaded). matrix_of x.board) e)))
 
 -- ---- a waiter's loop
@@ -65,13 +65,13 @@ module _ (image : List ℕ) (p : ℕ) (list : List ℕ) (k : Loaded) (e : k ≡ 
     placed = λ u. absurd (m (sym z ∙ u));
   }
 
-  pub loop-refused : (answer : ℕ) → k.ok ≡ false → answer ≡ refusal_answer 1 → LoopReply image p list answer list
+  pub loop_refused : (answer : ℕ) → k.ok ≡ false → answer ≡ refusal_answer 1 → LoopReply image p list answer list
   unfolding loop_refusal
-  loop-refused answer h a = let o = sym (ap (λ (x : Loaded). x.ok) e) ∙ h in reply-refused 1 answer (rw o) (λ z. omega arith) a
+  loop_refused answer h a = let o = sym (ap (λ (x : Loaded). x.ok) e) ∙ h in reply-refused 1 answer (rw o) (λ z. omega arith) a
 
-  pub loop-no-program : (answer : ℕ) → k.ok ≡ true → (Is p → ⊥) → answer ≡ refusal_answer 8 → LoopReply image p list answer list
+  pub loop_no-program : (answer : ℕ) → k.ok ≡ true → (Is p → ⊥) → answer ≡ refusal_answer 8 → LoopReply image p list answer list
   unfolding loop_refusal
-  loop-no-program answer h i a = let o = sym (ap (λ (x : Loaded). x.ok) e) ∙ h in
+  loop_no-program answer h i a = let o = sym (ap (λ (x : Loaded). x.ok) e) ∙ h in
       let t = no_true (is_program p) (λ u. i (is_of p u)) in reply-refused 8 answer (rw (o, t)) (λ z. omega arith) a
 
   pub loop_short : (answer : ℕ) → k.ok ≡ true → Is p → length list < 32 → answer ≡ refusal_answer 17 → LoopReply image p list answer list
@@ -79,10 +79,10 @@ module _ (image : List ℕ) (p : ℕ) (list : List ℕ) (k : Loaded) (e : k ≡ 
   loop_short answer h i l a = let o = sym (ap (λ (x : Loaded). x.ok) e) ∙ h in let t = of_is p i in let u = lt-ltb (length list) 32 l in
       reply-refused 17 answer (rw (o, t, u)) (λ z. omega arith) a
 
-  pub loop-written : (answer : ℕ) (after : List ℕ) → k.ok ≡ true → Is p → 32 ≤ length list → LoopPlaced k.board p list answer after
+  pub loop_written : (answer : ℕ) (after : List ℕ) → k.ok ≡ true → Is p → 32 ≤ length list → LoopPlaced k.board p list answer after
       → LoopReply image p list answer after
   unfolding loop_refusal
-  loop-written answer after h i l c = let o = sym (ap (λ (x : Loaded). x.ok) e) ∙ h in let t = of_is p i in let u = le-ltb (length list) 32 l in record {
+  loop_written answer after h i l c = let o = sym (ap (λ (x : Loaded). x.ok) e) ∙ h in let t = of_is p i in let u = le-ltb (length list) 32 l in record {
     refused = λ n. absurd (n (rw (o, t, u)));
     placed = λ _. subst (λ (x : Loaded). LoopPlaced x.board p list answer after) e c;
   }
@@ -90,9 +90,9 @@ module _ (image : List ℕ) (p : ℕ) (list : List ℕ) (k : Loaded) (e : k ≡ 
 -- ---- the checker
 
 module _ (image : List ℕ) (p f : ℕ) (list : List ℕ) (k : Loaded) (e : k ≡ read_image image) where
-  pub check-refused : k.ok ≡ false → is_loop_answer image p f list ≡ refusal_answer 1
+  pub check_refused : k.ok ≡ false → is_loop_answer image p f list ≡ refusal_answer 1
   unfolding is_loop_answer
-  check-refused h = let o = sym (ap (λ (x : Loaded). x.ok) e) ∙ h in rw o
+  check_refused h = let o = sym (ap (λ (x : Loaded). x.ok) e) ∙ h in rw o
 
   pub checked-is : (t : Bool) → k.ok ≡ true → t ≡ is_loop_with k.board p f list → is_loop_answer image p f list ≡ cond t 1 0
   unfolding is_loop_answer

@@ -89,9 +89,9 @@ image_read image k e h =
 
 module _ (image line journal : List ℕ) (place : ℕ) where
   -- an image that isn't read gets the answer of refusal 1
-  pub host-refused : (read_image image).ok ≡ false → host_call image line journal place ≡ record { answer = host_answer 1 place; image = image; journal = journal }
+  pub host_refused : (read_image image).ok ≡ false → host_call image line journal place ≡ record { answer = host_answer 1 place; image = image; journal = journal }
   unfolding host_call line_call refuse_unsound
-  host-refused h =
+  host_refused h =
       by_test (loaded_of image).ok
       (λ o. by_test (sound (loaded_of image).board)
       (λ s. never (ap (λ (x : Loaded). x.ok) (image_sound image (loaded_of image) refl o s) ∙ o) h)
@@ -152,7 +152,7 @@ order-refused image buffer h = (rw h, rw h)
 
 -- a sound board has an order
 pub sound-ordered : (b : Board) → sound b ≡ true → found (carried b) ≡ true
-sound-ordered b s = let (o, c) = ((sound_iff b).0 s).order-exists in of_order b o c
+sound-ordered b s = let (o, c) = ((sound_iff b).0 s).order_exists in of_order b o c
 
 -- the first n numbers of 32 are placed, or the buffer is too short for them
 pub placed_short : (at : List ℕ) (n : ℕ) (buffer : List ℕ) → n ≤ length at → length buffer < n

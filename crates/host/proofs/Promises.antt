@@ -45,7 +45,7 @@ use Rattle.host.specs.Promises.{AcceptedIsWritten, RefusedKeepsImage, LineNeverO
 use Rattle.host.specs.Promises.{AnswerWrittenFirst, OrderCarried}
 use Rattle.host.proofs.Laws.{number_some, image_layout, image_unsound, image_sound, image_kept}
 use Rattle.host.proofs.Range.{of_line, line_reads, not_eight, range_checked}
-use Rattle.host.proofs.Answers.{by-reading, accepted-number, number-accepted, first-line, written-first}
+use Rattle.host.proofs.Answers.{by_reading, accepted-number, number-accepted, first-line, written-first}
 
 -- ══ Lines ══
 
@@ -96,12 +96,12 @@ direct_range b c i e =
     (λ r u. not_eight_lem r (ap not_eight (sym u) ∙ range_checked b c i) (sym (ap (λ (q : Reply). refusal_of q.answer) (apply-refused b c r u)) ∙ d)))
     (λ s. let z : 1 ≡ 8 = rw s at e in omega (arith, z))
 
-pub line-never_out_of_range : LineNeverOutOfRange
+pub line_never_out_of_range : LineNeverOutOfRange
 unfolding line_call posted reply_to refuse reply refuse_unsound
-line-never_out_of_range b line journal place e =
+line_never_out_of_range b line journal place e =
     by_test (sound b)
     (λ s. by_test (journal_full (length journal) place) (λ f. let z : 2 ≡ 8 = rw (s, f) at e in omega (arith, z))
-    (λ f. by-reading (request_of line).reading
+    (λ f. by_reading (request_of line).reading
     (λ t. direct_range b (request_call (request_of line)) (read-line line t).range (rw (s, f, t) at e))
     (λ r t. of_line_lem r (ap of_line (sym t) ∙ line_reads line) (rw (s, f, t) at e))))
     (λ s. let z : 1 ≡ 8 = rw s at e in omega (arith, z))
@@ -161,7 +161,7 @@ pub order-carried : OrderCarried
 unfolding line_call posted reply_to refuse reply
 order-carried b line journal place s =
     by_test (journal_full (length journal) place) (λ f. rw (s, f) (reply-order b (Answer.Refuse Refusal.JournalFull) []))
-    (λ f. rw (s, f) (by-reading (request_of line).reading
+    (λ f. rw (s, f) (by_reading (request_of line).reading
     (λ t. rw (t, direct_is_apply b (request_call (request_of line)) s) (apply-order b (request_call (request_of line))))
     (λ r t. rw t (reply-order b (Answer.Refuse r) []))))
 

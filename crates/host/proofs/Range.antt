@@ -20,7 +20,7 @@ use Rattle.request.specs.declared.Reading.{Reading}
 use Rattle.request.specs.declared.Shape.{Shape}
 use Rattle.request.specs.Requests.{request_of, asked_by}
 use Rattle.request.specs.Law.{InRange}
-use Rattle.request.proofs.Ways.{line-ways}
+use Rattle.request.proofs.Ways.{line_ways}
 use Rattle.writer.proofs.Law.{range_test, record_test}
 
 -- ══ A line's own refusals ══
@@ -32,7 +32,7 @@ of_line (Reading.Refused r) = leb 3 (number r) && leb (number r) 7
 
 pub line_reads : (l : List ℕ) → of_line (request_of l).reading ≡ true
 line_reads l =
-    line-ways (λ q. of_line q.reading ≡ true)
+    line_ways (λ q. of_line q.reading ≡ true)
     (record {
       no-verb = refl;
       length = refl;

@@ -11,7 +11,7 @@ use Rattle.rules.specs.declared.Program.{Program}
 use Rattle.rules.specs.declared.Board.{Board}
 use Rattle.rules.specs.Boards.{no_program}
 use Rattle.columns.specs.Rows.{flat}
-use Rattle.image.specs.Sections.{bytes_n, value_of, readMany, fitMany, agree}
+use Rattle.image.specs.Sections.{bytes_n, value_of, read_many, fit_many, agree}
 use Rattle.image.specs.Image.{both_or_none, seat_fits, image_section, image_of}
 
 -- ---- a board: 1 may write 1, has 3 open for inquiry and its record 300 in use; 2 may read 2, which it has open, and have 3 and 64 for inquiry,
@@ -114,5 +114,5 @@ abbrev tried : Changed → Changed
 tried ((i, x), t) = ((i, x), image_section.fits (set (image_of board) i x))
 
 pub layout_is : map tried changes ≡ changes
-unfolding image_of flat bytes_n value_of readMany fitMany agree seat_fits both_or_none
+unfolding image_of flat bytes_n value_of read_many fit_many agree seat_fits both_or_none
 layout_is = refl

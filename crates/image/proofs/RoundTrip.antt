@@ -26,12 +26,12 @@ use Rattle.columns.proofs.Rows.{flat-length}
 use Rattle.image.specs.Sections.{Section, Each, many, number, bytes_n}
 use Rattle.image.specs.Image.{to_set, from_set, set_with, set_section, kind_of, file_byte, used_by, wanted_by, standing_of, file_of, item_of}
 use Rattle.image.specs.Image.{both_or_none, seat_fits, seat_good, GoodProgram, Row, InquiryRow, joined, row_of, inquiry_of, rows_agree}
-use Rattle.image.specs.Image.{BoardParts, rowWith, inquiry_with, partsWith, image_with, to_board, from_board, parts_agree, GoodSeats}
+use Rattle.image.specs.Image.{BoardParts, row_with, inquiry_with, parts_with, image_with, to_board, from_board, parts_agree, GoodSeats}
 use Rattle.image.specs.Image.{row_section, rows_section, inquiry_section, parts_section, image_section, image_length, image_of, board_of, loaded_of}
 use Rattle.image.specs.Law.{Bytes, Lawful, BoardOfCode}
-use Rattle.image.proofs.Sections.{byte_lawful, run_lawful, number-length, number_lawful, ◌▸ₗ◌, seen-lawful, refined-lawful, many-lawful}
-use Rattle.image.proofs.Sections.{zipped-back, zipped-fit, zipped-again, each_at, flat_map, whole-fits, whole_back, whole_again, Put}
-use Rattle.image.proofs.Laws.{load-good}
+use Rattle.image.proofs.Sections.{byte_lawful, run_lawful, number-length, number_lawful, ◌▸ₗ◌, seen_lawful, refined_lawful, many_lawful}
+use Rattle.image.proofs.Sections.{zipped-back, zipped-fit, zipped-again, each_at, flat_map, whole_fits, whole_back, whole_again, Put}
+use Rattle.image.proofs.Laws.{load_good}
 
 -- ---- a set
 
@@ -40,7 +40,7 @@ set-length s = number-length set_section.size s.bits
 
 -- in any number of bytes
 pub set_lawful : (n : ℕ) → Lawful (set_with n)
-set_lawful n = seen-lawful to_set from_set (λ s. refl) (λ x. refl) (number_lawful n)
+set_lawful n = seen_lawful to_set from_set (λ s. refl) (λ x. refl) (number_lawful n)
 
 -- ---- a seat
 
@@ -161,17 +161,17 @@ board_again (((((rs, w), e), ns), c), is) h =
 
 -- by the sections of a set and of the awaited file
 module _ {set : Section FileSet} {file : Section ℕ} (p : Lawful set) (q : Lawful file) where
-  parts-lawful : Lawful (partsWith set file)
-  parts-lawful =
-      many-lawful (rowWith set file) (p ▸ₗ p ▸ₗ p ▸ₗ p ▸ₗ (byte_lawful ▸ₗ q)) 32 ▸ₗ run_lawful 32 ▸ₗ run_lawful 32
+  parts_lawful : Lawful (parts_with set file)
+  parts_lawful =
+      many_lawful (row_with set file) (p ▸ₗ p ▸ₗ p ▸ₗ p ▸ₗ (byte_lawful ▸ₗ q)) 32 ▸ₗ run_lawful 32 ▸ₗ run_lawful 32
       ▸ₗ (byte_lawful ▸ₗ byte_lawful ▸ₗ byte_lawful) ▸ₗ run_lawful 32
-      ▸ₗ many-lawful (inquiry_with set) (p ▸ₗ p ▸ₗ (number_lawful 2 ▸ₗ number_lawful 2)) 32
+      ▸ₗ many_lawful (inquiry_with set) (p ▸ₗ p ▸ₗ (number_lawful 2 ▸ₗ number_lawful 2)) 32
 
-  pub with-lawful : Lawful (image_with set file)
-  with-lawful = refined-lawful to_board from_board parts_agree GoodSeats board_back board_fit board_again parts-lawful
+  pub with_lawful : Lawful (image_with set file)
+  with_lawful = refined_lawful to_board from_board parts_agree GoodSeats board_back board_fit board_again parts_lawful
 
 image_lawful : Lawful image_section
-image_lawful = with-lawful (set_lawful 8) (number_lawful 1)
+image_lawful = with_lawful (set_lawful 8) (number_lawful 1)
 
 -- ---- the seats of a sound board are good
 
@@ -197,7 +197,7 @@ own_good : (q : Program) → ItemOwn q → GoodProgram q
 own_good q o = by_test (eqb q.item 0)
     (λ t. let z = eqb-true q.item 0 t in rw (z, o.no_item z) (zero_good q.standing))
     (λ t. let n = eqb-false q.item 0 t in
-    ⊎_elim (λ e. rw e (runs_good q.file q.item (file_some q.inquiring q.file (o.in-i n)) n))
+    ⊎_elim (λ e. rw e (runs_good q.file q.item (file_some q.inquiring q.file (o.in_i n)) n))
     (λ e. rw e (waits_good q.file q.item n)) (o.stands-so n))
 
 pub sound_good : (b : Board) → BoardOfCode b → sound b ≡ true → GoodSeats b
@@ -223,11 +223,11 @@ own_small : (q : Program) → ItemOwn q → ((f : ℕ) → Awaits q f → f < 25
 own_small q o w Standing.Absent e = omega arith
 own_small q o w Standing.Running e = by_test (eqb q.item 0)
     (λ t. let z = o.no_item (eqb-true q.item 0 t) in omega arith)
-    (λ t. file_small q.inquiring q.file (o.in-i (eqb-false q.item 0 t)))
+    (λ t. file_small q.inquiring q.file (o.in_i (eqb-false q.item 0 t)))
 own_small q o w (Standing.Waiting f) e = by_test (eqb q.item 0)
     (λ t. w f (e, eqb-true q.item 0 t))
     (λ t. let n = eqb-false q.item 0 t in
-    let i = file_small q.inquiring q.file (o.in-i n) in
+    let i = file_small q.inquiring q.file (o.in_i n) in
     ⊎_elim (λ r. never {t = false} (sym (ap is_waiting r) ∙ ap is_waiting e) refl)
     (λ r. let d = ap awaited_of (sym e ∙ r) in omega (arith, d, i)) (o.stands-so n))
 own_small q o w Standing.Held e = omega arith
@@ -243,7 +243,7 @@ sound_small b h s =
     own_small q (rw z at (k.item-own (suc i) p)) (λ f a. is_small f (claims_file q f (rw z at (k.waiter-asked (suc i) p) f a).claimed)) q.standing refl)
 
 -- the rows of a board whose awaited files fit into a byte
-rows_small : (ps : List Program) → Each (rowWith set_section (number 2)).holds (map row_of ps) → Each SmallFile ps
+rows_small : (ps : List Program) → Each (row_with set_section (number 2)).holds (map row_of ps) → Each SmallFile ps
     → Each row_section.holds (map row_of ps)
 unfolding Each
 rows_small [] h k = h
@@ -261,7 +261,7 @@ pub loaded_back : (b : Board) → BoardOfCode b → sound b ≡ true → loaded_
 unfolding image_of board_of
 loaded_back b c s =
     let h : image_section.holds b = (sound-holds b c s, sound_good b c s) in
-    sym (load-good (image_of b) b (image_lawful.long b h) (whole-fits image_lawful b h) (sym (whole_back image_lawful b h)))
+    sym (load_good (image_of b) b (image_lawful.long b h) (whole_fits image_lawful b h) (sym (whole_back image_lawful b h)))
 
 -- an accepted image has its length, is of the layout, and gives its board
 pub record Accepted (l : List ℕ) : Type 0 where

@@ -9,7 +9,7 @@ use native.Mathlib.Omega.{arith}
 use native.Mathlib.Nat.{mul-zero, add-sub_cancel_left}
 use Rattle.laws.specs.Tests.{never, and_left, and_right, and_false}
 use Rattle.columns.specs.Rows.{flat, put_at}
-use Rattle.image.specs.Sections.{Section, ◌▸◌, seen, refined, many, Each, readMany, fitMany, zipped, agree}
+use Rattle.image.specs.Sections.{Section, ◌▸◌, seen, refined, many, Each, read_many, fit_many, zipped, agree}
 use Rattle.image.specs.Sections.{byte, run, bytes_n, value_of, number}
 use Rattle.image.specs.Law.{Bytes, Lawful}
 
@@ -104,9 +104,9 @@ module _ {A B : Type 0} where
             (sym (take-add s.size t.size l));
       }
 
-  pub seen-lawful : {s : Section A} (there : A → B) (back : B → A)
+  pub seen_lawful : {s : Section A} (there : A → B) (back : B → A)
       → ((b : B) → there (back b) ≡ b) → ((a : A) → back (there a) ≡ a) → Lawful s → Lawful (seen there back s)
-  seen-lawful {s} there back e d p =
+  seen_lawful {s} there back e d p =
       record {
         long = λ b h. p.long (back b) h;
         fit = λ b rest h. p.fit (back b) rest h;
@@ -114,10 +114,10 @@ module _ {A B : Type 0} where
         again = λ l b n f. ap s.write (d (s.read l)) ∙ p.again l b n f;
       }
 
-  pub refined-lawful : {s : Section A} (there : A → B) (back : B → A) (test : A → Bool) (good : B → Type 0)
+  pub refined_lawful : {s : Section A} (there : A → B) (back : B → A) (test : A → Bool) (good : B → Type 0)
       → ((b : B) → good b → there (back b) ≡ b) → ((b : B) → good b → test (back b) ≡ true) → ((a : A) → test a ≡ true → back (there a) ≡ a)
       → Lawful s → Lawful (refined there back test good s)
-  refined-lawful {s} there back test good e t d p =
+  refined_lawful {s} there back test good e t d p =
       record {
         long = λ b h. p.long (back b) h.0;
         fit = λ b rest h. rw (p.fit (back b) rest h.0, p.back (back b) rest h.0) (t b h.1);
@@ -181,44 +181,44 @@ flat_map f g (a ∷ l) = ap (λ (x : List ℕ). f (g a) ++ x) (flat_map f g l)
 -- ---- many of the same
 
 module _ {A : Type 0} (s : Section A) (p : Lawful s) where
-  first-bytes : (a : A) (rest : List ℕ) → s.holds a → take s.size (s.write a ++ rest) ≡ s.write a ++ []
-  first-bytes a rest h = take_at (s.write a) rest s.size (p.long a h) ∙ sym (append-nil (s.write a))
+  first_bytes : (a : A) (rest : List ℕ) → s.holds a → take s.size (s.write a ++ rest) ≡ s.write a ++ []
+  first_bytes a rest h = take_at (s.write a) rest s.size (p.long a h) ∙ sym (append-nil (s.write a))
 
   many-long : (l : List A) → Each s.holds l → length (flat s.write l) ≡ s.size * length l
   unfolding flat Each
   many-long [] h = omega arith
   many-long (a ∷ l) h = omega (arith, length-append (s.write a) (flat s.write l), p.long a h.0, many-long l h.1)
 
-  many-fit : (l : List A) (rest : List ℕ) → Each s.holds l → fitMany s (length l) (flat s.write l ++ rest) ≡ true
-  unfolding flat fitMany Each
+  many-fit : (l : List A) (rest : List ℕ) → Each s.holds l → fit_many s (length l) (flat s.write l ++ rest) ≡ true
+  unfolding flat fit_many Each
   many-fit [] rest h = refl
   many-fit (a ∷ l) rest h = rw (
     append_assoc (s.write a) (flat s.write l) rest,
-    first-bytes a (flat s.write l ++ rest) h.0,
+    first_bytes a (flat s.write l ++ rest) h.0,
     over p a (flat s.write l ++ rest) h.0,
     p.fit a [] h.0,
     many-fit l rest h.1,
   )
 
-  many-back : (l : List A) (rest : List ℕ) → Each s.holds l → readMany s (length l) (flat s.write l ++ rest) ≡ l
-  unfolding flat readMany Each
+  many-back : (l : List A) (rest : List ℕ) → Each s.holds l → read_many s (length l) (flat s.write l ++ rest) ≡ l
+  unfolding flat read_many Each
   many-back [] rest h = refl
   many-back (a ∷ l) rest h = rw (
     append_assoc (s.write a) (flat s.write l) rest,
-    first-bytes a (flat s.write l ++ rest) h.0,
+    first_bytes a (flat s.write l ++ rest) h.0,
     over p a (flat s.write l ++ rest) h.0,
     p.back a [] h.0,
     many-back l rest h.1,
   )
 
-  many-again : (n : ℕ) (l : List ℕ) → Bytes l → s.size * n ≤ length l → fitMany s n l ≡ true → flat s.write (readMany s n l) ≡ take (s.size * n) l
-  unfolding flat fitMany readMany
+  many-again : (n : ℕ) (l : List ℕ) → Bytes l → s.size * n ≤ length l → fit_many s n l ≡ true → flat s.write (read_many s n l) ≡ take (s.size * n) l
+  unfolding flat fit_many read_many
   many-again zero l b h f = rw (mul-zero s.size)
   many-again (suc n) l b h f =
       let e : s.size * suc n ≡ s.size + s.size * n = omega arith in
       let m : s.size ≤ length l = omega arith in
-      let g = and_left (s.fits (take s.size l)) (fitMany s n (drop s.size l)) f in
-      let k = and_right (s.fits (take s.size l)) (fitMany s n (drop s.size l)) f in
+      let g = and_left (s.fits (take s.size l)) (fit_many s n (drop s.size l)) f in
+      let k = and_right (s.fits (take s.size l)) (fit_many s n (drop s.size l)) f in
       rw (
         p.again (take s.size l) (bytes_take s.size l b) (omega (arith, length-take-le s.size l m)) g,
         many-again n (drop s.size l) (bytes_drop s.size l b) (omega (arith, length-drop s.size l)) k,
@@ -227,8 +227,8 @@ module _ {A : Type 0} (s : Section A) (p : Lawful s) where
         take-add s.size (s.size * n) l,
       )
 
-  pub many-lawful : (n : ℕ) → Lawful (many n s)
-  many-lawful n =
+  pub many_lawful : (n : ℕ) → Lawful (many n s)
+  many_lawful n =
       record {
         long = λ a h. many-long a h.1 ∙ ap (λ (k : ℕ). s.size * k) h.0;
         fit = λ a rest h. rw (← h.0) (many-fit a rest h.1);
@@ -239,8 +239,8 @@ module _ {A : Type 0} (s : Section A) (p : Lawful s) where
 -- ---- a whole list of bytes
 
 module _ {A : Type 0} {s : Section A} (p : Lawful s) where
-  pub whole-fits : (a : A) → s.holds a → s.fits (s.write a) ≡ true
-  whole-fits a h = rw append-nil at (p.fit a [] h)
+  pub whole_fits : (a : A) → s.holds a → s.fits (s.write a) ≡ true
+  whole_fits a h = rw append-nil at (p.fit a [] h)
 
   pub whole_back : (a : A) → s.holds a → s.read (s.write a) ≡ a
   whole_back a h = rw append-nil at (p.back a [] h)
@@ -258,64 +258,64 @@ module _ {A : Type 0} (s : Section A) where
   row-after l n = let e : s.size + s.size * n ≡ s.size * suc n = omega arith in rw (drop-drop (s.size * n) s.size l, e)
 
   -- as the code's range has it
-  pub row-part : (l : List ℕ) (n : ℕ) → take (s.size * n + s.size - s.size * n) (drop (s.size * n) l) ≡ row_at l n
-  row-part l n = rw (add-sub_cancel_left (s.size * n) s.size)
+  pub row_part : (l : List ℕ) (n : ℕ) → take (s.size * n + s.size - s.size * n) (drop (s.size * n) l) ≡ row_at l n
+  row_part l n = rw (add-sub_cancel_left (s.size * n) s.size)
 
   row_first : (l : List ℕ) → row_at l 0 ≡ take s.size l
   row_first l = rw (mul-zero s.size)
 
-  pub read_length : (n : ℕ) (l : List ℕ) → length (readMany s n l) ≡ n
-  unfolding readMany
+  pub read_length : (n : ℕ) (l : List ℕ) → length (read_many s n l) ≡ n
+  unfolding read_many
   read_length zero l = refl
   read_length (suc n) l = ap suc (read_length n (drop s.size l))
 
   -- what is read of row i
-  pub read_at : (n i : ℕ) (l : List ℕ) (a : A) → i < n → get_or (readMany s n l) i a ≡ s.read (row_at l i)
-  unfolding readMany
+  pub read_at : (n i : ℕ) (l : List ℕ) (a : A) → i < n → get_or (read_many s n l) i a ≡ s.read (row_at l i)
+  unfolding read_many
   read_at zero i l a h = absurd (omega arith)
   read_at (suc n) zero l a h = rw (row_first l)
   read_at (suc n) (suc i) l a h = read_at n i (drop s.size l) a (omega arith) ∙ rw (row-after l i)
 
   -- the row in the part of the list that begins with n, as the code's range has it
-  pub row-after-part : (l : List ℕ) (m n : ℕ) → take (m + s.size * n + s.size - (m + s.size * n)) (drop (m + s.size * n) l) ≡ row_at (drop m l) n
-  row-after-part l m n = rw (add-sub_cancel_left (m + s.size * n) s.size, drop-drop (s.size * n) m l)
+  pub row-after_part : (l : List ℕ) (m n : ℕ) → take (m + s.size * n + s.size - (m + s.size * n)) (drop (m + s.size * n) l) ≡ row_at (drop m l) n
+  row-after_part l m n = rw (add-sub_cancel_left (m + s.size * n) s.size, drop-drop (s.size * n) m l)
 
   -- a section without a test fits
-  pub fit-any : (n : ℕ) (l : List ℕ) → ((k : List ℕ) → s.fits k ≡ true) → fitMany s n l ≡ true
-  unfolding fitMany
+  pub fit-any : (n : ℕ) (l : List ℕ) → ((k : List ℕ) → s.fits k ≡ true) → fit_many s n l ≡ true
+  unfolding fit_many
   fit-any zero l h = refl
   fit-any (suc n) l h = rw (h (take s.size l), fit-any n (drop s.size l) h)
 
 module _ {A B : Type 0} (s : Section A) (t : Section B) (test : A → B → Bool) where
-  abbrev pub agreeMany : ℕ → List ℕ → List ℕ → Bool
-  agreeMany n l m = agree test (readMany s n l) (readMany t n m)
+  abbrev pub agree_many : ℕ → List ℕ → List ℕ → Bool
+  agree_many n l m = agree test (read_many s n l) (read_many t n m)
 
   -- the two rows pass the test
-  abbrev pub agreeAt : ℕ → List ℕ → List ℕ → Bool
-  agreeAt n l m = test (s.read (row_at s l n)) (t.read (row_at t m n))
+  abbrev pub agree_at : ℕ → List ℕ → List ℕ → Bool
+  agree_at n l m = test (s.read (row_at s l n)) (t.read (row_at t m n))
 
-  first-agree : (l m : List ℕ) → test (s.read (take s.size l)) (t.read (take t.size m)) ≡ agreeAt 0 l m
+  first-agree : (l m : List ℕ) → test (s.read (take s.size l)) (t.read (take t.size m)) ≡ agree_at 0 l m
   first-agree l m = rw (row_first s l, row_first t m)
 
-  after-agree : (n : ℕ) (l m : List ℕ) → agreeAt n (drop s.size l) (drop t.size m) ≡ agreeAt (suc n) l m
+  after-agree : (n : ℕ) (l m : List ℕ) → agree_at n (drop s.size l) (drop t.size m) ≡ agree_at (suc n) l m
   after-agree n l m = rw (row-after s l n, row-after t m n)
 
-  pub agree-more : (n : ℕ) (l m : List ℕ) → agreeMany n l m ≡ true → agreeAt n l m ≡ true → agreeMany (suc n) l m ≡ true
-  unfolding readMany agree
+  pub agree-more : (n : ℕ) (l m : List ℕ) → agree_many n l m ≡ true → agree_at n l m ≡ true → agree_many (suc n) l m ≡ true
+  unfolding read_many agree
   agree-more zero l m h f = rw (first-agree l m, f)
   agree-more (suc n) l m h f =
       let a = test (s.read (take s.size l)) (t.read (take t.size m)) in
-      let b = agreeMany n (drop s.size l) (drop t.size m) in
+      let b = agree_many n (drop s.size l) (drop t.size m) in
       let g : a ≡ true = and_left a b h in
       rw g (agree-more n (drop s.size l) (drop t.size m) (and_right a b h) (after-agree n l m ∙ f))
 
-  pub agree-fail : (i n : ℕ) (l m : List ℕ) → agreeAt i l m ≡ false → i < n → agreeMany n l m ≡ false
-  unfolding readMany agree
-  agree-fail i zero l m f h = absurd (omega arith)
-  agree-fail zero (suc n) l m f h = rw (first-agree l m, f)
-  agree-fail (suc i) (suc n) l m f h =
+  pub agree_fail : (i n : ℕ) (l m : List ℕ) → agree_at i l m ≡ false → i < n → agree_many n l m ≡ false
+  unfolding read_many agree
+  agree_fail i zero l m f h = absurd (omega arith)
+  agree_fail zero (suc n) l m f h = rw (first-agree l m, f)
+  agree_fail (suc i) (suc n) l m f h =
       let a = test (s.read (take s.size l)) (t.read (take t.size m)) in
-      rw (agree-fail i n (drop s.size l) (drop t.size m) (after-agree i l m ∙ f) (omega arith)) (and_false a)
+      rw (agree_fail i n (drop s.size l) (drop t.size m) (after-agree i l m ∙ f) (omega arith)) (and_false a)
 
 -- ---- sections put into a buffer one after another
 

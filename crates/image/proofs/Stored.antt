@@ -21,13 +21,13 @@ use Rattle.store.specs.Store.{seat_of, board_of, RestOf, empty_sets, empty_rest}
 use Rattle.store.proofs.Laws.{three-put, rows-put}
 use Rattle.store.proofs.Boards.{board_is, empty_board_lem}
 use Rattle.image.specs.declared.Loaded.{Loaded}
-use Rattle.image.specs.Sections.{readMany}
+use Rattle.image.specs.Sections.{read_many}
 use Rattle.image.specs.Image as image
 use Rattle.image.specs.Image.{set_section, joined, row_of, row_section, inquiry_of, inquiry_section, front_section, image_section, image_length, loaded_of}
 use Rattle.image.specs.Image.{standing_of, file_of, item_of, seat_fits, rows_agree, refused_image}
 use Rattle.image.specs.Stored.{loaded_in}
-use Rattle.image.proofs.Sections.{row_at, read_length, read_at, fit-any, zipped-at, zipped-length, agreeMany}
-use Rattle.image.proofs.Laws.{one_at, item_at, load-good}
+use Rattle.image.proofs.Sections.{row_at, read_length, read_at, fit-any, zipped-at, zipped-length, agree_many}
+use Rattle.image.proofs.Laws.{one_at, item_at, load_good}
 
 -- ---- a set written
 
@@ -84,20 +84,20 @@ module _ (s x : List ℕ) (u a : ℕ) (n : length x ≡ inquiry_section.size) (e
   wanted_read : a ≡ (inquiry_section.read x).1.1
   wanted_read = ea ∙ sym (rw (drop-drop 2 used_at x) (item_at x (used_at + 2) (omega arith)))
 
-  kind-read : (row_section.read s).1.0 ≡ k
-  kind-read = get_or-drop kind_at s 0 0
+  kind_read : (row_section.read s).1.0 ≡ k
+  kind_read = get_or-drop kind_at s 0 0
 
   file_read : (row_section.read s).1.1 ≡ f
   file_read = one_at (drop 1 (drop kind_at s)) ∙ get_or-drop 1 (drop kind_at s) 0 0 ∙ get_or-drop kind_at s 1 0
 
   -- the test of the two rows
-  pub seat-tested : seat_fits k f u a ≡ rows_agree (row_section.read s) (inquiry_section.read x)
-  seat-tested = rw (kind-read, file_read, ← used-read, ← wanted_read)
+  pub seat_tested : seat_fits k f u a ≡ rows_agree (row_section.read s) (inquiry_section.read x)
+  seat_tested = rw (kind_read, file_read, ← used-read, ← wanted_read)
 
   -- the seat in the two rows
-  pub seat-read : (t : Standing) (file item : ℕ) → t ≡ standing_of k f → file ≡ file_of k f a → item ≡ item_of k u a
+  pub seat_read : (t : Standing) (file item : ℕ) → t ≡ standing_of k f → file ≡ file_of k f a → item ≡ item_of k u a
       → record { standing = t; file = file; item = item } ≡ seat_of (joined (row_section.read s) (inquiry_section.read x))
-  seat-read t file item et ef ei = rw (et, ef, ei, kind-read, file_read, ← used-read, ← wanted_read)
+  seat_read t file item et ef ei = rw (et, ef, ei, kind_read, file_read, ← used-read, ← wanted_read)
 
 -- ---- a row read
 
@@ -109,20 +109,20 @@ inquiries_in l = drop front_section.size l
 pub row_in : (l : List ℕ) (i : ℕ) → i < 32
     → in_place (image_section.read l) i ≡ joined (row_section.read (row_at row_section l i)) (inquiry_section.read (row_at inquiry_section (inquiries_in l) i))
 row_in l i h =
-    let rs = readMany row_section 32 l in let is = readMany inquiry_section 32 (inquiries_in l) in
+    let rs = read_many row_section 32 l in let is = read_many inquiry_section 32 (inquiries_in l) in
     let r = row_of no_program in let k = inquiry_of no_program in
     zipped-at joined rs is i r k no_program
     (omega (arith, read_length row_section 32 l)) (omega (arith, read_length inquiry_section 32 (inquiries_in l)))
     ∙ rw (read_at row_section 32 i l r h, read_at inquiry_section 32 i (inquiries_in l) k h)
 
 -- an image is of its layout if each program's rows are
-pub fits_is : (l : List ℕ) → image_section.fits l ≡ agreeMany row_section inquiry_section rows_agree 32 l (inquiries_in l)
+pub fits_is : (l : List ℕ) → image_section.fits l ≡ agree_many row_section inquiry_section rows_agree 32 l (inquiries_in l)
 fits_is l = rw (fit-any row_section 32 l (λ k. refl), fit-any inquiry_section 32 (inquiries_in l) (λ k. refl))
 
 -- 32 programs are read
 pub programs_read : (l : List ℕ) → length (image_section.read l).programs ≡ 32
 programs_read l =
-    let rs = readMany row_section 32 l in let is = readMany inquiry_section 32 (inquiries_in l) in
+    let rs = read_many row_section 32 l in let is = read_many inquiry_section 32 (inquiries_in l) in
     let n = read_length row_section 32 l in
     zipped-length joined rs is (n ∙ sym (read_length inquiry_section 32 (inquiries_in l))) ∙ n
 
@@ -133,7 +133,7 @@ module _ (l : List ℕ) (sets : Sets) where
   pub read-good : (r : Rest) → length l ≡ image_length → image_section.fits l ≡ true → SetsOf (image_section.read l) sets
       → RestOf (image_section.read l) r → loaded_in sets (record { ok = true; rest = r }) ≡ loaded_of l
   unfolding image.board_of
-  read-good r h f s t = load-good l (board_of sets r) h f (board_is (image_section.read l) sets r s t (programs_read l))
+  read-good r h f s t = load_good l (board_of sets r) h f (board_is (image_section.read l) sets r s t (programs_read l))
 
   -- a refused image, with the sets untouched
   pub read_none : sets ≡ empty_sets → loaded_of l ≡ refused_image → loaded_in sets (record { ok = false; rest = empty_rest }) ≡ loaded_of l

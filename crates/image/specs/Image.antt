@@ -151,14 +151,14 @@ inquiry_with set = set ▸ set ▸ items_section
 
 -- by the sections of a set and of the awaited file
 module _ (set : Section FileSet) (file : Section ℕ) where
-  abbrev pub rowWith : Section Row
-  rowWith = set ▸ set ▸ set ▸ set ▸ (byte ▸ file)
+  abbrev pub row_with : Section Row
+  row_with = set ▸ set ▸ set ▸ set ▸ (byte ▸ file)
 
-  abbrev pub frontWith : Section Front
-  frontWith = many 32 rowWith ▸ line_section ▸ line_section ▸ numbers_section ▸ counts_section
+  abbrev pub front_with : Section Front
+  front_with = many 32 row_with ▸ line_section ▸ line_section ▸ numbers_section ▸ counts_section
 
-  abbrev pub partsWith : Section BoardParts
-  partsWith = frontWith ▸ many 32 (inquiry_with set)
+  abbrev pub parts_with : Section BoardParts
+  parts_with = front_with ▸ many 32 (inquiry_with set)
 
 abbrev pub to_board : BoardParts → Board
 to_board (((((rs, w), e), ((f, n), v)), c), is) =
@@ -178,7 +178,7 @@ abbrev pub GoodSeats : Board → Type 0
 GoodSeats b = Each GoodProgram b.programs
 
 abbrev pub image_with : Section FileSet → Section ℕ → Section Board
-image_with set file = refined to_board from_board parts_agree GoodSeats (partsWith set file)
+image_with set file = refined to_board from_board parts_agree GoodSeats (parts_with set file)
 
 -- "awaited file", a number in one byte
 abbrev pub awaited_section : Section ℕ
@@ -186,7 +186,7 @@ awaited_section = number 1
 
 -- sets of 8 bytes, and a byte for the awaited file
 abbrev pub row_section : Section Row
-row_section = rowWith set_section awaited_section
+row_section = row_with set_section awaited_section
 
 abbrev pub inquiry_section : Section InquiryRow
 inquiry_section = inquiry_with set_section
@@ -198,10 +198,10 @@ abbrev pub inquiries_section : Section (List InquiryRow)
 inquiries_section = many 32 inquiry_section
 
 abbrev pub front_section : Section Front
-front_section = frontWith set_section awaited_section
+front_section = front_with set_section awaited_section
 
 abbrev pub parts_section : Section BoardParts
-parts_section = partsWith set_section awaited_section
+parts_section = parts_with set_section awaited_section
 
 abbrev pub image_section : Section Board
 image_section = image_with set_section awaited_section

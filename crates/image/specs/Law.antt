@@ -3,7 +3,7 @@
 use Rattle.std.specs.Prelude.{ℕ, ◌≤◌, ◌<◌, ◌≡◌, List, ◌++◌, true, length, get_or, take}
 use Rattle.rules.specs.declared.Board.{Board}
 use Rattle.image.specs.Sections.{Section, number}
-use Rattle.image.specs.Image.{set_section, partsWith, from_board}
+use Rattle.image.specs.Image.{set_section, parts_with, from_board}
 
 -- each number of the list is a byte: so is every slice of bytes
 abbrev pub Bytes : List ℕ → Type 0
@@ -18,4 +18,4 @@ pub record Lawful {A : Type 0} (s : Section A) : Type 0 where
 
 -- 32 programs, lines of 32 places, 32 counts, sets of files, and files and records of two bytes: so is every Board of the code, by its type
 abbrev pub BoardOfCode : Board → Type 0
-BoardOfCode b = (partsWith set_section (number 2)).holds (from_board b)
+BoardOfCode b = (parts_with set_section (number 2)).holds (from_board b)

@@ -55,13 +55,13 @@ module _ {A : Type 0} where
   Each P [] = Unit {0}
   Each P (a ∷ l) = P a × Each P l
 
-  unfoldable pub readMany : Section A → ℕ → List ℕ → List A
-  readMany s zero l = []
-  readMany s (suc n) l = s.read (take s.size l) ∷ readMany s n (drop s.size l)
+  unfoldable pub read_many : Section A → ℕ → List ℕ → List A
+  read_many s zero l = []
+  read_many s (suc n) l = s.read (take s.size l) ∷ read_many s n (drop s.size l)
 
-  unfoldable pub fitMany : Section A → ℕ → List ℕ → Bool
-  fitMany s zero l = true
-  fitMany s (suc n) l = s.fits (take s.size l) && fitMany s n (drop s.size l)
+  unfoldable pub fit_many : Section A → ℕ → List ℕ → Bool
+  fit_many s zero l = true
+  fit_many s (suc n) l = s.fits (take s.size l) && fit_many s n (drop s.size l)
 
   -- n times the same section
   abbrev pub many : ℕ → Section A → Section (List A)
@@ -70,8 +70,8 @@ module _ {A : Type 0} where
         size = s.size * n;
         holds = λ l. (length l ≡ n) × Each s.holds l;
         write = flat s.write;
-        read = readMany s n;
-        fits = fitMany s n;
+        read = read_many s n;
+        fits = fit_many s n;
       }
 
 -- ---- values whose parts stand in two sections

@@ -64,8 +64,8 @@ module _ {A : Type 0} where
   each_all t (x ∷ l) f = and_both (t x) (all t l) (f x here) (each_all t l (λ a m. f a (Memᴰ.tail m)))
 
   -- Both tests of each.
-  pub all-and : (t u : A → Bool) (l : List A) → all (λ a. t a && u a) l ≡ (all t l && all u l)
-  all-and t u l = same_test _ _
+  pub all_and : (t u : A → Bool) (l : List A) → all (λ a. t a && u a) l ≡ (all t l && all u l)
+  all_and t u l = same_test _ _
       (λ e. let f = all-each (λ a. t a && u a) l e in and_both (all t l) (all u l)
       (each_all t l (λ a m. and_left (t a) (u a) (f a m))) (each_all u l (λ a m. and_right (t a) (u a) (f a m))))
       (λ e. each_all (λ a. t a && u a) l (λ a m. and_both (t a) (u a) (all-each t l (and_left (all t l) (all u l) e) a m)
@@ -83,10 +83,10 @@ module _ {A : Type 0} where
   all_same t u (x ∷ l) f = ap₂ ◌&&◌ (f x here) (all_same t u l (λ a m. f a (Memᴰ.tail m)))
 
   -- None passes.
-  pub not-any : (t : A → Bool) (l : List A) → not (any t l) ≡ all (λ a. not (t a)) l
+  pub not_any : (t : A → Bool) (l : List A) → not (any t l) ≡ all (λ a. not (t a)) l
   unfolding any all
-  not-any t [] = refl
-  not-any t (x ∷ l) = by_test (t x) (λ e. rw e) (λ e. rw e (not-any t l))
+  not_any t [] = refl
+  not_any t (x ∷ l) = by_test (t x) (λ e. rw e) (λ e. rw e (not_any t l))
 
   pub first-same : (t u : A → Bool) (l : List A) → ((a : A) → a ∈ l → t a ≡ u a) → first t l ≡ first u l
   unfolding first

@@ -8,23 +8,23 @@ use Rattle.laws.specs.Tests.{by_test}
 
 -- n places, and in each a row of w numbers
 pub record IsTable (n w : ℕ) (rows : List (List ℕ)) : Type 0 where
-  pub places-are : length rows ≡ n
+  pub places_are : length rows ≡ n
   pub words_are : (k : ℕ) → k < n → length (get_or rows k []) ≡ w
 
 module _ (n w : ℕ) where
   -- rows of zeros
   pub fresh-table : IsTable n w (replicate n (replicate {A = ℕ} w 0))
   fresh-table = record {
-    places-are = length-replicate n (replicate {A = ℕ} w 0);
+    places_are = length-replicate n (replicate {A = ℕ} w 0);
     words_are = λ k h. ap length (get_or-replicate n k (replicate {A = ℕ} w 0) [] h) ∙ length-replicate {A = ℕ} w 0;
   }
 
   -- a row is put in a place
   pub put_in : (rows : List (List ℕ)) (k : ℕ) (r : List ℕ) → IsTable n w rows → length r ≡ w → IsTable n w (set rows k r)
   put_in rows k r s e = record {
-    places-are = length-set rows k r ∙ s.places-are;
+    places_are = length-set rows k r ∙ s.places_are;
     words_are = λ j h. by_test (eqb j k)
-        (λ t. let z : j ≡ k = eqb-true j k t in let l : k < length rows = omega (arith, h, s.places-are) in
+        (λ t. let z : j ≡ k = eqb-true j k t in let l : k < length rows = omega (arith, h, s.places_are) in
         ap (λ (x : ℕ). length (get_or (set rows k r) x [])) z ∙ ap length (get_or-set_same rows k r [] l) ∙ e)
         (λ t. ap length (get_or-set_other rows k j r [] (eqb-false j k t)) ∙ s.words_are j h);
   }

@@ -65,11 +65,11 @@ refuse_count b r = omega arith
 -- a reply to a line, of a sound board, has at most 32 lines
 pub reply_fits : (b : Board) (q : Request) → length b.programs ≡ 32 → sound b ≡ true → (reply_to b q).count ≤ 32
 unfolding reply_to
-reply_fits b q z s = by-reading q.reading
+reply_fits b q z s = by_reading q.reading
   where
-    by-reading : (r : Reading) → (reply_by b r (request_call q)).count ≤ 32
-    by-reading Reading.Taken = rw (direct_is_apply b (request_call q) s) (apply_fits b (request_call q) (good b z s)).lines_fit
-    by-reading (Reading.Refused r) = refuse_count b r
+    by_reading : (r : Reading) → (reply_by b r (request_call q)).count ≤ 32
+    by_reading Reading.Taken = rw (direct_is_apply b (request_call q) s) (apply_fits b (request_call q) (good b z s)).lines_fit
+    by_reading (Reading.Refused r) = refuse_count b r
 
 -- the line call's results, check by check
 pub call_unsound : (b : Board) (line journal : List ℕ) (place : ℕ) → sound b ≡ false

@@ -24,13 +24,13 @@ module _ (l : List ℕ) (k : ℕ) where
   unfolding names
   names-on h ne = rw (drop-cons l k 0 h, ne_eqb (get_or l k 0) 0 ne)
 
-  pub names-stop : k < length l → get_or l k 0 ≡ 0 → names (drop k l) ≡ []
+  pub names_stop : k < length l → get_or l k 0 ≡ 0 → names (drop k l) ≡ []
   unfolding names
-  names-stop h e = rw (drop-cons l k 0 h, eq-eqb (get_or l k 0) 0 e)
+  names_stop h e = rw (drop-cons l k 0 h, eq-eqb (get_or l k 0) 0 e)
 
-  pub names-end : length l ≤ k → names (drop k l) ≡ []
+  pub names_end : length l ≤ k → names (drop k l) ≡ []
   unfolding names
-  names-end h = rw (drop_of_length-le l h)
+  names_end h = rw (drop_of_length-le l h)
 
 pub names_short : (l : List ℕ) → length (names l) ≤ length l
 unfolding names
@@ -69,11 +69,11 @@ module _ (p : ℕ) where
   unfolding keep_others
   keep-on a l k h ne = rw (names-on l k h ne)
 
-  pub kept-stop : (a : Kept) (l : List ℕ) (k : ℕ) → length l ≡ 32 → keep_others p (kept_as []) (names l) ≡ keep_others p a
+  pub kept_stop : (a : Kept) (l : List ℕ) (k : ℕ) → length l ≡ 32 → keep_others p (kept_as []) (names l) ≡ keep_others p a
       (names (drop k l)) → names (drop k l) ≡ []
       → a.line ≡ padded 0 (without p (names l))
   unfolding keep_others
-  kept-stop a l k h e z =
+  kept_stop a l k h e z =
       let s = names_short l in
       let h2 : length (names l) ≤ 32 = omega (arith, s, h) in
       let b : 0 + length (names l) ≤ 32 = omega (arith, h2) in
@@ -86,13 +86,13 @@ module _ (l : List ℕ) (k : ℕ) where
   unfolding all
   all-names-on t h ne = rw (names-on l k h ne)
 
-  pub all-names-stop : (t : ℕ → Bool) → k < length l → get_or l k 0 ≡ 0 → all t (names (drop k l)) ≡ true
+  pub all-names_stop : (t : ℕ → Bool) → k < length l → get_or l k 0 ≡ 0 → all t (names (drop k l)) ≡ true
   unfolding all
-  all-names-stop t h e = rw (names-stop l k h e)
+  all-names_stop t h e = rw (names_stop l k h e)
 
-  pub all-names-end : (t : ℕ → Bool) → length l ≤ k → all t (names (drop k l)) ≡ true
+  pub all-names_end : (t : ℕ → Bool) → length l ≤ k → all t (names (drop k l)) ≡ true
   unfolding all
-  all-names-end t h = rw (names-end l k h)
+  all-names_end t h = rw (names_end l k h)
 
 -- one more name at the end of a line
 pub push_is : (l : List ℕ) (p : ℕ) → l ≡ padded 0 (names l) → length (names l) < 32 → set l (length (names l)) p ≡ padded 0 (names l ++ (p ∷ []))

@@ -50,6 +50,6 @@ fresh_entries = fresh-table 32 5
 pub no_lines : lines_in no_entries ≡ replicate 32 blank
 no_lines = refl
 
-pub no-lines_padded : lines_in no_entries ≡ padded blank []
+pub no_lines_padded : lines_in no_entries ≡ padded blank []
 unfolding padded
-no-lines_padded = refl
+no_lines_padded = refl

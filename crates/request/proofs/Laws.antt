@@ -114,12 +114,12 @@ label_ends l i h = rw (drop_of_length-le l h)
 
 module _ (g : Group) (k : Field) (n : ℕ) (s : FileSet) (e : k ≡ Field.Number n) (d : s ≡ adding g.files n) where
   -- a file above the last one
-  pub join-rises : g.last < n → record { good = g.good; rising = g.rising; last = n; files = s } ≡ joined g k
-  join-rises h = rw (e, d, lt-ltb g.last n h)
+  pub join_rises : g.last < n → record { good = g.good; rising = g.rising; last = n; files = s } ≡ joined g k
+  join_rises h = rw (e, d, lt-ltb g.last n h)
 
   -- and one that isn't
-  pub join-falls : n ≤ g.last → record { good = g.good; rising = false; last = n; files = s } ≡ joined g k
-  join-falls h = rw (e, d, le-ltb g.last n h)
+  pub join_falls : n ≤ g.last → record { good = g.good; rising = false; last = n; files = s } ≡ joined g k
+  join_falls h = rw (e, d, le-ltb g.last n h)
 
 pub group_more : (n i : ℕ) (l : List ℕ) (g : Group) (a : ℕ) → i < n
     → group_from (n - i) (drop a l) g ≡ group_from (n - (i + 1)) (drop (a + file_width) l) (joined g (file_in (take file_width (drop a l))))
@@ -214,14 +214,14 @@ module _ (k : Verb) (v q j : Group) (p : ℕ) where
   pub j-bad : v.good ≡ true → q.good ≡ true → j.good ≡ false → enter_by k v q j p ≡ refused Refusal.BadNumber
   j-bad e d c = rw (e, d, c)
 
-  pub v-falls : AllFiles v q j → v.rising ≡ false → enter_by k v q j p ≡ refused Refusal.NotRising
-  v-falls (e, d, c) h = rw (e, d, c, h)
+  pub v_falls : AllFiles v q j → v.rising ≡ false → enter_by k v q j p ≡ refused Refusal.NotRising
+  v_falls (e, d, c) h = rw (e, d, c, h)
 
-  pub q-falls : AllFiles v q j → v.rising ≡ true → q.rising ≡ false → enter_by k v q j p ≡ refused Refusal.NotRising
-  q-falls (e, d, c) h i = rw (e, d, c, h, i)
+  pub q_falls : AllFiles v q j → v.rising ≡ true → q.rising ≡ false → enter_by k v q j p ≡ refused Refusal.NotRising
+  q_falls (e, d, c) h i = rw (e, d, c, h, i)
 
-  pub j-falls : AllFiles v q j → v.rising ≡ true → q.rising ≡ true → j.rising ≡ false → enter_by k v q j p ≡ refused Refusal.NotRising
-  j-falls (e, d, c) h i m = rw (e, d, c, h, i, m)
+  pub j_falls : AllFiles v q j → v.rising ≡ true → q.rising ≡ true → j.rising ≡ false → enter_by k v q j p ≡ refused Refusal.NotRising
+  j_falls (e, d, c) h i m = rw (e, d, c, h, i, m)
 
   pub all-good : AllFiles v q j → v.rising ≡ true → q.rising ≡ true → j.rising ≡ true
       → enter_by k v q j p ≡ taken k p 0 0 (claiming v.files q.files j.files)
@@ -327,19 +327,19 @@ module _ (v : Verb) (l : List ℕ) where
   unfolding record_line
   record_length_lem n = rw (ne_eqb (length l) record_length n)
 
-  pub record-program : length l ≡ record_length → program_field l ≡ Field.Bad → record_line v l ≡ refused Refusal.BadNumber
+  pub record_program : length l ≡ record_length → program_field l ≡ Field.Bad → record_line v l ≡ refused Refusal.BadNumber
   unfolding record_line
-  record-program n e = rw (eq-eqb (length l) record_length n, e)
+  record_program n e = rw (eq-eqb (length l) record_length n, e)
 
-  pub record-file : (p : ℕ) → length l ≡ record_length → program_field l ≡ Field.Number p → file_field l ≡ Field.Bad
+  pub record_file : (p : ℕ) → length l ≡ record_length → program_field l ≡ Field.Number p → file_field l ≡ Field.Bad
       → record_line v l ≡ refused Refusal.BadNumber
   unfolding record_line
-  record-file p n e d = rw (eq-eqb (length l) record_length n, e, d)
+  record_file p n e d = rw (eq-eqb (length l) record_length n, e, d)
 
-  pub record-record : (p f : ℕ) → length l ≡ record_length → program_field l ≡ Field.Number p → file_field l ≡ Field.Number f
+  pub record_record : (p f : ℕ) → length l ≡ record_length → program_field l ≡ Field.Number p → file_field l ≡ Field.Number f
       → record_field l ≡ Field.Bad → record_line v l ≡ refused Refusal.BadNumber
   unfolding record_line
-  record-record p f n e d c = rw (eq-eqb (length l) record_length n, e, d, c)
+  record_record p f n e d c = rw (eq-eqb (length l) record_length n, e, d, c)
 
   pub record_good_lem : (p f m : ℕ) → length l ≡ record_length → program_field l ≡ Field.Number p → file_field l ≡ Field.Number f
       → record_field l ≡ Field.Number m → record_line v l ≡ taken v p f m no_claims
@@ -350,13 +350,13 @@ module _ (v : Verb) (l : List ℕ) where
   unfolding alone_line
   alone_length_lem n = rw (ne_eqb (length l) alone_length n)
 
-  pub alone-program : length l ≡ alone_length → program_field l ≡ Field.Bad → alone_line v l ≡ refused Refusal.BadNumber
+  pub alone_program : length l ≡ alone_length → program_field l ≡ Field.Bad → alone_line v l ≡ refused Refusal.BadNumber
   unfolding alone_line
-  alone-program n e = rw (eq-eqb (length l) alone_length n, e)
+  alone_program n e = rw (eq-eqb (length l) alone_length n, e)
 
-  pub alone-good : (p : ℕ) → length l ≡ alone_length → program_field l ≡ Field.Number p → alone_line v l ≡ taken v p 0 0 no_claims
+  pub alone_good : (p : ℕ) → length l ≡ alone_length → program_field l ≡ Field.Number p → alone_line v l ≡ taken v p 0 0 no_claims
   unfolding alone_line
-  alone-good p n e = rw (eq-eqb (length l) alone_length n, e)
+  alone_good p n e = rw (eq-eqb (length l) alone_length n, e)
 
 -- ---- by the verb that a line begins with
 

@@ -32,7 +32,7 @@ use Rattle.request.specs.Requests.{read_as, verb_of, request_of, has_label, is_e
 use Rattle.request.specs.Law.{IsLabel, RangeAs, InRange, saying, label_as, TakenWith, AsksFor, LineLaw, SayingLaw, LabelLaw}
 use Rattle.request.proofs.Verbs.{AskedBack, verb_good, verb_length, ProperAs, call_good, line-begins, verb_found}
 use Rattle.request.proofs.Verbs.{program_columns, file_columns, count_columns, record_columns}
-use Rattle.request.proofs.Laws.{entry-good, counts-good, file-good, record_good_lem, alone-good}
+use Rattle.request.proofs.Laws.{entry-good, counts-good, file-good, record_good_lem, alone_good}
 use Rattle.request.proofs.Groups.{set_bits, files-files, files_rise, files-length, set_back, list_back, columns_back, files-read}
 
 -- ---- a line that asks for a call is read as this call
@@ -103,7 +103,7 @@ alone_read a label h k =
     let n : length l ≡ alone_length = omega (arith, length-append (verb_columns a.verb) p, verb_length a.verb, m) in
     let v = drop_at (verb_columns a.verb) p program_at (verb_length a.verb) in
     let j = ap (take program_width) v ∙ take_all program_width p (omega arith) in
-    alone-good a.verb l a.program n (ap program_in j ∙ program_columns a.program h.0 h.1)
+    alone_good a.verb l a.program n (ap program_in j ∙ program_columns a.program h.0 h.1)
     ∙ ap₂ (λ (f n : ℕ). taken a.verb a.program f n no_claims) (sym k.0) (sym k.1)
     ∙ ap (taken a.verb a.program a.file a.item) (sym k.2)
 

@@ -10,7 +10,7 @@ use lib.ListN.{length, take, drop}
 use Rattle.columns.specs.declared.Field.{Field}
 use Rattle.columns.specs.Columns.{program_width, file_width, record_width, number_of, on_number}
 use Rattle.columns.proofs.Laws.{number_is}
-use Rattle.laws.specs.Lists.{all, withFound}
+use Rattle.laws.specs.Lists.{all, with_found}
 use Rattle.rules.specs.declared.Claims.{Claims}
 use Rattle.rules.specs.declared.Refusal.{Refusal}
 use Rattle.rules.specs.declared.Verb.{Verb}
@@ -44,55 +44,55 @@ module _ (P : Request → Type 0) (h : Ways P) where
       by_field Field.Bad e = g
       by_field (Field.Number n) e = k n (number_is w low high l n e).1
 
-  program-ways : (l : List ℕ) {f : ℕ → Request} → ((n : ℕ) → n ≤ 32 → P (f n)) → P (on_number (program_field l) (refused Refusal.BadNumber) f)
+  program_ways : (l : List ℕ) {f : ℕ → Request} → ((n : ℕ) → n ≤ 32 → P (f n)) → P (on_number (program_field l) (refused Refusal.BadNumber) f)
   unfolding program_field
-  program-ways l k = a-number program_width 1 32 (take program_width (drop program_at l)) h.number k
+  program_ways l k = a-number program_width 1 32 (take program_width (drop program_at l)) h.number k
 
-  some-files : (o : Option (List ℕ)) {d : Request} {f : List ℕ → Request} → P d → ((l : List ℕ) → P (f l)) → P (withFound o d f)
+  some-files : (o : Option (List ℕ)) {d : Request} {f : List ℕ → Request} → P d → ((l : List ℕ) → P (f l)) → P (with_found o d f)
   some-files none g k = g
   some-files (some l) g k = k l
 
-  files-ways : (v : Verb) (l : List ℕ) (p w r j : ℕ) → p ≤ 32 → P (entry_files v l p w r j)
+  files_ways : (v : Verb) (l : List ℕ) (p w r j : ℕ) → p ≤ 32 → P (entry_files v l p w r j)
   unfolding entry_files
-  files-ways v l p w r j k = some-files (files_in w (drop files_at l)) h.number (λ vs. some-files (files_in r (drop (entry_length w) l)) h.number
+  files_ways v l p w r j k = some-files (files_in w (drop files_at l)) h.number (λ vs. some-files (files_in r (drop (entry_length w) l)) h.number
       (λ qs. some-files (files_in j (drop (entry_length (w + r)) l)) h.number
       (λ js. either (rises vs && rises qs && rises js) (h.call v p 0 0 _ k (omega arith) (omega arith)) h.rising)))
 
-  counts-ways : (v : Verb) (l : List ℕ) (p : ℕ) → p ≤ 32 → P (entry_counts v l p)
+  counts_ways : (v : Verb) (l : List ℕ) (p : ℕ) → p ≤ 32 → P (entry_counts v l p)
   unfolding entry_counts w_field r_field j_field
-  counts-ways v l p k = a-number file_width 0 64 (take file_width (drop w_at l)) h.number
+  counts_ways v l p k = a-number file_width 0 64 (take file_width (drop w_at l)) h.number
       (λ w i. a-number file_width 0 64 (take file_width (drop r_at l)) h.number
       (λ r i₂. a-number file_width 0 64 (take file_width (drop j_at l)) h.number
-      (λ j i₃. either (eqb (length l) (entry_length (w + r + j))) (files-ways v l p w r j k) h.length)))
+      (λ j i₃. either (eqb (length l) (entry_length (w + r + j))) (files_ways v l p w r j k) h.length)))
 
   -- a line of any shape
-  shape-ways : (s : Shape) (v : Verb) (l : List ℕ) → P (read_as s v l)
+  shape_ways : (s : Shape) (v : Verb) (l : List ℕ) → P (read_as s v l)
   unfolding entry_line file_line record_line alone_line file_field record_field
-  shape-ways Shape.Entry v l = either (ltb (length l) files_at) h.length (program-ways l
-      (λ p k. either (all label_byte (label_part l)) (counts-ways v l p k) h.label))
-  shape-ways Shape.File v l = either (eqb (length l) file_length)
-      (program-ways l (λ p k. a-number file_width 1 64 (take file_width (drop file_at l)) h.number (λ f i. h.call v p f 0 _ k i (omega arith))))
+  shape_ways Shape.Entry v l = either (ltb (length l) files_at) h.length (program_ways l
+      (λ p k. either (all label_byte (label_part l)) (counts_ways v l p k) h.label))
+  shape_ways Shape.File v l = either (eqb (length l) file_length)
+      (program_ways l (λ p k. a-number file_width 1 64 (take file_width (drop file_at l)) h.number (λ f i. h.call v p f 0 _ k i (omega arith))))
       h.length
-  shape-ways Shape.Record v l = either (eqb (length l) record_length)
-      (program-ways l (λ p k. a-number file_width 1 64 (take file_width (drop file_at l)) h.number (λ f i.
+  shape_ways Shape.Record v l = either (eqb (length l) record_length)
+      (program_ways l (λ p k. a-number file_width 1 64 (take file_width (drop file_at l)) h.number (λ f i.
       a-number record_width 1 65535 (take record_width (drop record_at l)) h.number (λ n i₂. h.call v p f n _ k i i₂)))) h.length
-  shape-ways Shape.Alone v l = either (eqb (length l) alone_length) (program-ways l (λ p k. h.call v p 0 0 _ k (omega arith) (omega arith)))
+  shape_ways Shape.Alone v l = either (eqb (length l) alone_length) (program_ways l (λ p k. h.call v p 0 0 _ k (omega arith) (omega arith)))
       h.length
 
-  begun-ways : (b : Option Verb) (l : List ℕ) → P (withFound b (refused Refusal.NoVerb) (λ v. read_as (shape_of v) v l))
-  begun-ways none l = h.no-verb
-  begun-ways (some v) l = shape-ways (shape_of v) v l
+  begun_ways : (b : Option Verb) (l : List ℕ) → P (with_found b (refused Refusal.NoVerb) (λ v. read_as (shape_of v) v l))
+  begun_ways none l = h.no-verb
+  begun_ways (some v) l = shape_ways (shape_of v) v l
 
-  pub line-ways : (l : List ℕ) → P (request_of l)
+  pub line_ways : (l : List ℕ) → P (request_of l)
   unfolding request_of
-  line-ways l = begun-ways (verb_of l) l
+  line_ways l = begun_ways (verb_of l) l
 
 -- the numbers of a line are bytes, and that of a record two
 pub numbers_fit : (l : List ℕ)
     → ((request_of l).asked.program ≤ 255) × ((request_of l).asked.file ≤ 255) × ((request_of l).asked.item ≤ 65535)
 numbers_fit l =
     let none : (0 ≤ 255) × (0 ≤ 255) × (0 ≤ 65535) = (omega arith, omega arith, omega arith) in
-    line-ways (λ q. (q.asked.program ≤ 255) × (q.asked.file ≤ 255) × (q.asked.item ≤ 65535))
+    line_ways (λ q. (q.asked.program ≤ 255) × (q.asked.file ≤ 255) × (q.asked.item ≤ 65535))
     (record {
       no-verb = none;
       length = none;

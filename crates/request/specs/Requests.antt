@@ -10,7 +10,7 @@ use Rattle.files.specs.Sets.{no_files, member, adding}
 use Rattle.rules.specs.declared.Claims.{Claims}
 use Rattle.rules.specs.declared.Asked.{Asked}
 use Rattle.rules.specs.declared.Refusal.{Refusal}
-use Rattle.laws.specs.Lists.{all, keep, first, withFound, rising, same}
+use Rattle.laws.specs.Lists.{all, keep, first, with_found, rising, same}
 use Rattle.rules.specs.Calls.{Call, Enter, Open, Close, Drop, Leave, Cancel, Fetch, Return, claiming, no_claims, call_of}
 use Rattle.rules.specs.declared.Verb.{Verb}
 use Rattle.request.specs.declared.Reading.{Reading}
@@ -90,7 +90,7 @@ label_part l = take label_width (drop label_at l)
 -- the numbers of n files, one after another; none if one of them isn't a file's number
 unfoldable pub files_in : ℕ → List ℕ → Option (List ℕ)
 files_in zero l = some []
-files_in (suc n) l = on_number (file_in (take file_width l)) none (λ f. withFound (files_in n (drop file_width l)) none (λ fs. some (f ∷ fs)))
+files_in (suc n) l = on_number (file_in (take file_width l)) none (λ f. with_found (files_in n (drop file_width l)) none (λ fs. some (f ∷ fs)))
 
 -- the numbers rise strictly, from above n
 unfoldable pub rises_from : ℕ → List ℕ → Bool
@@ -115,9 +115,9 @@ set_of fs = adding_all no_files fs
 -- ENTER, after columns 7–26 and the length: "then w files of V and r of Q", "and the J files last"
 unfoldable pub entry_files : Verb → List ℕ → ℕ → ℕ → ℕ → ℕ → Request
 entry_files v l p w r j =
-    withFound (files_in w (drop files_at l)) (refused Refusal.BadNumber) (λ vs.
-    withFound (files_in r (drop (entry_length w) l)) (refused Refusal.BadNumber) (λ qs.
-    withFound (files_in j (drop (entry_length (w + r)) l)) (refused Refusal.BadNumber) (λ js.
+    with_found (files_in w (drop files_at l)) (refused Refusal.BadNumber) (λ vs.
+    with_found (files_in r (drop (entry_length w) l)) (refused Refusal.BadNumber) (λ qs.
+    with_found (files_in j (drop (entry_length (w + r)) l)) (refused Refusal.BadNumber) (λ js.
     cond (rises vs && rises qs && rises js) (taken v p 0 0 (claiming (set_of vs) (set_of qs) (set_of js))) (refused Refusal.NotRising))))
 
 -- ENTER, after the label: the counts w, r and j, then the length
@@ -179,7 +179,7 @@ begun (some v) = Beginning.With v
 
 -- what a line says, or the first of refusals 3 to 7 that applies
 unfoldable pub request_of : List ℕ → Request
-request_of l = withFound (verb_of l) (refused Refusal.NoVerb) (λ v. read_as (shape_of v) v l)
+request_of l = with_found (verb_of l) (refused Refusal.NoVerb) (λ v. read_as (shape_of v) v l)
 
 -- a line of this shape has a label
 abbrev pub has_label : Shape → Bool

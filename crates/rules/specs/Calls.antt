@@ -13,7 +13,7 @@ use Rattle.rules.specs.declared.Check.{Check}
 use Rattle.rules.specs.declared.Answer.{Answer}
 use Rattle.rules.specs.declared.Word.{Word}
 use Rattle.rules.specs.declared.Reply.{Reply}
-use Rattle.laws.specs.Lists.{withFound, names, without}
+use Rattle.laws.specs.Lists.{with_found, names, without}
 use Rattle.rules.specs.Modes.{by_mode}
 use Rattle.rules.specs.Boards.{no_program, at, set_program, set_waiting, set_entry, set_favour, set_standing, set_item, uncount, tally, closing}
 use Rattle.rules.specs.Boards.{dropping, set_claims}
@@ -46,7 +46,7 @@ hold_for b p v q j w = let s = favour (hold b p v q j) w in reply s.board Answer
 unfoldable pub enter : Board → ℕ → FileSet → FileSet → FileSet → Reply
 enter b p v q j =
     cond (eqb b.favoured 0)
-    (withFound (overdue b) (reply (admit b p v q j) Answer.Admit (line Word.Admit p 0 ∷ [])) (hold_for b p v q j))
+    (with_found (overdue b) (reply (admit b p v q j) Answer.Admit (line Word.Admit p 0 ∷ [])) (hold_for b p v q j))
     (reply (hold b p v q j) Answer.Held (line Word.Held p 0 ∷ []))
 
 -- p, which is now q, waits: "A waiter joins the end of the waiting line."

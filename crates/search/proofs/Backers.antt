@@ -114,9 +114,9 @@ module _ (sets : Sets) (others : ProgramSet) (p : ℕ) where
   closed-by zero n c = rw (add-zero n) c
   closed-by (suc d) n c = rw (add-suc n d) (closed-next (n + d) (closed-by d n c))
 
-  falls-by : (d n : ℕ) → Closed n → (x : ℕ) → has_program (S (n + d)) x ≡ true → has_program (S n) x ≡ true
-  falls-by zero n c x e = rw (add-zero n) at e
-  falls-by (suc d) n c x e = falls-by d n c x (closed-by d n c x (rw (add-suc n d) at e))
+  falls_by : (d n : ℕ) → Closed n → (x : ℕ) → has_program (S (n + d)) x ≡ true → has_program (S n) x ≡ true
+  falls_by zero n c x e = rw (add-zero n) at e
+  falls_by (suc d) n c x e = falls_by d n c x (closed-by d n c x (rw (add-suc n d) at e))
 
   -- how many were found
   abbrev count : ℕ → ℕ
@@ -147,7 +147,7 @@ module _ (sets : Sets) (others : ProgramSet) (p : ℕ) where
   pub all_found : (x : ℕ) → Back sets others p x → has_program (S 32) x ≡ true
   all_found x b = let (n, e) = back_found x b in let (k, h, c) = closed_at in
       let z : k + (32 - k) ≡ 32 = omega arith in
-      rw z at (grows-by (32 - k) k x (falls-by n k c x (rw (add_comm n k) at (grows-by k n x e))))
+      rw z at (grows-by (32 - k) k x (falls_by n k c x (rw (add_comm n k) at (grows-by k n x e))))
 
 -- ---- a file given
 
@@ -173,19 +173,19 @@ module _ (sets : Sets) (a : ProgramSet) (p f : ℕ) where
       (x, and_left (has_program all x) (claims_at sets f mode x) u, and_right (has_program all x) (claims_at sets f mode x) u)
 
   -- one that holds p back claims f
-  pub unsafe-in : (x : ℕ) → Back sets among p x → claims_at sets f mode x ≡ true → safe_in sets a p f ≡ false
+  pub unsafe_in_lem : (x : ℕ) → Back sets among p x → claims_at sets f mode x ≡ true → safe_in sets a p f ≡ false
   unfolding safe_in
-  unsafe-in x b d = ap not (is-claimed x (all_found sets among p x b) d)
+  unsafe_in_lem x b d = ap not (is-claimed x (all_found sets among p x b) d)
 
   -- none does
-  pub safe-in : ((x : ℕ) → Back sets among p x → claims_at sets f mode x ≡ false) → safe_in sets a p f ≡ true
+  pub safe_in_lem : ((x : ℕ) → Back sets among p x → claims_at sets f mode x ≡ false) → safe_in sets a p f ≡ true
   unfolding safe_in
-  safe-in n = ap not (no_true claimed (λ d. let (x, i, u) = of-claimed d in never u (n x (found_back sets among p 32 x i))))
+  safe_in_lem n = ap not (no_true claimed (λ d. let (x, i, u) = of-claimed d in never u (n x (found_back sets among p 32 x i))))
 
   -- on boards: whether an order comes back with f given to p
-  pub safe-for : 1 ≤ p → p ≤ 32 → SafeFor sets a p f (safe_in sets a p f)
+  pub safe_for : 1 ≤ p → p ≤ 32 → SafeFor sets a p f (safe_in sets a p f)
   unfolding safe_in
-  safe-for h k b s e ad o = by_test claimed
+  safe_for h k b s e ad o = by_test claimed
       (λ t. let (x, i, d) = of-claimed t in
       rw t (sym (back-unsafe b sets p f s h k ad o x (on-board x (found_back sets among p 32 x i)) d)))
       (λ t. rw t (sym (back-safe b sets p f s h k ad o all (λ x i. on-board x (found_back sets among p 32 x i))

@@ -14,7 +14,7 @@ use Rattle.laws.specs.Lists.{found}
 use Rattle.rules.specs.Modes.{Mode, clashing, some_mode, claim_of, mode_of}
 use Rattle.rules.specs.Boards.{at, is_program}
 use Rattle.rules.specs.Orders.{holds_back, carried, safe}
-use Rattle.theory.specs.Reach.{is_other, ReachesOn, no_back, reaches-direct, reaches-through, given_holds, safe-by-closed, unsafe-by-reach}
+use Rattle.theory.specs.Reach.{is_other, ReachesOn, no_back, reaches-direct, reaches-through, given_holds, safe-by-closed, unsafe-by_reach}
 use Rattle.tables.specs.declared.ProgramSet.{ProgramSet}
 use Rattle.tables.specs.ProgramSets.{has_program, without_program, union_of, less_of}
 use Rattle.store.specs.Sets.{Sets, SetsOf, mode_at, holds_one, claims_at}
@@ -46,8 +46,8 @@ module _ (sets : Sets) (p : ℕ) (s : ProgramSet) where
   abbrev pub more : ProgramSet
   more = packed (holders_of sets p s) 32
 
-  in-more : (x : ℕ) → has_program s x ≡ true → holds_one sets p x ≡ true → has_program more x ≡ true
-  in-more x m e = packed-has (holders_of sets p s) 32 x (omega arith) (low s x m) (high s x m) ∙ and_both (has_program s x) (holds_one sets p x) m e
+  in_more : (x : ℕ) → has_program s x ≡ true → holds_one sets p x ≡ true → has_program more x ≡ true
+  in_more x m e = packed-has (holders_of sets p s) 32 x (omega arith) (low s x m) (high s x m) ∙ and_both (has_program s x) (holds_one sets p x) m e
 
   pub of-more : (x : ℕ) → has_program more x ≡ true → (has_program s x ≡ true) × (holds_one sets p x ≡ true)
   of-more x e = let u = sym (packed-has (holders_of sets p s) 32 x (omega arith) (low more x e) (high more x e)) ∙ e in
@@ -55,7 +55,7 @@ module _ (sets : Sets) (p : ℕ) (s : ProgramSet) where
 
   -- who holds p back is not in s without them
   gone : (x : ℕ) → holds_one sets p x ≡ true → has_program (less_of s more) x ≡ false
-  gone x e = less_has s more x ∙ by_test (has_program s x) (λ t. rw (t, in-more x t e)) (λ t. rw t)
+  gone x e = less_has s more x ∙ by_test (has_program s x) (λ t. rw (t, in_more x t e)) (λ t. rw t)
 
   pub still-gone : (x : ℕ) → has_program s x ≡ false → has_program (less_of s more) x ≡ false
   still-gone x e = less_has s more x ∙ rw e
@@ -100,14 +100,14 @@ module _ (sets : Sets) (among : ProgramSet) (p f : ℕ) (mode : Mode) where
       next = union_of (without_program found q) (more sets q rest)
 
       -- whoever is not in the next and not q was not in the last
-      was-not : (y : ℕ) → y ≢ q → has_program next y ≡ false → has_program found y ≡ false
-      was-not y d n = by_test (has_program found y)
+      was_not : (y : ℕ) → y ≢ q → has_program next y ≡ false → has_program found y ≡ false
+      was_not y d n = by_test (has_program found y)
           (λ t. never (union_has (without_program found q) (more sets q rest) y
           ∙ or_left (has_program (without_program found q) y) _ (without-number-other 32 found.bits q y d ∙ t)) n) (λ t. t)
 
       -- and was not in the rest
-      rest-not : (y : ℕ) → has_program (less_of rest (more sets q rest)) y ≡ false → has_program next y ≡ false → has_program rest y ≡ false
-      rest-not y l n = by_test (has_program rest y)
+      rest_not : (y : ℕ) → has_program (less_of rest (more sets q rest)) y ≡ false → has_program next y ≡ false → has_program rest y ≡ false
+      rest_not y l n = by_test (has_program rest y)
           (λ t. never (union_has (without_program found q) (more sets q rest) y
           ∙ or_right (has_program (without_program found q) y) (has_program (more sets q rest) y) (was-more sets q rest y t l)) n) (λ t. t)
 
@@ -119,9 +119,9 @@ module _ (sets : Sets) (among : ProgramSet) (p f : ℕ) (mode : Mode) where
         base = λ x m d. still-gone sets q rest x (k.base x m d);
         step = λ x y m l r n d. by_test (eqb y q)
             (λ t. gone sets q rest x (ap (λ (z : ℕ). holds_one sets z x) (sym (eqb-true y q t)) ∙ d))
-            (λ t. still-gone sets q rest x (k.step x y m l (rest-not y r n) (was-not y (eqb-false y q t) n) d));
+            (λ t. still-gone sets q rest x (k.step x y m l (rest_not y r n) (was_not y (eqb-false y q t) n) d));
         clear = λ y l r n. by_test (eqb y q) (λ t. ap (claims_at sets f mode) (eqb-true y q t) ∙ c)
-            (λ t. k.clear y l (rest-not y r n) (was-not y (eqb-false y q t) n));
+            (λ t. k.clear y l (rest_not y r n) (was_not y (eqb-false y q t) n));
         inside = λ x d. or_cases (has_program (without_program found q) x) (has_program (more sets q rest) x)
             (sym (union_has (without_program found q) (more sets q rest) x) ∙ d)
             (λ t. let (i, r) = k.inside x (rest_more found found q (λ z w. w) x t) in (i, still-gone sets q rest x r))
@@ -143,9 +143,9 @@ module _ (b : Board) (sets : Sets) (p f : ℕ) (s : SetsOf b sets) (h : 1 ≤ p)
   is-program : is_program p ≡ true
   is-program = is_number_lem 32 p h k
 
-  in-among : (x : ℕ) → is_other b p x ≡ true → has_program among x ≡ true
+  in_among : (x : ℕ) → is_other b p x ≡ true → has_program among x ≡ true
   unfolding admitted_set
-  in-among x e =
+  in_among x e =
       let u = and_left (is_program x && admits b x) (not (eqb x p)) e in
       let i = and_left (is_program x) (admits b x) u in
       without-number-other 32 (admitted_set b).bits p x (eqb-false x p (not_true (eqb x p) (and_right (is_program x && admits b x) _ e)))
@@ -181,17 +181,17 @@ module _ (b : Board) (sets : Sets) (p f : ℕ) (s : SetsOf b sets) (h : 1 ≤ p)
   -- one that holds p back claims f
   pub back-unsafe : (x : ℕ) → Back sets among p x → claims_at sets f mode x ≡ true → safe b p f ≡ false
   back-unsafe x c d = let m = back-among x c in
-      unsafe-by-reach b p f is-program a x (back-reaches x c)
+      unsafe-by_reach b p f is-program a x (back-reaches x c)
       (given_holds (at b p) (at b x) f ∙ or_right (holds_back (at b p) (at b x)) _ (sym (claimed-is x (low among x m) (high among x m)) ∙ d))
 
   -- those of `all` are all that hold p back, and none claims f
   pub back-safe : (all : ProgramSet) → ((x : ℕ) → has_program all x ≡ true → Back sets among p x) → ((x : ℕ) → Back sets among p x → has_program all x ≡ true)
       → ((x : ℕ) → has_program all x ≡ true → claims_at sets f mode x ≡ false) → safe b p f ≡ true
   back-safe all g c n = safe-by-closed b p f is-program a (has_program all) o (record {
-    base = λ x u w. let m = in-among x u in c x (Back.nearest m (holds-is b sets s x p (low among x m) (high among x m) h k ∙ w));
-    step = λ x y u i _ t w. let m = in-among x u in let l = in-among y i in
+    base = λ x u w. let m = in_among x u in c x (Back.nearest m (holds-is b sets s x p (low among x m) (high among x m) h k ∙ w));
+    step = λ x y u i _ t w. let m = in_among x u in let l = in_among y i in
         c x (Back.further m (holds-is b sets s x y (low among x m) (high among x m) (low among y l) (high among y l) ∙ w) (g y t));
-  }) (λ x u t. let m = in-among x u in
+  }) (λ x u t. let m = in_among x u in
       given_holds (at b p) (at b x) f ∙ ap₂ (λ (i j : Bool). i || j)
       (no_back b p x is-program a o (back-reaches x (g x t)))
       (sym (claimed-is x (low among x m) (high among x m)) ∙ n x t))

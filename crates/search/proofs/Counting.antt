@@ -104,8 +104,8 @@ module _ (rows : List ℕ) (l : ProgramSet) where
   unfolding everyone
   held-most q = omega (arith, length_keep (λ i. has_program (row_of rows i) q) (those l), length_keep (has_program l) (rising 32 1), length-rising 32 1)
 
-  pub counting-start : (counts : List ℕ) → counts ≡ replicate 32 0 → CountedBut rows l l counts
-  counting-start counts e = (
+  pub counting_start : (counts : List ℕ) → counts ≡ replicate 32 0 → CountedBut rows l l counts
+  counting_start counts e = (
     λ x d. d,
     ap length e ∙ length-replicate {A = ℕ} 32 0,
     λ q d. omega (arith, zero q (low l q d) (high l q d)),
@@ -116,16 +116,16 @@ module _ (rows : List ℕ) (l : ProgramSet) where
       zero q h k = ap (λ (c : List ℕ). count_of c q) e ∙ get_or-replicate 32 (q - 1) 0 0 (omega arith)
 
   module _ (rest : ProgramSet) (counts : List ℕ) (c : CountedBut rows l rest counts) where
-    pub can-raise : (row : ProgramSet) → CanRaise (common_of row l) counts
-    can-raise row = (
+    pub can_raise : (row : ProgramSet) → CanRaise (common_of row l) counts
+    can_raise row = (
       c.1,
       λ q e. let d = and_right (has_program row q) (has_program l q) (sym (common_has row l q) ∙ e) in
           omega (arith, c.2 q d, held-most q),
     )
 
     -- of one that is not left nothing changes
-    not-raised : (row : ProgramSet) (q : ℕ) → 1 ≤ q → q ≤ 32 → has_program l q ≡ false → count_of (changed (λ n. n + 1) (common_of row l) counts) q ≡ 0
-    not-raised row q h k d = changed-at (λ n. n + 1) (common_of row l) counts q h k
+    not_raised : (row : ProgramSet) (q : ℕ) → 1 ≤ q → q ≤ 32 → has_program l q ≡ false → count_of (changed (λ n. n + 1) (common_of row l) counts) q ≡ 0
+    not_raised row q h k d = changed-at (λ n. n + 1) (common_of row l) counts q h k
         ∙ rw (common_has row l q ∙ ap (λ (t : Bool). has_program row q && t) d ∙ and_false (has_program row q)) (c.3 q h k d)
 
     pub counting_more : (p : ℕ) → has_program rest p ≡ true → CountedBut rows l (without_program rest p) (raised (common_of (row_of rows p) l) counts)
@@ -138,12 +138,12 @@ module _ (rows : List ℕ) (l : ProgramSet) where
           omega (arith, w, k, in_row rows rest p e q t))
           (λ t. let w : count_of (changed (λ n. n + 1) (common_of (row_of rows p) l) counts) q ≡ count_of counts q = z ∙ rw t in
           omega (arith, w, k, out-of-row rows rest p e q t)),
-      not-raised (row_of rows p),
+      not_raised (row_of rows p),
     )
 
-    pub counting-done : rest.bits ≡ 0 → counts ≡ counts_of rows l
+    pub counting_done : rest.bits ≡ 0 → counts ≡ counts_of rows l
     unfolding counts_of
-    counting-done e = ext_get_or 0 counts _ (c.1 ∙ sym (places-length _ 32 0)) (λ i h. at_place i (omega arith) ∙ sym (counts-at rows l i (omega arith)))
+    counting_done e = ext_get_or 0 counts _ (c.1 ∙ sym (places-length _ 32 0)) (λ i h. at_place i (omega arith) ∙ sym (counts-at rows l i (omega arith)))
       where
         none-held : (q : ℕ) → held_count rows rest q ≡ 0
         none-held q = omega (
@@ -162,8 +162,8 @@ module _ (rows : List ℕ) (l : ProgramSet) where
 -- ---- one taking
 
 module _ (rows counts : List ℕ) (l : ProgramSet) (c : Counted rows l counts) (p : ℕ) (e : has_program l p ≡ true) where
-  pub can-lower : CanLower (common_of (row_of rows p) (without_program l p)) counts
-  can-lower = (
+  pub can_lower : CanLower (common_of (row_of rows p) (without_program l p)) counts
+  can_lower = (
     c.0,
     λ q d.
         let u = sym (common_has (row_of rows p) (without_program l p) q) ∙ d in

@@ -22,8 +22,8 @@ use Rattle.search.specs.Counts.{Among}
 use Rattle.search.specs.Stages.{asked, stage}
 use Rattle.search.proofs.Laws.{low, high}
 use Rattle.search.proofs.Closing.{Closing, more, closing-start, closing-next, closing-done}
-use Rattle.search.proofs.Backers.{unsafe-in, safe-in}
-use Rattle.search.proofs.Stages.{to_ask, fewer-to-ask, stage-first, stage-next}
+use Rattle.search.proofs.Backers.{unsafe_in_lem, safe_in_lem}
+use Rattle.search.proofs.Stages.{to_ask, fewer_to_ask, stage-first, stage-next}
 
 -- ---- those that hold back, by the rows
 
@@ -62,18 +62,18 @@ module _ (sets : Sets) (a : ProgramSet) (p f : ℕ) where
     here-admitted q e = rest_more a a p (λ x t. t) q (k.closing.inside q e).0
 
     -- by the rows: those of the rest that hold back q, which is found
-    pub here-holders : (rows : List ℕ) → rows ≡ rows_of sets a → (q : ℕ) → has_program found q ≡ true → packed (holders_in rows q rest) 32 ≡ more sets q rest
-    here-holders rows e q t = holders_in_lem sets rows a q rest e (here-admitted q t)
+    pub here_holders : (rows : List ℕ) → rows ≡ rows_of sets a → (q : ℕ) → has_program found q ≡ true → packed (holders_in rows q rest) 32 ≡ more sets q rest
+    here_holders rows e q t = holders_in_lem sets rows a q rest e (here-admitted q t)
         (λ x u. rest_more a a p (λ y v. v) x (k.closing.within x u)) (k.closing.inside q t).1
 
     -- one that is found claims f
     pub here-unsafe : mode ≡ mode_at sets p f → (q : ℕ) → has_program found q ≡ true → claims_at sets f mode q ≡ true → safe_in sets a p f ≡ false
     here-unsafe m q e c = let (i, r) = k.closing.inside q e in
-        unsafe-in sets a p f q (k.closing.backs q i r) (ap (λ (z : Mode). claims_at sets f z q) (sym m) ∙ c)
+        unsafe_in_lem sets a p f q (k.closing.backs q i r) (ap (λ (z : Mode). claims_at sets f z q) (sym m) ∙ c)
 
     -- all that were found were asked about
     pub here-safe : mode ≡ mode_at sets p f → found.bits ≡ 0 → safe_in sets a p f ≡ true
-    here-safe m e = safe-in sets a p f (λ x w. ap (λ (z : Mode). claims_at sets f z x) (sym m)
+    here-safe m e = safe_in_lem sets a p f (λ x w. ap (λ (z : Mode). claims_at sets f z x) (sym m)
         ∙ closing-done sets (without_program a p) p f mode found rest k.closing (λ y. none_left found y e) x w)
 
     -- q, the lowest that is found, is asked about: those of the rest that hold it back are found, and the others are the rest
@@ -95,4 +95,4 @@ module _ (sets : Sets) (a : ProgramSet) (p f : ℕ) where
 
       -- fewer may still be asked about
       pub here-fewer : length (keep (to_ask (record { found = l; rest = r })) everyone) < length (keep (to_ask (record { found = found; rest = rest })) everyone)
-      here-fewer = fewer-to-ask sets q (record { found = found; rest = rest }) (λ x t. (k.closing.inside x t).1) e l r next-found next-rest
+      here-fewer = fewer_to_ask sets q (record { found = found; rest = rest }) (λ x t. (k.closing.inside x t).1) e l r next-found next-rest

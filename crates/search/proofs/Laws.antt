@@ -19,7 +19,7 @@ use Rattle.files.specs.Bits.{has_bit, is_number}
 use Rattle.files.proofs.Bits.{share_of, of_share, is_number_lem, has-bit, has-number, least, most}
 use Rattle.files.proofs.Bits.{without-number-same, without-number-other}
 use Rattle.rules.specs.declared.Board.{Board}
-use Rattle.laws.specs.Lists.{rising, any, keep, first, found, withFound, without, padded}
+use Rattle.laws.specs.Lists.{rising, any, keep, first, found, with_found, without, padded}
 use Rattle.rules.specs.Boards.{everyone, at, admitted}
 use Rattle.rules.specs.Orders.{held_back, carried_from, carried}
 use Rattle.tables.specs.declared.ProgramSet.{ProgramSet}
@@ -159,7 +159,7 @@ placed-start none = refl
 placed-start (some l) = rw (zero-add (length l), drop-replicate {A = ℕ} 0 (length l) 32)
 
 placed_more : (at : List ℕ) (k p : ℕ) (x : Option (List ℕ)) → k < length at → placed (set at k p) (k + 1) x ≡ placed at k
-    (withFound x none (λ l. some (p ∷ l)))
+    (with_found x none (λ l. some (p ∷ l)))
 placed_more at k p none h = refl
 placed_more at k p (some l) h =
     rw (

@@ -22,11 +22,11 @@ module _ (counts : List ℕ) (left : ProgramSet) where
   abbrev pub Untried : ProgramSet → Type 0
   Untried rest = ((q : ℕ) → at_zero counts left q ≡ true → has_program rest q ≡ true) × ((q : ℕ) → has_program rest q ≡ true → has_program left q ≡ true)
 
-  pub untried-start : Untried left
-  untried-start = (λ q e. and_left (has_program left q) (eqb (count_of counts q) 0) e, λ q e. e)
+  pub untried_start : Untried left
+  untried_start = (λ q e. and_left (has_program left q) (eqb (count_of counts q) 0) e, λ q e. e)
 
-  pub untried-more : (rest : ProgramSet) (p : ℕ) → Untried rest → eqb (count_of counts p) 0 ≡ false → Untried (without_program rest p)
-  untried-more rest p (f, g) n = (
+  pub untried_more : (rest : ProgramSet) (p : ℕ) → Untried rest → eqb (count_of counts p) 0 ≡ false → Untried (without_program rest p)
+  untried_more rest p (f, g) n = (
     λ q e. by_test (eqb q p)
         (λ t. let z : q ≡ p = eqb-true q p t in
         never (and_right (has_program left q) (eqb (count_of counts q) 0) e) (ap (λ (x : ℕ). eqb (count_of counts x) 0) z ∙ n))

@@ -36,39 +36,39 @@ module _ (sets : Sets) (q : ℕ) (s : Stage) (a : Apart s) where
   abbrev m : ProgramSet
   m = more sets q s.rest
 
-  found-cases : {C : Type 0} (x : ℕ) → has_program (asked sets q s).found x ≡ true → (has_program (without_program s.found q) x ≡ true → C)
+  found_cases : {C : Type 0} (x : ℕ) → has_program (asked sets q s).found x ≡ true → (has_program (without_program s.found q) x ≡ true → C)
       → (has_program m x ≡ true → C) → C
-  found-cases x e f g = or_cases (has_program (without_program s.found q) x) (has_program m x)
+  found_cases x e f g = or_cases (has_program (without_program s.found q) x) (has_program m x)
       (sym (union_has (without_program s.found q) m x) ∙ e) f g
 
   was-found : (x : ℕ) → has_program (without_program s.found q) x ≡ true → has_program s.found x ≡ true
   was-found x t = rest_more s.found s.found q (λ z w. w) x t
 
   pub apart_next : Apart (asked sets q s)
-  apart_next x e = found-cases x e (λ t. still-gone sets q s.rest x (a x (was-found x t))) (λ t. more-gone sets q s.rest x t)
+  apart_next x e = found_cases x e (λ t. still-gone sets q s.rest x (a x (was-found x t))) (λ t. more-gone sets q s.rest x t)
 
   -- nobody comes back
-  open-before : (x : ℕ) → to_ask (asked sets q s) x ≡ true → to_ask s x ≡ true
-  open-before x e = or_cases (has_program (asked sets q s).found x) (has_program (asked sets q s).rest x) e
-      (λ u. found-cases x u (λ t. or_left (has_program s.found x) _ (was-found x t))
+  open_before : (x : ℕ) → to_ask (asked sets q s) x ≡ true → to_ask s x ≡ true
+  open_before x e = or_cases (has_program (asked sets q s).found x) (has_program (asked sets q s).rest x) e
+      (λ u. found_cases x u (λ t. or_left (has_program s.found x) _ (was-found x t))
       (λ t. or_right (has_program s.found x) _ (of-more sets q s.rest x t).0))
       (λ u. or_right (has_program s.found x) _ (of-less sets q s.rest x u))
 
   -- nor q itself, once it is asked about
   closed_after : has_program s.found q ≡ true → to_ask (asked sets q s) q ≡ false
   closed_after e = no_true (to_ask (asked sets q s) q) (λ d. or_cases (has_program (asked sets q s).found q) (has_program (asked sets q s).rest q) d
-      (λ u. found-cases q u (λ t. never t (without-number-same 32 s.found.bits q)) (λ t. never (of-more sets q s.rest q t).0 (a q e)))
+      (λ u. found_cases q u (λ t. never t (without-number-same 32 s.found.bits q)) (λ t. never (of-more sets q s.rest q t).0 (a q e)))
       (λ u. never (of-less sets q s.rest q u) (a q e)))
 
   fewer : has_program s.found q ≡ true → length (keep (to_ask (asked sets q s)) everyone) < length (keep (to_ask s) everyone)
   fewer e = by_test (ltb (length (keep (to_ask (asked sets q s)) everyone)) (length (keep (to_ask s) everyone))) (λ t. ltb-true _ _ t)
-      (λ t. never (keep-covers (to_ask (asked sets q s)) (to_ask s) everyone (λ x i. open-before x) (ltb-false _ _ t) q
+      (λ t. never (keep-covers (to_ask (asked sets q s)) (to_ask s) everyone (λ x i. open_before x) (ltb-false _ _ t) q
       (mem-everyone q (record { least = low s.found q e; most = high s.found q e })) (or_left (has_program s.found q) _ e)) (closed_after e))
 
   -- and they get fewer
-  pub fewer-to-ask : has_program s.found q ≡ true → (l r : ProgramSet) → l ≡ (asked sets q s).found → r ≡ (asked sets q s).rest
+  pub fewer_to_ask : has_program s.found q ≡ true → (l r : ProgramSet) → l ≡ (asked sets q s).found → r ≡ (asked sets q s).rest
       → length (keep (to_ask (record { found = l; rest = r })) everyone) < length (keep (to_ask s) everyone)
-  fewer-to-ask e l r i j = rw (i, j) (fewer e)
+  fewer_to_ask e l r i j = rw (i, j) (fewer e)
 
 module _ (sets : Sets) (a : ProgramSet) (p : ℕ) where
   abbrev at : ℕ → Stage
@@ -109,7 +109,7 @@ module _ (sets : Sets) (a : ProgramSet) (p : ℕ) where
 
   open_next : (k x : ℕ) → to_ask (at (suc k)) x ≡ true → to_ask (at k) x ≡ true
   unfolding stage
-  open_next k x e = open-before sets (lowest_of (at k).found) (at k) (apart k) x e
+  open_next k x e = open_before sets (lowest_of (at k).found) (at k) (apart k) x e
 
   closed-next : (k q : ℕ) → has_program (at k).found q ≡ true → q ≡ lowest_of (at k).found → to_ask (at (suc k)) q ≡ false
   unfolding stage
@@ -124,8 +124,8 @@ module _ (sets : Sets) (a : ProgramSet) (p : ℕ) where
   asks k q = has_program (at k).found q && eqb q (lowest_of (at k).found)
 
   -- q is asked about once
-  not-again : (j k q : ℕ) → j < k → asks j q ≡ true → asks k q ≡ true → ⊥
-  not-again j k q h e d =
+  not_again : (j k q : ℕ) → j < k → asks j q ≡ true → asks k q ≡ true → ⊥
+  not_again j k q h e d =
       let z : suc j + (k - suc j) ≡ k = omega arith in
       let c = closed-next j q (and_left (has_program (at j).found q) _ e) (eqb-true q _ (and_right (has_program (at j).found q) _ e)) in
       let n : to_ask (at k) q ≡ false = rw z at (stays_closed (k - suc j) (suc j) q c) in
@@ -134,8 +134,8 @@ module _ (sets : Sets) (a : ProgramSet) (p : ℕ) where
   pub tested-once : TestedOnce sets a p
   tested-once = (
     λ j k x q e d. let u = and_left (asks j q) (has_program (at j).rest x) e in let v = and_left (asks k q) (has_program (at k).rest x) d in
-        by_test (ltb j k) (λ t. absurd (not-again j k q (ltb-true j k t) u v))
-        (λ t. by_test (ltb k j) (λ w. absurd (not-again k j q (ltb-true k j w) v u))
+        by_test (ltb j k) (λ t. absurd (not_again j k q (ltb-true j k t) u v))
+        (λ t. by_test (ltb k j) (λ w. absurd (not_again k j q (ltb-true k j w) v u))
         (λ w. let h = ltb-false j k t in let l = ltb-false k j w in omega arith)),
     λ k x q e z. let u = and_left (has_program (at k).found q) _ (and_left (asks k q) (has_program (at k).rest x) e) in
         never (ap (has_program (at k).rest) (sym z) ∙ and_right (asks k q) (has_program (at k).rest x) e) (apart k q u),

@@ -20,10 +20,10 @@ use Rattle.store.specs.Sets.{Sets}
 use Rattle.tables.specs.Shared.{open_in, open_row}
 use Rattle.store.proofs.Laws.{open_is, mode-at}
 use Rattle.tables.proofs.Sharing.{open_in_lem, some-member}
-use Rattle.tables.proofs.NoRow.{open-words}
+use Rattle.tables.proofs.NoRow.{open_words}
 use Rattle.search.specs.declared.Uses.{Uses}
 use Rattle.search.specs.Gives.{used_in, give_in, UsedFor, GivenFor}
-use Rattle.search.proofs.Backers.{safe-for}
+use Rattle.search.proofs.Backers.{safe_for}
 
 -- on boards: a file in conflicting use, by what is open
 pub used_for : (sets : Sets) (u : Uses) (p f : ℕ) → 1 ≤ p → p ≤ 32 → UsedFor sets u p f (used_in sets u p f)
@@ -40,7 +40,7 @@ used_for sets u p f h k b s e n o =
     open_by : (m : Mode) → member (set_of (open_in m u.files)) f ≡ open_by_other b p f m
     open_by m = ap (λ (z : Uses). member (set_of (open_in m z.files)) f) e
         ∙ ap (λ (z : List ℕ). member (set_of z) f) (open_in_lem sets m)
-        ∙ some-member (open_row sets m) p c (λ q l n. open-words sets s.0 q l n m) f (shut m)
+        ∙ some-member (open_row sets m) p c (λ q l n. open_words sets s.0 q l n m) f (shut m)
         ∙ any_same _ _ everyone (λ i l. let r = everyone_is i l in
         ap (λ (z : FileSet). not (eqb i p) && member z f) (open_is b sets s i r.least r.most m))
 
@@ -49,7 +49,7 @@ pub give_for : (sets : Sets) (u : Uses) (p f : ℕ) → 1 ≤ p → p ≤ 32 →
 unfolding can_give
 give_for sets u p f h k b s e n o a z =
     ap₂ (λ (x y : Bool). not x && y) (used_for sets u p f h k b s e n z)
-    (safe-for sets u.admitted p f h k b s (ap (λ (y : Uses). y.admitted) e) a o)
+    (safe_for sets u.admitted p f h k b s (ap (λ (y : Uses). y.admitted) e) a o)
 
 -- the same of a result that the contracts equate with these
 pub used_by_lem : (sets : Sets) (u : Uses) (p f : ℕ) (r : Bool) → 1 ≤ p → p ≤ 32 → r ≡ used_in sets u p f → UsedFor sets u p f r

@@ -3,7 +3,7 @@
 use Rattle.std.specs.Prelude.{ℕ, zero, suc, ◌+◌, ◌≡◌, Bool, true, false, ◌&&◌, List, [], ◌∷◌, ◌++◌, eqb, length, take, drop, replicate}
 use Rattle.std.proofs.Math.Option.{Option, none, some}
 use Rattle.rules.specs.declared.Board.{Board}
-use Rattle.laws.specs.Lists.{first, withFound, padded}
+use Rattle.laws.specs.Lists.{first, with_found, padded}
 use Rattle.rules.specs.Boards.{everyone}
 use Rattle.rules.specs.Orders.{carried}
 use Rattle.tables.specs.declared.ProgramSet.{ProgramSet}
@@ -22,8 +22,8 @@ free rows left p = has_program left p && eqb (held_count rows left p) 0
 unfoldable pub order_from : ℕ → List ℕ → ProgramSet → Option (List ℕ)
 order_from zero rows left = some []
 order_from (suc n) rows left =
-    withFound (first (free rows left) everyone) none
-    (λ p. withFound (order_from n rows (without_program left p)) none (λ l. some (p ∷ l)))
+    with_found (first (free rows left) everyone) none
+    (λ p. with_found (order_from n rows (without_program left p)) none (λ l. some (p ∷ l)))
 
 -- an order as the code gives it back: the numbers from place k on
 abbrev pub placed : List ℕ → ℕ → Option (List ℕ) → Order

@@ -17,9 +17,9 @@ use Rattle.laws.specs.Laws.{◌∈◌, NoRepeat, here, no_longer, length-rising,
 use Rattle.theory.specs.Programs.{mem-everyone}
 use Rattle.theory.specs.Loose.{Loose, Counts}
 use Rattle.theory.specs.Settling.{Admitted, admit-held, run-one, run_stop}
-use Rattle.lines.proofs.Laws.{names-on, names-stop, padded_length}
+use Rattle.lines.proofs.Laws.{names-on, names_stop, padded_length}
 use Rattle.settling.specs.Writing.{Written, after, Fits, admit_one}
-use Rattle.settling.proofs.Laws.{after_then, after-still, nobody-first, somebody-first}
+use Rattle.settling.proofs.Laws.{after_then, after-still, nobody-first, somebody_first}
 
 pub overdue-none : (b : Board) (n : ℕ) → Loose b → n ≡ Option.get_or (overdue b) 0 → n ≡ 0 → overdue b ≡ none
 unfolding overdue
@@ -27,7 +27,7 @@ overdue-none b n k e z = nobody-first b (λ p. eqb (passed_by b p) 8) n k e z
 
 pub overdue_some : (b : Board) (n : ℕ) → Loose b → n ≡ Option.get_or (overdue b) 0 → n ≢ 0 → (overdue b ≡ some n) × ((1 ≤ n) × (n ≤ 32))
 unfolding overdue
-overdue_some b n k e z = somebody-first b (λ p. eqb (passed_by b p) 8) n k e z
+overdue_some b n k e z = somebody_first b (λ p. eqb (passed_by b p) 8) n k e z
 
 -- those held are still to run, from s on
 pub record Admitting (w s : Written) : Type 0 where
@@ -46,7 +46,7 @@ entry_32 b k = ap length k.helds.form ∙ padded_length 0 (names b.entry) (let n
 pub admitted_all : (w s : Written) → Admitting w s → get_or s.board.entry 0 0 ≡ 0 → s ≡ after w (run_held (names w.board.entry) w.board)
 unfolding run_held
 admitted_all w s a e = let m = entry_32 s.board a.loose in after-still s ∙ sym (a.same ∙ ap (λ (ps : List ℕ). after s (run_held ps s.board))
-    (names-stop s.board.entry 0 (omega arith) e))
+    (names_stop s.board.entry 0 (omega arith) e))
 
 module _ (w s : Written) (a : Admitting w s) (ne : get_or s.board.entry 0 0 ≢ 0) where
   abbrev b : Board

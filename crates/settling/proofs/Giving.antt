@@ -30,13 +30,13 @@ use Rattle.store.specs.declared.Rest.{Rest}
 use Rattle.store.specs.Sets.{Sets, IsStore, SetsOf, given_at}
 use Rattle.store.specs.Store.{board_of}
 use Rattle.store.proofs.Boards.{board-at}
-use Rattle.store.proofs.Changing.{seat-board, served-board}
+use Rattle.store.proofs.Changing.{seat_board, served-board}
 use Rattle.store.proofs.Given.{sets-given}
 use Rattle.tables.proofs.Given.{packed-same}
 use Rattle.search.specs.declared.Uses.{Uses}
 use Rattle.tables.specs.Boards.{admits, admitted_set}
 use Rattle.search.specs.Gives.{uses_of, uses_in}
-use Rattle.lines.proofs.Laws.{names-on, names-end}
+use Rattle.lines.proofs.Laws.{names-on, names_end}
 use Rattle.settling.specs.Writing.{Written, Fits, Ready, NextGiven, serve, served_rest, asked_by, AskedOf, Asks, NextFor}
 use Rattle.settling.proofs.Laws.{PassAt, pass_to, pass-range, pass-next, give_fits, give_some}
 
@@ -132,7 +132,7 @@ handed_is sets r p s n i = ap (λ (x : List Program). let c = board_of sets r in
       leaves = c.leaves;
       passed = c.passed;
     }) (without p (names c.waiting))) (m c.favoured) (m c.initial) (m c.leaves)) p)
-    (ap (λ (b : Board). b.programs) (seat-board sets r p i.least i.most s Standing.Running n))
+    (ap (λ (b : Board). b.programs) (seat_board sets r p i.least i.most s Standing.Running n))
     ∙ resumed_is (board_of sets r) p
 
 -- ---- the sets, with a file given
@@ -145,8 +145,8 @@ sets-served c p f sets z i s = sets-given c (given_to c p f) (serve (at c p) f) 
 -- the waiters from place k on are still to be asked, s is what was written before that, and the arrays are those of its board
 pub record At (w : Written) (l asked : List ℕ) (k : ℕ) (s : Written) (sets : Sets) (u : Uses) : Type 0 where
   pub passed : PassAt w l k s
-  pub sets-are : SetsOf s.board sets
-  pub uses-are : u ≡ uses_of s.board sets
+  pub sets_are : SetsOf s.board sets
+  pub uses_are : u ≡ uses_of s.board sets
   pub asks : Asks s.board (names (drop k l)) asked
 
 -- all that wait are asked
@@ -156,7 +156,7 @@ asks_all sets r asked k a p m = let i = (k.waits.of p m).0 in let x = i.least in
     a.1 (p - 1) (omega arith) ∙ sym (ap asked_by (board-at sets r p x y))
 
 pub asks_none : (b : Board) (l asked : List ℕ) → length l ≡ 32 → Asks b (names (drop 32 l)) asked
-asks_none b l asked n p m = absurd (Memᴰ.not-nil (subst (λ (ps : List ℕ). p ∈ ps) (names-end l 32 (omega arith)) m))
+asks_none b l asked n p m = absurd (Memᴰ.not-nil (subst (λ (ps : List ℕ). p ∈ ps) (names_end l 32 (omega arith)) m))
 
 pub ready_programs : (b : Board) (ps : List ℕ) → Ready b ps → all is_program ps ≡ true
 ready_programs b ps r = each_all is_program ps (λ p m. of_is p (r.2 p m).0)
@@ -169,11 +169,11 @@ pub record Found (w : Written) (l asked : List ℕ) (k : ℕ) (s : Written) (set
 
 module _ (w s : Written) (l asked : List ℕ) (sets : Sets) (u : Uses) (k j : ℕ) (a : At w l asked k s sets u) (x : NextFor sets asked u l k j) where
   next-at : NextGiven s.board l k j × Asks s.board (names (drop j l)) asked
-  next-at = x s.board a.sets-are a.uses-are a.passed.0 a.asks
+  next-at = x s.board a.sets_are a.uses_are a.passed.0 a.asks
 
   pub next-found : Found w l asked j s sets u
   next-found = record {
-    here = record { passed = pass_to w s l k j a.passed next-at.0; sets-are = a.sets-are; uses-are = a.uses-are; asks = next-at.1 };
+    here = record { passed = pass_to w s l k j a.passed next-at.0; sets_are = a.sets_are; uses_are = a.uses_are; asks = next-at.1 };
     within = next-at.0.within;
     gives = next-at.0.gives;
   }
@@ -226,9 +226,9 @@ module _ (w s : Written) (l asked : List ℕ) (sets : Sets) (u : Uses) (j : ℕ)
         ∙ ap (λ (y : Board). state_of y (set s.lines s.count (line Word.Given (get_or l j 0) (awaited s.board (get_or l j 0)))) (s.count + 1))
         (given_is s.board (get_or l j 0) (awaited s.board (get_or l j 0)) size is)
         ∙ give_some s s.board (get_or l j 0) (awaited s.board (get_or l j 0)) can);
-    sets-are = sets-served s.board (get_or l j 0) (get_or asked (get_or l j 0 - 1) 0) sets size is a.here.sets-are;
-    uses-are = e ∙ ap (λ (y : ProgramSet). uses_in y (given_at sets (get_or l j 0) (get_or asked (get_or l j 0 - 1) 0)))
-        (ap (λ (y : Uses). y.admitted) a.here.uses-are
+    sets_are = sets-served s.board (get_or l j 0) (get_or asked (get_or l j 0 - 1) 0) sets size is a.here.sets_are;
+    uses_are = e ∙ ap (λ (y : ProgramSet). uses_in y (given_at sets (get_or l j 0) (get_or asked (get_or l j 0 - 1) 0)))
+        (ap (λ (y : Uses). y.admitted) a.here.uses_are
         ∙ sym (admitted-given s.board (get_or l j 0) (get_or asked (get_or l j 0 - 1) 0) size is admitted));
     asks = rw (add-one j) (asks-given s.board (get_or l j 0) (get_or asked (get_or l j 0 - 1) 0) size is (names (drop (suc j) l)) asked ready asks-here);
   }

@@ -36,7 +36,7 @@ use Rattle.store.specs.Store.{no_seat, seat_of}
 use Rattle.search.specs.declared.Uses.{Uses}
 use Rattle.search.specs.Gives.{uses_of, used_in, give_in}
 use Rattle.search.proofs.Used.{used_by_lem, give_by}
-use Rattle.lines.proofs.Laws.{names-on, names-end}
+use Rattle.lines.proofs.Laws.{names-on, names_end}
 use Rattle.settling.specs.Writing.{Written, Ready, NextGiven, after, Fits, unused, asked_in, AskedTo, Asks}
 
 -- ---- lines after lines
@@ -149,7 +149,7 @@ pass_to w s l k j i n = (n.ready, subst (Fits s) n.same i.1, i.2 ∙ ap (after s
 -- nobody is left to be asked
 pub next-none : (b : Board) (l : List ℕ) (from k : ℕ) → from ≤ 32 → length l ≡ 32 → Ready b (names (drop k l))
     → pass (names (drop from l)) b ≡ pass (names (drop k l)) b → names (drop k l) ≡ [] → NextGiven b l from 32
-next-none b l from k o n r e d = let z : names (drop k l) ≡ names (drop 32 l) = d ∙ sym (names-end l 32 (omega arith)) in record {
+next-none b l from k o n r e d = let z : names (drop k l) ≡ names (drop 32 l) = d ∙ sym (names_end l 32 (omega arith)) in record {
   onward = o;
   within = omega arith;
   ready = subst (Ready b) z r;
@@ -180,8 +180,8 @@ module _ (b : Board) (l : List ℕ) (k : ℕ) (h : k < length l) (ne : get_or l 
   pub waiter-range : (1 ≤ get_or l k 0) × (get_or l k 0 ≤ 32)
   waiter-range = (waiter-at.0.least, waiter-at.0.most)
 
-  waiter-in : get_or l k 0 ∈ names (drop k l)
-  waiter-in = subst (λ (ps : List ℕ). get_or l k 0 ∈ ps) (sym (names-on l k h ne)) here
+  waiter_in : get_or l k 0 ∈ names (drop k l)
+  waiter_in = subst (λ (ps : List ℕ). get_or l k 0 ∈ ps) (sym (names-on l k h ne)) here
 
   -- who awaits no record awaits a file
   waiter-file : (at b (get_or l k 0)).item ≡ 0 → awaited b (get_or l k 0) ≢ 0
@@ -197,7 +197,7 @@ module _ (b : Board) (l : List ℕ) (k : ℕ) (h : k < length l) (ne : get_or l 
   -- what the arrays say of the waiter is what the rules say
   pub waiter-can : (sets : Sets) (asked : List ℕ) (u : Uses) (t : Bool) → SetsOf b sets → u ≡ uses_of b sets → Asks b (names (drop k l)) asked
       → t ≡ not (eqb (get_or asked (get_or l k 0 - 1) 0) 0) && give_in sets u (get_or l k 0) (get_or asked (get_or l k 0 - 1) 0) → t ≡ can_serve b (get_or l k 0)
-  waiter-can sets asked u t x z a g = let e = a (get_or l k 0) waiter-in in g
+  waiter-can sets asked u t x z a g = let e = a (get_or l k 0) waiter_in in g
       ∙ ap (λ (f : ℕ). not (eqb f 0) && give_in sets u (get_or l k 0) f) e
       ∙ by_test (eqb (at b (get_or l k 0)).item 0)
       (λ d. let n = waiter-file (eqb-true (at b (get_or l k 0)).item 0 d) in
@@ -258,8 +258,8 @@ module _ (b : Board) (t : ℕ → Bool) (n : ℕ) (k : Loose b) (e : n ≡ Optio
   nobody-first z = by_option (first t (names b.waiting)) (λ y. y)
       (λ p y. let m = (first-is p y).least in let q : n ≡ p = rw y at e in absurd (omega arith))
 
-  pub somebody-first : n ≢ 0 → (first t (names b.waiting) ≡ some n) × ((1 ≤ n) × (n ≤ 32))
-  somebody-first z = by_option (first t (names b.waiting)) (λ y. let q : n ≡ 0 = rw y at e in absurd (z q))
+  pub somebody_first : n ≢ 0 → (first t (names b.waiting) ≡ some n) × ((1 ≤ n) × (n ≤ 32))
+  somebody_first z = by_option (first t (names b.waiting)) (λ y. let q : n ≡ 0 = rw y at e in absurd (z q))
       (λ p y. let q : n ≡ p = rw y at e in let i = first-is p y in let l = i.least in let m = i.most in
       (y ∙ ap some (sym q), (omega arith, omega arith)))
 
@@ -269,7 +269,7 @@ candidate-none b n k e z = nobody-first b (unused b) n k e z
 
 pub candidate_some : (b : Board) (n : ℕ) → Loose b → n ≡ Option.get_or (candidate b) 0 → n ≢ 0 → (candidate b ≡ some n) × ((1 ≤ n) × (n ≤ 32))
 unfolding candidate
-candidate_some b n k e z = somebody-first b (unused b) n k e z
+candidate_some b n k e z = somebody_first b (unused b) n k e z
 
 -- ---- choosing
 

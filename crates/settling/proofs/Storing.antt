@@ -4,7 +4,7 @@ use mathlib.Core.List.{List}
 use mathlib.Core.Option.{Option, some}
 use Prim.Native.Nat.{ℕ, ◌+◌, ◌≤◌}
 use lib.ListN.{length, set}
-use Rattle.laws.specs.Lists.{names, padded, without, withFound}
+use Rattle.laws.specs.Lists.{names, padded, without, with_found}
 use Rattle.rules.specs.declared.Standing.{Standing}
 use Rattle.rules.specs.declared.Board.{Board}
 use Rattle.rules.specs.declared.Line.{Line}
@@ -17,7 +17,7 @@ use Rattle.parts.proofs.Lined.{lines-set, entries_set}
 use Rattle.store.specs.declared.Rest.{Rest}
 use Rattle.store.specs.Sets.{Sets, IsStore}
 use Rattle.store.specs.Store.{with_entry, with_favour, with_passed, seated_at, board_of}
-use Rattle.store.proofs.Changing.{seat-board}
+use Rattle.store.proofs.Changing.{seat_board}
 use Rattle.settling.specs.declared.Progress.{Progress}
 use Rattle.settling.specs.Writing.{Written, written_in, after, admit_one, served_rest, record_waiter}
 use Rattle.settling.proofs.Giving.{handed_is}
@@ -53,7 +53,7 @@ module _ (sets : Sets) (lines : Entries) (r : Rest) (n p : ℕ) (e : List ℕ) w
   handed-done y f m s z i d w a = same-written _ _ _ _ (n + 1)
       (ap (board_of sets) a ∙ handed_is sets r p s z i)
       (one_line lines n (line_of Word.Given p f m) e d)
-      ∙ ap (after (written_in sets lines (progress r n))) (sym (ap (λ (x : Option ℕ). withFound x (still (board_of sets r)) (hand_to (board_of sets r) f m)) w))
+      ∙ ap (after (written_in sets lines (progress r n))) (sym (ap (λ (x : Option ℕ). with_found x (still (board_of sets r)) (hand_to (board_of sets r) f m)) w))
 
   -- the held program p runs
   pub admit-done : (y : Rest) (l c : List ℕ) → IsStore sets → length r.seats ≡ 32 → 1 ≤ p → p ≤ 32 → e ≡ entry_of (line Word.Admit p 0)
@@ -64,5 +64,5 @@ module _ (sets : Sets) (lines : Entries) (r : Rest) (n p : ℕ) (e : List ℕ) w
   admit-done y l c s z h k d ey el ec = same-written _ _ _ _ (n + 1)
       (ap (λ (x : List ℕ). board_of sets (with_passed (with_entry y l) x)) ec
       ∙ ap₂ (λ (x : Rest) (m : List ℕ). tally (board_of sets (with_entry x m))) ey el
-      ∙ ap (λ (b : Board). tally (set_entry b (without p (names r.entry)))) (seat-board sets r p h k s Standing.Running z))
+      ∙ ap (λ (b : Board). tally (set_entry b (without p (names r.entry)))) (seat_board sets r p h k s Standing.Running z))
       (one_line lines n (line Word.Admit p 0) e d)

@@ -74,14 +74,14 @@ blank-line l s h n e = let z : l ≡ replicate 32 0 = zeros l e ∙ ap (λ (x : 
 -- ---- programs by their standings
 
 module _ (q : Program) where
-  abbrev claimsNone : Bool
-  claimsNone = each_mode (λ m. is_empty (claim_of m q))
+  abbrev claims_none : Bool
+  claims_none = each_mode (λ m. is_empty (claim_of m q))
 
-  abbrev opensNone : Bool
-  opensNone = each_mode (λ m. is_empty (open_of m q))
+  abbrev opens_none : Bool
+  opens_none = each_mode (λ m. is_empty (open_of m q))
 
   -- a program that has no sets is sound by itself
-  nothing-sound : claimsNone ≡ true → opensNone ≡ true → sets_sound q ≡ true
+  nothing-sound : claims_none ≡ true → opens_none ≡ true → sets_sound q ≡ true
   unfolding sets_sound
   nothing-sound e d =
       let c = mode_each (λ m. is_empty (claim_of m q)) e in
@@ -98,22 +98,22 @@ module _ (q : Program) where
       none_within : (a b : ℕ) → a ≡ 0 → covers a b ≡ true
       none_within a b e = eq-eqb (bit_and a b) a (omega (arith, and_le_l a b))
 
-  pub absent-no : claimsNone ≡ false → false ≡ (sets_sound q && standing_sound Standing.Absent q)
+  pub absent-no : claims_none ≡ false → false ≡ (sets_sound q && standing_sound Standing.Absent q)
   unfolding standing_sound
-  absent-no e = sym (ap (λ (x : Bool). sets_sound q && (x && opensNone)) e ∙ and_false (sets_sound q))
+  absent-no e = sym (ap (λ (x : Bool). sets_sound q && (x && opens_none)) e ∙ and_false (sets_sound q))
 
-  pub absent_is : claimsNone ≡ true → opensNone ≡ (sets_sound q && standing_sound Standing.Absent q)
+  pub absent_is : claims_none ≡ true → opens_none ≡ (sets_sound q && standing_sound Standing.Absent q)
   unfolding standing_sound
   absent_is e =
-      let f = sym (ap (λ (x : Bool). x && opensNone) e) in
-      by_test opensNone
+      let f = sym (ap (λ (x : Bool). x && opens_none) e) in
+      by_test opens_none
       (λ d. sym (ap (λ (x : Bool). x && standing_sound Standing.Absent q) (nothing-sound e d) ∙ sym f))
       (λ d. d ∙ sym (ap (λ (x : Bool). sets_sound q && x) (sym f ∙ d) ∙ and_false (sets_sound q)))
 
-  pub held-no : opensNone ≡ false → false ≡ (sets_sound q && standing_sound Standing.Held q)
+  pub held-no : opens_none ≡ false → false ≡ (sets_sound q && standing_sound Standing.Held q)
   unfolding standing_sound
   held-no e = sym (ap (λ (x : Bool). sets_sound q && x) e ∙ and_false (sets_sound q))
 
-  pub held_is : opensNone ≡ true → sets_sound q ≡ (sets_sound q && standing_sound Standing.Held q)
+  pub held_is : opens_none ≡ true → sets_sound q ≡ (sets_sound q && standing_sound Standing.Held q)
   unfolding standing_sound
   held_is e = sym (ap (λ (x : Bool). sets_sound q && x) e ∙ and_true (sets_sound q))

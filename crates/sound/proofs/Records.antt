@@ -6,7 +6,7 @@ use lib.Dec.{eqb}
 use borrow.Author.Tests.{eq-eqb, ne_eqb, eqb-true, eqb-false}
 use Rattle.laws.specs.Tests.{by_test, and_true}
 use Rattle.laws.specs.Lists.{any, all}
-use Rattle.laws.specs.Laws.{all-and, all_same, any_same, not-any}
+use Rattle.laws.specs.Laws.{all_and, all_same, any_same, not_any}
 use Rattle.rules.specs.declared.Standing.{Standing}
 use Rattle.rules.specs.declared.Program.{Program}
 use Rattle.rules.specs.declared.Board.{Board}
@@ -18,7 +18,7 @@ use Rattle.store.specs.Sets.{Sets}
 use Rattle.store.specs.Store.{seat_at, seat_uses, board_of}
 use Rattle.store.proofs.Boards.{board-at}
 use Rattle.tables.specs.Boards.{other_uses, taken_in}
-use Rattle.tables.proofs.Taken.{seat-uses}
+use Rattle.tables.proofs.Taken.{seat_uses_lem}
 use Rattle.sound.specs.Parts.{record_fits, record_at}
 
 -- who waits has no record in use
@@ -54,13 +54,13 @@ module _ (sets : Sets) (r : Rest) where
 
   -- none of the others has it
   none_other : (p f n : ℕ) → all (λ j. eqb p j || not (uses (at board j) f n)) everyone ≡ not (taken_in r p f n)
-  none_other p f n = all_same _ _ everyone (λ j m. ap₂ (λ (s t : Bool). s || not t) (turned p j) (seat-uses sets r j f n m)
+  none_other p f n = all_same _ _ everyone (λ j m. ap₂ (λ (s t : Bool). s || not t) (turned p j) (seat_uses_lem sets r j f n m)
       ∙ sym (not_other (eqb j p) (seat_uses (seat_at r j) f n)))
-      ∙ sym (not-any (λ j. other_uses (seat_at r j) j p f n) everyone)
+      ∙ sym (not_any (λ j. other_uses (seat_at r j) j p f n) everyone)
 
   -- somebody has it, and that is another than p, which waits
   some-other : (p f n : ℕ) → is_waiting (seat_at r p).standing ≡ true → any (λ j. uses (at board j) f n) everyone ≡ taken_in r p f n
-  some-other p f n w = any_same _ _ everyone (λ j m. seat-uses sets r j f n m ∙ by_test (eqb j p)
+  some-other p f n w = any_same _ _ everyone (λ j m. seat_uses_lem sets r j f n m ∙ by_test (eqb j p)
       (λ t. rw t (ap (λ (x : Bool). x && not (eqb (seat_at r j).item 0) && eqb (seat_at r j).file f && eqb (seat_at r j).item n)
       (waits_not (seat_at r j).standing (ap (λ (k : ℕ). is_waiting (seat_at r k).standing) (eqb-true j p t) ∙ w))))
       (λ t. rw t refl))
@@ -73,10 +73,10 @@ module _ (sets : Sets) (r : Rest) where
   awaits q = not (wants q q.file q.item) || any (λ j. uses (at board j) q.file q.item) everyone
 
   -- "records in use differ", "an awaited record is in use"
-  pub records-are : all (record_at r) everyone ≡ (uses_differ board && awaited_in_use board)
+  pub records_are : all (record_at r) everyone ≡ (uses_differ board && awaited_in_use board)
   unfolding uses_differ awaited_in_use
-  records-are = all_same _ _ everyone (λ p m. let c = everyone_is p m in let t = seat_at r p in
+  records_are = all_same _ _ everyone (λ p m. let c = everyone_is p m in let t = seat_at r p in
       both_clauses t.standing t.file t.item (taken_in r p t.file t.item) _ _
       (none_other p t.file t.item) (some-other p t.file t.item)
       ∙ ap (λ (q : Program). differs p q && awaits q) (sym (board-at sets r p c.least c.most)))
-      ∙ all-and (λ p. differs p (at board p)) (λ p. awaits (at board p)) everyone
+      ∙ all_and (λ p. differs p (at board p)) (λ p. awaits (at board p)) everyone

@@ -41,16 +41,16 @@ may_have_lem Standing.Held q = refl
 
 module _ (sets : Sets) (r : Rest) where
   -- a program by itself
-  pub sound-with : (p : ℕ) → 1 ≤ p → p ≤ 32 → program_sound (program_with sets (p - 1) (seat_at r p)) ≡ is_sound_at (board_of sets r) p
-  sound-with p h k = sym (ap program_sound (board-at sets r p h k))
+  pub sound_with : (p : ℕ) → 1 ≤ p → p ≤ 32 → program_sound (program_with sets (p - 1) (seat_at r p)) ≡ is_sound_at (board_of sets r) p
+  sound_with p h k = sym (ap program_sound (board-at sets r p h k))
 
   -- the programs that stand so
-  pub seats-stand : (held : Bool) → seat_set r held ≡ stand_set (board_of sets r) held
-  seats-stand held = packed-same (seat_stands r held) (stands_at (board_of sets r) held) 32
+  pub seats_stand : (held : Bool) → seat_set r held ≡ stand_set (board_of sets r) held
+  seats_stand held = packed-same (seat_stands r held) (stands_at (board_of sets r) held) 32
       (λ p h k. ap (λ (q : Program). stands held q.standing) (sym (board-at sets r p h k)))
 
   -- the counts
-  pub counts-are : all (count_at r) everyone ≡ all (count_sound (board_of sets r)) everyone
+  pub counts_are : all (count_at r) everyone ≡ all (count_sound (board_of sets r)) everyone
   unfolding count_sound board_of
-  counts-are = all_same (count_at r) (count_sound (board_of sets r)) everyone (λ p m. let c = everyone_is p m in
+  counts_are = all_same (count_at r) (count_sound (board_of sets r)) everyone (λ p m. let c = everyone_is p m in
       ap (λ (q : Program). count_fits q.standing (passed_by (board_of sets r) p)) (sym (board-at sets r p c.least c.most)))

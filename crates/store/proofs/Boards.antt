@@ -50,23 +50,23 @@ module _ (sets : Sets) (r : Rest) where
   board-size = length_from sets (λ i. get_or r.seats i no_seat) 32 0
 
   -- the program at an index
-  pub board-in : (i : ℕ) → i < 32 → in_place (board_of sets r) i ≡ program_with sets i (get_or r.seats i no_seat)
+  pub board_in : (i : ℕ) → i < 32 → in_place (board_of sets r) i ≡ program_with sets i (get_or r.seats i no_seat)
   unfolding board_of
-  board-in i h = from_at sets (λ i. get_or r.seats i no_seat) 32 0 i h
+  board_in i h = from_at sets (λ i. get_or r.seats i no_seat) 32 0 i h
       ∙ ap (λ (j : ℕ). program_with sets j (get_or r.seats j no_seat)) (omega arith)
 
   -- program p
   pub board-at : (p : ℕ) → 1 ≤ p → p ≤ 32 → at (board_of sets r) p ≡ program_with sets (p - 1) (seat_at r p)
-  board-at p h k = board-in (p - 1) (omega arith)
+  board-at p h k = board_in (p - 1) (omega arith)
 
   -- the sets of the board are the sets
   pub board-sets : IsStore sets → SetsOf (board_of sets r) sets
   board-sets s = (s, all_in)
     where
       all_in : SetsTo (board_of sets r) 32 sets
-      all_in i h Write = rw (board-in i h) (refl, refl)
-      all_in i h Read = rw (board-in i h) (refl, refl)
-      all_in i h Inquiry = rw (board-in i h) (refl, refl)
+      all_in i h Write = rw (board_in i h) (refl, refl)
+      all_in i h Read = rw (board_in i h) (refl, refl)
+      all_in i h Inquiry = rw (board_in i h) (refl, refl)
 
 -- ---- the same board
 
@@ -77,8 +77,8 @@ same-board b c e f g h i j k = rw (e, f, g, h, i, j, k) refl
 pub board_is : (b : Board) (sets : Sets) (r : Rest) → SetsOf b sets → RestOf b r → length b.programs ≡ 32 → board_of sets r ≡ b
 unfolding board_of
 board_is b sets r s t n = same-board (board_of sets r) b
-    (programs_are b sets (λ i. get_or r.seats i no_seat) s t.seats-are n)
-    t.waiting-is t.entry-is t.favoured_is t.initial-is t.leaves-are t.passed-are
+    (programs_are b sets (λ i. get_or r.seats i no_seat) s t.seats_are n)
+    t.waiting_is t.entry-is t.favoured_is t.initial_is t.leaves_are t.passed_are
 
 -- the seat of one program more
 pub seats_more : (b : Board) (i : ℕ) (l : List Seat) → i < length l → SeatsTo b i l
@@ -90,17 +90,17 @@ seats_more b i l h f k d = by_test (eqb k i)
 -- ---- a board whose rest changes
 
 module _ (sets : Sets) (r : Rest) (b : Board) (e : board_of sets r ≡ b) where
-  pub with-waiting : (l n : List ℕ) → l ≡ padded 0 n → board_of sets (with_waiting r l) ≡ set_waiting b n
+  pub with_waiting_lem : (l n : List ℕ) → l ≡ padded 0 n → board_of sets (with_waiting r l) ≡ set_waiting b n
   unfolding board_of
-  with-waiting l n k = ap (λ (y : List ℕ). board_of sets (with_waiting r y)) k ∙ ap (λ (x : Board). set_waiting x n) e
+  with_waiting_lem l n k = ap (λ (y : List ℕ). board_of sets (with_waiting r y)) k ∙ ap (λ (x : Board). set_waiting x n) e
 
-  pub with-entry : (l n : List ℕ) → l ≡ padded 0 n → board_of sets (with_entry r l) ≡ set_entry b n
+  pub with_entry_lem : (l n : List ℕ) → l ≡ padded 0 n → board_of sets (with_entry r l) ≡ set_entry b n
   unfolding board_of
-  with-entry l n k = ap (λ (y : List ℕ). board_of sets (with_entry r y)) k ∙ ap (λ (x : Board). set_entry x n) e
+  with_entry_lem l n k = ap (λ (y : List ℕ). board_of sets (with_entry r y)) k ∙ ap (λ (x : Board). set_entry x n) e
 
-  pub with-passed : (l n : List ℕ) → l ≡ n → board_of sets (with_passed r l) ≡ set_passed b n
+  pub with_passed_lem : (l n : List ℕ) → l ≡ n → board_of sets (with_passed r l) ≡ set_passed b n
   unfolding board_of
-  with-passed l n k = ap₂ (λ (x : Board) (y : List ℕ). set_passed x y) e k
+  with_passed_lem l n k = ap₂ (λ (x : Board) (y : List ℕ). set_passed x y) e k
 
 -- the empty sets and rest are the empty board
 pub empty_board_lem : board_of empty_sets empty_rest ≡ empty_board

@@ -26,9 +26,9 @@ use Rattle.store.specs.declared.Seat.{Seat}
 use Rattle.store.specs.declared.Rest.{Rest}
 use Rattle.store.specs.Sets.{place_count, Sets, IsStore, claim_place, open_place, row_in, set_in, in_place, SetsOf, PutAt, left_in, mode_at, closed_at, dropped_at, given_at}
 use Rattle.store.specs.Store.{no_seat, seat_at, seat_of, standing_at, with_seats, put_seat, seated_at, board_of}
-use Rattle.store.proofs.Laws.{claim-apart, open-apart, claims-apart, claim_place_lem, open_place_lem, put-row, claim-is, open_is}
+use Rattle.store.proofs.Laws.{claim_apart, open_apart, claims-apart, claim_place_lem, open_place_lem, put-row, claim_is, open_is}
 use Rattle.store.proofs.Given.{given_store, sets-given}
-use Rattle.store.proofs.Boards.{board-size, board-in, board-at, board-sets, same-board}
+use Rattle.store.proofs.Boards.{board-size, board_in, board-at, board-sets, same-board}
 
 -- ---- a program put anew
 
@@ -39,11 +39,11 @@ module _ (q : Program) (p : ℕ) (before after : Sets) (r : Rest) (h : 1 ≤ p) 
     then = with_seats r seats
 
     put-here : in_place (board_of after then) (p - 1) ≡ q
-    put-here = board-in after then (p - 1) (omega arith)
+    put-here = board_in after then (p - 1) (omega arith)
         ∙ rw (here, (a.here Write).0, (a.here Write).1, (a.here Read).0, (a.here Read).1, (a.here Inquiry).0, (a.here Inquiry).1) refl
 
     put-there : (i : ℕ) → i < 32 → i ≢ p - 1 → in_place (board_of after then) i ≡ in_place (board_of before r) i
-    put-there i l d = board-in after then i l
+    put-there i l d = board_in after then i l
         ∙ rw (
           there i d,
           (a.there i l d Write).0,
@@ -53,10 +53,10 @@ module _ (q : Program) (p : ℕ) (before after : Sets) (r : Rest) (h : 1 ≤ p) 
           (a.there i l d Inquiry).0,
           (a.there i l d Inquiry).1,
         ) refl
-        ∙ sym (board-in before r i l)
+        ∙ sym (board_in before r i l)
 
-    put-programs : (board_of after then).programs ≡ set (board_of before r).programs (p - 1) q
-    put-programs = ext_get_or no_program (board_of after then).programs (set (board_of before r).programs (p - 1) q)
+    put_programs : (board_of after then).programs ≡ set (board_of before r).programs (p - 1) q
+    put_programs = ext_get_or no_program (board_of after then).programs (set (board_of before r).programs (p - 1) q)
         (board-size after then ∙ sym (length-set (board_of before r).programs (p - 1) q ∙ board-size before r))
         (λ i l. let z : i < 32 = omega (arith, board-size after then) in by_test (eqb i (p - 1))
         (λ t. let e : i ≡ p - 1 = eqb-true i (p - 1) t in rw e
@@ -64,19 +64,19 @@ module _ (q : Program) (p : ℕ) (before after : Sets) (r : Rest) (h : 1 ≤ p) 
         (λ t. let d : i ≢ p - 1 = eqb-false i (p - 1) t in
         put-there i z d ∙ sym (get_or-set_other (board_of before r).programs (p - 1) i q no_program d)))
 
-    put-with : board_of after then ≡ set_program (board_of before r) p q
+    put_with : board_of after then ≡ set_program (board_of before r) p q
     unfolding board_of
-    put-with = same-board (board_of after then) (set_program (board_of before r) p q) put-programs refl refl refl refl refl refl
+    put_with = same-board (board_of after then) (set_program (board_of before r) p q) put_programs refl refl refl refl refl refl
 
   -- its sets are put, and its seat
   pub put-board : length r.seats ≡ 32 → board_of after (put_seat r p (seat_of q)) ≡ set_program (board_of before r) p q
-  put-board n = put-with (put_seat r p (seat_of q)).seats
+  put-board n = put_with (put_seat r p (seat_of q)).seats
       (get_or-set_same r.seats (p - 1) (seat_of q) no_seat (omega (arith, n)))
       (λ i d. get_or-set_other r.seats (p - 1) i (seat_of q) no_seat d)
 
   -- its sets are put, and its seat is as it was
   pub keep-board : seat_at r p ≡ seat_of q → board_of after r ≡ set_program (board_of before r) p q
-  keep-board e = put-with r.seats e (λ i d. refl)
+  keep-board e = put_with r.seats e (λ i d. refl)
 
 -- the seat changes, and no set
 module _ (sets : Sets) (r : Rest) (p : ℕ) (h : 1 ≤ p) (k : p ≤ 32) (st : IsStore sets) where
@@ -84,11 +84,11 @@ module _ (sets : Sets) (r : Rest) (p : ℕ) (h : 1 ≤ p) (k : p ≤ 32) (st : I
   now-at = at (board_of sets r) p
 
   -- the sets are those of the program
-  as-they-are : (q : Program) → ((m : Mode) → (claim_of m q ≡ claim_of m now-at) × (open_of m q ≡ open_of m now-at)) → PutAt q (p - 1) sets sets
-  as-they-are q e = record {
+  as_they_are : (q : Program) → ((m : Mode) → (claim_of m q ≡ claim_of m now-at) × (open_of m q ≡ open_of m now-at)) → PutAt q (p - 1) sets sets
+  as_they_are q e = record {
     is_store = st;
     here = λ m. let x = board-sets sets r st in
-        (claim-is (board_of sets r) sets x p h k m ∙ sym (e m).0, open_is (board_of sets r) sets x p h k m ∙ sym (e m).1);
+        (claim_is (board_of sets r) sets x p h k m ∙ sym (e m).0, open_is (board_of sets r) sets x p h k m ∙ sym (e m).1);
     there = λ j l d m. (refl, refl);
   }
 
@@ -101,26 +101,26 @@ module _ (sets : Sets) (r : Rest) (p : ℕ) (h : 1 ≤ p) (k : p ≤ 32) (st : I
   same-both t Read = (refl, refl)
   same-both t Inquiry = (refl, refl)
 
-  pub reseat-board : (t : Seat) → length r.seats ≡ 32 → board_of sets (put_seat r p t) ≡ set_program (board_of sets r) p (reseated t)
-  reseat-board t n = put-board (reseated t) p sets sets r h k (as-they-are (reseated t) (same-both t)) n
+  pub reseat_board : (t : Seat) → length r.seats ≡ 32 → board_of sets (put_seat r p t) ≡ set_program (board_of sets r) p (reseated t)
+  reseat_board t n = put-board (reseated t) p sets sets r h k (as_they_are (reseated t) (same-both t)) n
 
   -- the seat of a program of the board
-  pub seat-is : seat_of (at (board_of sets r) p) ≡ seat_at r p
-  seat-is = ap seat_of (board-at sets r p h k)
+  pub seat_is : seat_of (at (board_of sets r) p) ≡ seat_at r p
+  seat_is = ap seat_of (board-at sets r p h k)
 
-  pub standing-is : (at (board_of sets r) p).standing ≡ standing_at r p
-  standing-is = ap (λ (t : Seat). t.standing) seat-is
+  pub standing_is : (at (board_of sets r) p).standing ≡ standing_at r p
+  standing_is = ap (λ (t : Seat). t.standing) seat_is
 
   pub item-is : (at (board_of sets r) p).item ≡ (seat_at r p).item
-  item-is = ap (λ (t : Seat). t.item) seat-is
+  item-is = ap (λ (t : Seat). t.item) seat_is
 
   pub file-is : (at (board_of sets r) p).file ≡ (seat_at r p).file
-  file-is = ap (λ (t : Seat). t.file) seat-is
+  file-is = ap (λ (t : Seat). t.file) seat_is
 
   -- the standing alone
-  pub seat-board : (s : Standing) → length r.seats ≡ 32 → board_of sets (seated_at r p s) ≡ set_program (board_of sets r) p (set_standing now-at s)
-  seat-board s n = ap (λ (t : Seat). board_of sets (put_seat r p (record { standing = s; file = t.file; item = t.item }))) (sym seat-is)
-      ∙ reseat-board (record { standing = s; file = now-at.file; item = now-at.item }) n
+  pub seat_board : (s : Standing) → length r.seats ≡ 32 → board_of sets (seated_at r p s) ≡ set_program (board_of sets r) p (set_standing now-at s)
+  seat_board s n = ap (λ (t : Seat). board_of sets (put_seat r p (record { standing = s; file = t.file; item = t.item }))) (sym seat_is)
+      ∙ reseat_board (record { standing = s; file = now-at.file; item = now-at.item }) n
 
 -- ---- a file leaves three sets
 
@@ -128,11 +128,11 @@ module _ (sets : Sets) (k f : ℕ) (s : IsStore sets) (h : k < place_count) wher
   word : is_file f ≡ true → (f - 1) / 64 < length (row_in sets k)
   word e = let m = most 64 f e in let n = s.words_are k h in omega arith
 
-  left-store : IsStore (left_in sets k f)
-  left-store = put-row sets k (without_file (row_in sets k) f) s (length_without (row_in sets k) f ∙ s.words_are k h)
+  left_store : IsStore (left_in sets k f)
+  left_store = put-row sets k (without_file (row_in sets k) f) s (length_without (row_in sets k) f ∙ s.words_are k h)
 
   left_here : set_in (left_in sets k f) k ≡ removing (set_in sets k) f
-  left_here = ap set_of (get_or-set_same sets k (without_file (row_in sets k) f) [] (omega (arith, h, s.places-are)))
+  left_here = ap set_of (get_or-set_same sets k (without_file (row_in sets k) f) [] (omega (arith, h, s.places_are)))
       ∙ by_test (is_file f) (λ e. words-without (row_in sets k) f (word e)) (λ e. rw e)
 
   left_there : (j : ℕ) → j ≢ k → row_in (left_in sets k f) j ≡ row_in sets j
@@ -151,31 +151,31 @@ module _ (sets : Sets) (at-mode : Mode → ℕ) (f : ℕ) (s : IsStore sets) (lo
   all_left = left_in two-left (at-mode Inquiry) f
 
   one_store : IsStore one_left
-  one_store = left-store sets (at-mode Write) f s (low Write)
+  one_store = left_store sets (at-mode Write) f s (low Write)
 
-  two-store : IsStore two-left
-  two-store = left-store one_left (at-mode Read) f one_store (low Read)
+  two_store : IsStore two-left
+  two_store = left_store one_left (at-mode Read) f one_store (low Read)
 
-  all-store : IsStore all_left
-  all-store = left-store two-left (at-mode Inquiry) f two-store (low Inquiry)
+  all_store : IsStore all_left
+  all_store = left_store two-left (at-mode Inquiry) f two_store (low Inquiry)
 
   no_mode : false ≡ true → ⊥
   no_mode e = never {t = false} e refl
 
   all_here : (m : Mode) → set_in all_left (at-mode m) ≡ removing (set_in sets (at-mode m)) f
-  all_here Write = ap set_of (left_there two-left (at-mode Inquiry) f two-store (low Inquiry) (at-mode Write) (apart Write Inquiry no_mode)
+  all_here Write = ap set_of (left_there two-left (at-mode Inquiry) f two_store (low Inquiry) (at-mode Write) (apart Write Inquiry no_mode)
       ∙ left_there one_left (at-mode Read) f one_store (low Read) (at-mode Write) (apart Write Read no_mode))
       ∙ left_here sets (at-mode Write) f s (low Write)
-  all_here Read = ap set_of (left_there two-left (at-mode Inquiry) f two-store (low Inquiry) (at-mode Read) (apart Read Inquiry no_mode))
+  all_here Read = ap set_of (left_there two-left (at-mode Inquiry) f two_store (low Inquiry) (at-mode Read) (apart Read Inquiry no_mode))
       ∙ left_here one_left (at-mode Read) f one_store (low Read)
       ∙ ap (λ (w : FileSet). removing w f) (ap set_of (left_there sets (at-mode Write) f s (low Write) (at-mode Read) (apart Read Write no_mode)))
-  all_here Inquiry = left_here two-left (at-mode Inquiry) f two-store (low Inquiry)
+  all_here Inquiry = left_here two-left (at-mode Inquiry) f two_store (low Inquiry)
       ∙ ap (λ (w : FileSet). removing w f) (ap set_of
       (left_there one_left (at-mode Read) f one_store (low Read) (at-mode Inquiry) (apart Inquiry Read no_mode)
       ∙ left_there sets (at-mode Write) f s (low Write) (at-mode Inquiry) (apart Inquiry Write no_mode)))
 
   all_others : (k : ℕ) → ((m : Mode) → k ≢ at-mode m) → row_in all_left k ≡ row_in sets k
-  all_others k d = left_there two-left (at-mode Inquiry) f two-store (low Inquiry) k (d Inquiry)
+  all_others k d = left_there two-left (at-mode Inquiry) f two_store (low Inquiry) k (d Inquiry)
       ∙ left_there one_left (at-mode Read) f one_store (low Read) k (d Read) ∙ left_there sets (at-mode Write) f s (low Write) k (d Write)
 
 -- ---- a file is closed, dropped, given
@@ -187,11 +187,11 @@ module _ (sets : Sets) (r : Rest) (p f : ℕ) (h : 1 ≤ p) (k : p ≤ 32) (s : 
   abbrev q : Program
   q = at (board_of sets r) p
 
-  claim-now : (m : Mode) → set_in sets (claim_place m i) ≡ claim_of m q
-  claim-now m = claim-is (board_of sets r) sets (board-sets sets r s) p h k m
+  claim_now : (m : Mode) → set_in sets (claim_place m i) ≡ claim_of m q
+  claim_now m = claim_is (board_of sets r) sets (board-sets sets r s) p h k m
 
-  open-now : (m : Mode) → set_in sets (open_place m i) ≡ open_of m q
-  open-now m = open_is (board_of sets r) sets (board-sets sets r s) p h k m
+  open_now : (m : Mode) → set_in sets (open_place m i) ≡ open_of m q
+  open_now m = open_is (board_of sets r) sets (board-sets sets r s) p h k m
 
   lt : i < 32
   lt = omega arith
@@ -201,74 +201,74 @@ module _ (sets : Sets) (r : Rest) (p f : ℕ) (h : 1 ≤ p) (k : p ≤ 32) (s : 
     abbrev opens : Mode → ℕ
     opens m = open_place m i
 
-    low-open : (m : Mode) → opens m < place_count
-    low-open m = open_place_lem m i lt
+    low_open : (m : Mode) → opens m < place_count
+    low_open m = open_place_lem m i lt
 
-    apart-open : (m n : Mode) → (is_mode m n ≡ true → ⊥) → opens m ≢ opens n
-    apart-open m n d = open-apart i i lt lt m n (λ e. absurd (d e))
+    apart_open : (m n : Mode) → (is_mode m n ≡ true → ⊥) → opens m ≢ opens n
+    apart_open m n d = open_apart i i lt lt m n (λ e. absurd (d e))
 
-    pub closed-store : IsStore (closed_at sets p f)
-    closed-store = all-store sets opens f s low-open apart-open
+    pub closed_store : IsStore (closed_at sets p f)
+    closed_store = all_store sets opens f s low_open apart_open
 
     others-closed : (j : ℕ) → ((m : Mode) → j ≢ opens m) → row_in (closed_at sets p f) j ≡ row_in sets j
-    others-closed = all_others sets opens f s low-open apart-open
+    others-closed = all_others sets opens f s low_open apart_open
 
     closed-put : PutAt (closing q f) i sets (closed_at sets p f)
     closed-put = record {
-      is_store = closed-store;
+      is_store = closed_store;
       here = λ m. (
-        ap set_of (others-closed (claim_place m i) (λ n. claim-apart i i lt lt m n)) ∙ claim-now m ∙ sym (closing_claim m q f),
-        all_here sets opens f s low-open apart-open m ∙ ap (λ (x : FileSet). removing x f) (open-now m) ∙ sym (closing_open m q f),
+        ap set_of (others-closed (claim_place m i) (λ n. claim_apart i i lt lt m n)) ∙ claim_now m ∙ sym (closing_claim m q f),
+        all_here sets opens f s low_open apart_open m ∙ ap (λ (x : FileSet). removing x f) (open_now m) ∙ sym (closing_open m q f),
       );
       there = λ j l d m. (
-        others-closed (claim_place m j) (λ n. claim-apart j i l lt m n),
-        others-closed (open_place m j) (λ n. open-apart j i l lt m n (λ _. d)),
+        others-closed (claim_place m j) (λ n. claim_apart j i l lt m n),
+        others-closed (open_place m j) (λ n. open_apart j i l lt m n (λ _. d)),
       );
     }
 
-    closed-stays : seat_at r p ≡ seat_of (closing q f)
+    closed_stays : seat_at r p ≡ seat_of (closing q f)
     unfolding closing
-    closed-stays = sym (seat-is sets r p h k s)
+    closed_stays = sym (seat_is sets r p h k s)
 
     pub closed-board : board_of (closed_at sets p f) r ≡ set_program (board_of sets r) p (closing q f)
-    closed-board = keep-board (closing q f) p sets (closed_at sets p f) r h k closed-put closed-stays
+    closed-board = keep-board (closing q f) p sets (closed_at sets p f) r h k closed-put closed_stays
 
   -- f is dropped
   module _ where
     abbrev claims : Mode → ℕ
     claims m = claim_place m i
 
-    low-claim : (m : Mode) → claims m < place_count
-    low-claim m = claim_place_lem m i lt
+    low_claim : (m : Mode) → claims m < place_count
+    low_claim m = claim_place_lem m i lt
 
-    apart-claim : (m n : Mode) → (is_mode m n ≡ true → ⊥) → claims m ≢ claims n
-    apart-claim m n d = claims-apart i i lt lt m n (λ e. absurd (d e))
+    apart_claim : (m n : Mode) → (is_mode m n ≡ true → ⊥) → claims m ≢ claims n
+    apart_claim m n d = claims-apart i i lt lt m n (λ e. absurd (d e))
 
-    pub dropped-store : IsStore (dropped_at sets p f)
-    dropped-store = all-store sets claims f s low-claim apart-claim
+    pub dropped_store : IsStore (dropped_at sets p f)
+    dropped_store = all_store sets claims f s low_claim apart_claim
 
-    others-dropped : (j : ℕ) → ((m : Mode) → j ≢ claims m) → row_in (dropped_at sets p f) j ≡ row_in sets j
-    others-dropped = all_others sets claims f s low-claim apart-claim
+    others_dropped : (j : ℕ) → ((m : Mode) → j ≢ claims m) → row_in (dropped_at sets p f) j ≡ row_in sets j
+    others_dropped = all_others sets claims f s low_claim apart_claim
 
-    dropped-put : PutAt (dropping q f) i sets (dropped_at sets p f)
-    dropped-put = record {
-      is_store = dropped-store;
+    dropped_put : PutAt (dropping q f) i sets (dropped_at sets p f)
+    dropped_put = record {
+      is_store = dropped_store;
       here = λ m. (
-        all_here sets claims f s low-claim apart-claim m ∙ ap (λ (x : FileSet). removing x f) (claim-now m) ∙ sym (dropping_claim m q f),
-        ap set_of (others-dropped (open_place m i) (λ n e. claim-apart i i lt lt n m (sym e))) ∙ open-now m ∙ sym (dropping_open m q f),
+        all_here sets claims f s low_claim apart_claim m ∙ ap (λ (x : FileSet). removing x f) (claim_now m) ∙ sym (dropping_claim m q f),
+        ap set_of (others_dropped (open_place m i) (λ n e. claim_apart i i lt lt n m (sym e))) ∙ open_now m ∙ sym (dropping_open m q f),
       );
       there = λ j l d m. (
-        others-dropped (claim_place m j) (λ n. claims-apart j i l lt m n (λ _. d)),
-        others-dropped (open_place m j) (λ n e. claim-apart i j lt l n m (sym e)),
+        others_dropped (claim_place m j) (λ n. claims-apart j i l lt m n (λ _. d)),
+        others_dropped (open_place m j) (λ n e. claim_apart i j lt l n m (sym e)),
       );
     }
 
-    dropped-stays : seat_at r p ≡ seat_of (dropping q f)
+    dropped_stays : seat_at r p ≡ seat_of (dropping q f)
     unfolding dropping
-    dropped-stays = sym (seat-is sets r p h k s)
+    dropped_stays = sym (seat_is sets r p h k s)
 
-    pub dropped-board : board_of (dropped_at sets p f) r ≡ set_program (board_of sets r) p (dropping q f)
-    dropped-board = keep-board (dropping q f) p sets (dropped_at sets p f) r h k dropped-put dropped-stays
+    pub dropped_board : board_of (dropped_at sets p f) r ≡ set_program (board_of sets r) p (dropping q f)
+    dropped_board = keep-board (dropping q f) p sets (dropped_at sets p f) r h k dropped_put dropped_stays
 
   -- f is given
   module _ where
@@ -277,24 +277,24 @@ module _ (sets : Sets) (r : Rest) (p f : ℕ) (h : 1 ≤ p) (k : p ≤ 32) (s : 
 
     given-all : SetsOf (set_program (board_of sets r) p (opening q f)) (given_at sets p f)
     given-all = sets-given (board_of sets r) (set_program (board_of sets r) p (opening q f)) (opening q f) p f sets (board-size sets r)
-        (record { least = h; most = k }) refl (record { same-claim = λ m. refl; same-open = λ m. refl }) (board-sets sets r s)
+        (record { least = h; most = k }) refl (record { same_claim = λ m. refl; same_open = λ m. refl }) (board-sets sets r s)
 
-    given-in : in_place (set_program (board_of sets r) p (opening q f)) i ≡ opening q f
-    given-in = get_or-set_same (board_of sets r).programs i (opening q f) no_program (omega (arith, board-size sets r))
+    given_in : in_place (set_program (board_of sets r) p (opening q f)) i ≡ opening q f
+    given_in = get_or-set_same (board_of sets r).programs i (opening q f) no_program (omega (arith, board-size sets r))
 
     given-put : PutAt (opening q f) i sets (given_at sets p f)
     given-put = record {
       is_store = given_store sets p f h k s;
-      here = λ m. let x = given-all.1 i lt m in (x.0 ∙ ap (claim_of m) given-in, x.1 ∙ ap (open_of m) given-in);
+      here = λ m. let x = given-all.1 i lt m in (x.0 ∙ ap (claim_of m) given_in, x.1 ∙ ap (open_of m) given_in);
       there = λ j l d m. (
-        get_or-set_other sets (open_place m₀ i) (claim_place m j) (with_file (row_in sets (open_place m₀ i)) f) [] (claim-apart j i l lt m m₀),
-        get_or-set_other sets (open_place m₀ i) (open_place m j) (with_file (row_in sets (open_place m₀ i)) f) [] (open-apart j i l lt m m₀ (λ _. d)),
+        get_or-set_other sets (open_place m₀ i) (claim_place m j) (with_file (row_in sets (open_place m₀ i)) f) [] (claim_apart j i l lt m m₀),
+        get_or-set_other sets (open_place m₀ i) (open_place m j) (with_file (row_in sets (open_place m₀ i)) f) [] (open_apart j i l lt m m₀ (λ _. d)),
       );
     }
 
     given_stays : seat_at r p ≡ seat_of (opening q f)
     unfolding opening
-    given_stays = sym (seat-is sets r p h k s)
+    given_stays = sym (seat_is sets r p h k s)
 
     pub given-board : board_of (given_at sets p f) r ≡ set_program (board_of sets r) p (opening q f)
     given-board = keep-board (opening q f) p sets (given_at sets p f) r h k given-put given_stays

@@ -22,7 +22,7 @@ use Rattle.rules.specs.Boards.{no_program, at, opened, opening}
 use Rattle.theory.specs.Modes.{mode_is, opened_claim, opened_open, opened-same}
 use Rattle.theory.specs.Programs.{Is, Sized, SameSets}
 use Rattle.store.specs.Sets.{place_count, Sets, IsStore, claim_place, open_place, row_in, set_in, in_place, SetsOf, mode_at, joined_in, given_at}
-use Rattle.store.proofs.Laws.{claim-apart, open-apart, open_place_lem, put-row, open_is, mode-at}
+use Rattle.store.proofs.Laws.{claim_apart, open_apart, open_place_lem, put-row, open_is, mode-at}
 
 -- a file joins the set in a place
 module _ (sets : Sets) (k f : ℕ) (s : IsStore sets) (h : k < place_count) where
@@ -40,7 +40,7 @@ module _ (sets : Sets) (k f : ℕ) (s : IsStore sets) (h : k < place_count) wher
   joined_store = put-row sets k (with_file (row_in sets k) f) s (length_with (row_in sets k) f ∙ s.words_are k h)
 
   pub joined-here : set_in (joined_in sets k f) k ≡ adding (set_in sets k) f
-  joined-here = ap set_of (get_or-set_same sets k (with_file (row_in sets k) f) [] (omega (arith, h, s.places-are))) ∙ joined-set
+  joined-here = ap set_of (get_or-set_same sets k (with_file (row_in sets k) f) [] (omega (arith, h, s.places_are))) ∙ joined-set
 
   pub joined-there : (j : ℕ) → j ≢ k → set_in (joined_in sets k f) j ≡ set_in sets j
   joined-there j d = ap set_of (get_or-set_other sets k j (with_file (row_in sets k) f) [] d)
@@ -57,13 +57,13 @@ sets-given c d g p f sets z i ed k (n, s) = (
   joined_store sets (open_place m (p - 1)) f n (open_place_lem m (p - 1) h),
   λ j l a. by_test (eqb j (p - 1))
       (λ t. let w : j ≡ p - 1 = eqb-true j (p - 1) t in rw w (
-        not-open (p - 1) a h ∙ (s (p - 1) h a).0 ∙ sym (opened_claim (mode_of (at c p) f) a (at c p) f) ∙ k.same-claim a
+        not_open (p - 1) a h ∙ (s (p - 1) h a).0 ∙ sym (opened_claim (mode_of (at c p) f) a (at c p) f) ∙ k.same_claim a
             ∙ sym (ap (claim_of a) here-is),
-        now-open a ∙ k.same-open a ∙ sym (ap (open_of a) here-is),
+        now_open a ∙ k.same_open a ∙ sym (ap (open_of a) here-is),
       ))
       (λ t. let w : j ≢ p - 1 = eqb-false j (p - 1) t in let o = sym (there-is j w) in (
-        not-open j a l ∙ (s j l a).0 ∙ ap (claim_of a) o,
-        joined-there sets (open_place m (p - 1)) f n (open_place_lem m (p - 1) h) (open_place a j) (open-apart j (p - 1) l h a m (λ _. w)) ∙ (s j l a).1
+        not_open j a l ∙ (s j l a).0 ∙ ap (claim_of a) o,
+        joined-there sets (open_place m (p - 1)) f n (open_place_lem m (p - 1) h) (open_place a j) (open_apart j (p - 1) l h a m (λ _. w)) ∙ (s j l a).1
             ∙ ap (open_of a) o,
       )),
 )
@@ -77,12 +77,12 @@ sets-given c d g p f sets z i ed k (n, s) = (
     same-mode-at : m ≡ mode_of (at c p) f
     same-mode-at = mode-at c sets (n, s) p f i.least i.most
 
-    not-open : (j : ℕ) (a : Mode) → j < 32 → set_in (given_at sets p f) (claim_place a j) ≡ set_in sets (claim_place a j)
-    not-open j a l = joined-there sets (open_place m (p - 1)) f n (open_place_lem m (p - 1) h) (claim_place a j) (claim-apart j (p - 1) l h a m)
+    not_open : (j : ℕ) (a : Mode) → j < 32 → set_in (given_at sets p f) (claim_place a j) ≡ set_in sets (claim_place a j)
+    not_open j a l = joined-there sets (open_place m (p - 1)) f n (open_place_lem m (p - 1) h) (claim_place a j) (claim_apart j (p - 1) l h a m)
 
     -- what p has open in a mode, with f given
-    now-open : (a : Mode) → set_in (given_at sets p f) (open_place a (p - 1)) ≡ open_of a (opened (mode_of (at c p) f) (at c p) f)
-    now-open a = by_test (is_mode a m)
+    now_open : (a : Mode) → set_in (given_at sets p f) (open_place a (p - 1)) ≡ open_of a (opened (mode_of (at c p) f) (at c p) f)
+    now_open a = by_test (is_mode a m)
         (λ t. let e = mode_is a m t in
         ap (λ (x : Mode). set_in (given_at sets p f) (open_place x (p - 1))) e
         ∙ joined-here sets (open_place m (p - 1)) f n (open_place_lem m (p - 1) h)
@@ -90,7 +90,7 @@ sets-given c d g p f sets z i ed k (n, s) = (
         ∙ sym (opened-same m (at c p) f)
         ∙ ap₂ (λ (x y : Mode). open_of x (opened y (at c p) f)) (sym e) same-mode-at)
         (λ t. joined-there sets (open_place m (p - 1)) f n (open_place_lem m (p - 1) h) (open_place a (p - 1))
-        (open-apart (p - 1) (p - 1) h h a m (λ u. never u t))
+        (open_apart (p - 1) (p - 1) h h a m (λ u. never u t))
         ∙ (s (p - 1) h a).1 ∙ sym (opened_open (mode_of (at c p) f) a (at c p) f ∙ rw (ap (is_mode a) (sym same-mode-at) ∙ t)))
 
     here-is : in_place d (p - 1) ≡ g

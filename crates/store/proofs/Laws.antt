@@ -27,28 +27,28 @@ use Rattle.store.specs.Sets.{claim_at, open_at, mode_at, claims_at, holds_one, m
 
 module _ (i j : ℕ) (h : i < 32) (k : j < 32) where
   -- a claim stands in another place than what is open
-  pub claim-apart : (m n : Mode) → claim_place m i ≢ open_place n j
-  claim-apart Write Write e = omega arith
-  claim-apart Write Read e = omega arith
-  claim-apart Read Write e = omega arith
-  claim-apart Read Read e = omega arith
-  claim-apart Write Inquiry e = omega arith
-  claim-apart Read Inquiry e = omega arith
-  claim-apart Inquiry Write e = omega arith
-  claim-apart Inquiry Read e = omega arith
-  claim-apart Inquiry Inquiry e = omega arith
+  pub claim_apart : (m n : Mode) → claim_place m i ≢ open_place n j
+  claim_apart Write Write e = omega arith
+  claim_apart Write Read e = omega arith
+  claim_apart Read Write e = omega arith
+  claim_apart Read Read e = omega arith
+  claim_apart Write Inquiry e = omega arith
+  claim_apart Read Inquiry e = omega arith
+  claim_apart Inquiry Write e = omega arith
+  claim_apart Inquiry Read e = omega arith
+  claim_apart Inquiry Inquiry e = omega arith
 
   -- what is open in different modes, or of different programs, stands in different places
-  pub open-apart : (m n : Mode) → (is_mode m n ≡ true → i ≢ j) → open_place m i ≢ open_place n j
-  open-apart Write Write d e = d refl (omega arith)
-  open-apart Write Read d e = omega arith
-  open-apart Read Write d e = omega arith
-  open-apart Read Read d e = d refl (omega arith)
-  open-apart Write Inquiry d e = omega arith
-  open-apart Read Inquiry d e = omega arith
-  open-apart Inquiry Write d e = omega arith
-  open-apart Inquiry Read d e = omega arith
-  open-apart Inquiry Inquiry d e = d refl (omega arith)
+  pub open_apart : (m n : Mode) → (is_mode m n ≡ true → i ≢ j) → open_place m i ≢ open_place n j
+  open_apart Write Write d e = d refl (omega arith)
+  open_apart Write Read d e = omega arith
+  open_apart Read Write d e = omega arith
+  open_apart Read Read d e = d refl (omega arith)
+  open_apart Write Inquiry d e = omega arith
+  open_apart Read Inquiry d e = omega arith
+  open_apart Inquiry Write d e = omega arith
+  open_apart Inquiry Read d e = omega arith
+  open_apart Inquiry Inquiry d e = d refl (omega arith)
 
 module _ (i j : ℕ) (h : i < 32) (k : j < 32) where
   -- and claims in different modes, or of different programs
@@ -107,17 +107,17 @@ module _ (k : ℕ) (x y z : FileSet) (l : Sets) (v q j : List ℕ) (h : k < 128)
 
   pub three-put : PutsFrom k (by_mode x y z) l l₃
   three-put = record {
-    are-store = put-row l₂ (64 + k) j s₂ nj;
+    are_store = put-row l₂ (64 + k) j s₂ nj;
     put-here = mine;
     put-there = λ i d. get_or-set_other l₂ (64 + k) i j [] (d Inquiry) ∙ get_or-set_other l₁ (32 + k) i q [] (d Read) ∙ get_or-set_other l k i v [] (d Write);
   }
     where
       mine : (m : Mode) → set_in l₃ (mode_place k m) ≡ by_mode x y z m
       mine Write = ap set_of (get_or-set_other l₂ (64 + k) k j [] (λ e. omega arith) ∙ get_or-set_other l₁ (32 + k) k q [] (λ e. omega arith)
-          ∙ get_or-set_same l k v [] (omega (arith, s.places-are))) ∙ ev
+          ∙ get_or-set_same l k v [] (omega (arith, s.places_are))) ∙ ev
       mine Read = ap set_of (get_or-set_other l₂ (64 + k) (32 + k) j [] (λ e. omega arith)
-          ∙ get_or-set_same l₁ (32 + k) q [] (omega (arith, s₁.places-are))) ∙ eq
-      mine Inquiry = ap set_of (get_or-set_same l₂ (64 + k) j [] (omega (arith, s₂.places-are))) ∙ ej
+          ∙ get_or-set_same l₁ (32 + k) q [] (omega (arith, s₁.places_are))) ∙ eq
+      mine Inquiry = ap set_of (get_or-set_same l₂ (64 + k) j [] (omega (arith, s₂.places_are))) ∙ ej
 
 -- claims and open files stand by mode
 claim_mode : (m : Mode) (i : ℕ) → claim_place m i ≡ mode_place i m
@@ -144,14 +144,14 @@ open_by Inquiry p = refl
 pub rows-put : (p : Program) (i : ℕ) (l l' l'' : Sets) → i < 32 → PutsFrom i (by_mode p.writable p.readable p.inquirable) l l'
     → PutsFrom (96 + i) (by_mode p.writing p.reading p.inquiring) l' l'' → PutAt p i l l''
 rows-put p i l l' l'' h a b = record {
-  is_store = b.are-store;
+  is_store = b.are_store;
   here = λ m. (
-    ap set_of (opens-there (claim_place m i) (λ n. claim-apart i i h h m n)) ∙ ap (set_in l') (claim_mode m i) ∙ a.put-here m ∙ claim_by m p,
+    ap set_of (opens-there (claim_place m i) (λ n. claim_apart i i h h m n)) ∙ ap (set_in l') (claim_mode m i) ∙ a.put-here m ∙ claim_by m p,
     ap (set_in l'') (open_mode m i) ∙ b.put-here m ∙ open_by m p,
   );
   there = λ k z d m. (
-    opens-there (claim_place m k) (λ n. claim-apart k i z h m n) ∙ claims-there (claim_place m k) (λ n. claims-apart k i z h m n (λ _. d)),
-    opens-there (open_place m k) (λ n. open-apart k i z h m n (λ _. d)) ∙ claims-there (open_place m k) (λ n e. claim-apart i k h z n m (sym e)),
+    opens-there (claim_place m k) (λ n. claim_apart k i z h m n) ∙ claims-there (claim_place m k) (λ n. claims-apart k i z h m n (λ _. d)),
+    opens-there (open_place m k) (λ n. open_apart k i z h m n (λ _. d)) ∙ claims-there (open_place m k) (λ n e. claim_apart i k h z n m (sym e)),
   );
 }
   where
@@ -171,21 +171,21 @@ sets_more b i l l' h p f k d m = by_test (eqb k i)
 -- ---- what the sets say of the board
 
 module _ (b : Board) (sets : Sets) (s : SetsOf b sets) where
-  pub claim-is : (p : ℕ) → 1 ≤ p → p ≤ 32 → (m : Mode) → claim_at sets p m ≡ claim_of m (at b p)
-  claim-is p h k m = (s.1 (p - 1) (omega arith) m).0
+  pub claim_is : (p : ℕ) → 1 ≤ p → p ≤ 32 → (m : Mode) → claim_at sets p m ≡ claim_of m (at b p)
+  claim_is p h k m = (s.1 (p - 1) (omega arith) m).0
 
   pub open_is : (p : ℕ) → 1 ≤ p → p ≤ 32 → (m : Mode) → open_at sets p m ≡ open_of m (at b p)
   open_is p h k m = (s.1 (p - 1) (omega arith) m).1
 
   -- the mode in which a file is opened
   pub mode-at : (p f : ℕ) → 1 ≤ p → p ≤ 32 → mode_at sets p f ≡ mode_of (at b p) f
-  mode-at p f h k = ap₂ (λ (x y : FileSet). cond (member x f) Write (cond (member y f) Read Inquiry)) (claim-is p h k Write) (claim-is p h k Read)
+  mode-at p f h k = ap₂ (λ (x y : FileSet). cond (member x f) Write (cond (member y f) Read Inquiry)) (claim_is p h k Write) (claim_is p h k Read)
 
   -- who claims a file in a mode that clashes
   pub claims-is : (f p : ℕ) (m : Mode) → 1 ≤ p → p ≤ 32
       → claims_at sets f m p ≡ some_mode (λ n. clashing m n && member (claim_of n (at b p)) f)
-  claims-is f p m h k = same_mode _ _ (λ n. ap (λ (x : FileSet). clashing m n && member x f) (claim-is p h k n))
+  claims-is f p m h k = same_mode _ _ (λ n. ap (λ (x : FileSet). clashing m n && member x f) (claim_is p h k n))
 
   -- who holds back whom
   pub holds-is : (x y : ℕ) → 1 ≤ x → x ≤ 32 → 1 ≤ y → y ≤ 32 → holds_one sets y x ≡ holds_back (at b x) (at b y)
-  holds-is x y i j l m = touching-same _ _ _ _ (open_is x i j) (claim-is y l m)
+  holds-is x y i j l m = touching-same _ _ _ _ (open_is x i j) (claim_is y l m)

@@ -106,7 +106,7 @@ mode_place k Inquiry = 64 + k
 
 -- three sets are put in these places, by mode, and every other row stands as before
 pub record PutsFrom (k : ℕ) (x : Mode → FileSet) (before after : Sets) : Type 0 where
-  pub are-store : IsStore after
+  pub are_store : IsStore after
   pub put-here : (m : Mode) → set_in after (mode_place k m) ≡ x m
   pub put-there : (j : ℕ) → ((m : Mode) → j ≢ mode_place k m) → row_in after j ≡ row_in before j
 

@@ -143,13 +143,13 @@ SeatsTo b n seats = (i : ℕ) → i < n → get_or seats i no_seat ≡ seat_of (
 
 -- the rest has the seats, the lines, the numbers and the counts of the board
 pub record RestOf (b : Board) (r : Rest) : Type 0 where
-  pub seats-are : SeatsTo b 32 r.seats
-  pub waiting-is : r.waiting ≡ b.waiting
+  pub seats_are : SeatsTo b 32 r.seats
+  pub waiting_is : r.waiting ≡ b.waiting
   pub entry-is : r.entry ≡ b.entry
   pub favoured_is : r.favoured ≡ b.favoured
-  pub initial-is : r.initial ≡ b.initial
-  pub leaves-are : r.leaves ≡ b.leaves
-  pub passed-are : r.passed ≡ b.passed
+  pub initial_is : r.initial ≡ b.initial
+  pub leaves_are : r.leaves ≡ b.leaves
+  pub passed_are : r.passed ≡ b.passed
 
 -- ---- the empty board
 

@@ -184,9 +184,9 @@ module _ (t : ℕ → Bool) (p : ℕ) where
   unfolding any
   any_step h = ap (any t) (rising_step p h)
 
-  pub any-end : 32 < p → any t (rising (33 - p) p) ≡ false
+  pub any_end : 32 < p → any t (rising (33 - p) p) ≡ false
   unfolding any
-  any-end h = ap (any t) (rising_end p h)
+  any_end h = ap (any t) (rising_end p h)
 
   pub keep_more : p ≤ 32 → t p ≡ true → length (keep t (rising (33 - p) p)) ≡ suc (length (keep t (rising (33 - suc p) (suc p))))
   unfolding keep

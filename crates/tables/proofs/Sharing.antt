@@ -41,8 +41,8 @@ module _ (g : ℕ → List ℕ) where
 
   -- ---- one program after another
 
-  pub shared-none : (t : ℕ → Bool) → ((p : ℕ) → t p ≡ false) → SharedBy g t none_shared
-  shared-none t f = record {
+  pub shared_none : (t : ℕ → Bool) → ((p : ℕ) → t p ≡ false) → SharedBy g t none_shared
+  shared_none t f = record {
     once-words = length-replicate {A = ℕ} word_count 0;
     twice-words = length-replicate {A = ℕ} word_count 0;
     once_is = λ x. (λ e. never e (no_word x), λ (p, a, b). never a (f p));
@@ -69,14 +69,14 @@ module _ (g : ℕ → List ℕ) where
     common-words : length common ≡ word_count
     common-words = length-wordwise bit_and k.once (g p) ∙ s.once-words
 
-    once-or : (x : ℕ) → in_words (sharing k (g p)).once x ≡ (in_words k.once x || has p x)
-    once-or x = or_words k.once (g p) x (s.once-words ∙ sym w)
+    once_or : (x : ℕ) → in_words (sharing k (g p)).once x ≡ (in_words k.once x || has p x)
+    once_or x = or_words k.once (g p) x (s.once-words ∙ sym w)
 
-    both-and : (x : ℕ) → in_words common x ≡ (in_words k.once x && has p x)
-    both-and x = and_words k.once (g p) x (s.once-words ∙ sym w)
+    both_and : (x : ℕ) → in_words common x ≡ (in_words k.once x && has p x)
+    both_and x = and_words k.once (g p) x (s.once-words ∙ sym w)
 
-    twice-or : (x : ℕ) → in_words (sharing k (g p)).twice x ≡ (in_words k.twice x || in_words common x)
-    twice-or x = or_words k.twice common x (s.twice-words ∙ sym common-words)
+    twice_or : (x : ℕ) → in_words (sharing k (g p)).twice x ≡ (in_words k.twice x || in_words common x)
+    twice_or x = or_words k.twice common x (s.twice-words ∙ sym common-words)
 
     other : (q : ℕ) → t q ≡ true → q ≢ p
     other q e z = never (ap t (sym z) ∙ e) out
@@ -90,33 +90,33 @@ module _ (g : ℕ → List ℕ) where
     at_p : (q x : ℕ) → q ≡ p → has q x ≡ true → has p x ≡ true
     at_p q x z e = ap (λ (y : ℕ). has y x) (sym z) ∙ e
 
-    with-p : (x q : ℕ) → t q ≡ true → has q x ≡ true → has p x ≡ true → in_words (sharing k (g p)).twice x ≡ true
-    with-p x q a e d = twice-or x ∙ or_right (in_words k.twice x) _
-        (both-and x ∙ and_both (in_words k.once x) (has p x) ((s.once_is x).1 (q, a, e)) d)
+    with_p : (x q : ℕ) → t q ≡ true → has q x ≡ true → has p x ≡ true → in_words (sharing k (g p)).twice x ≡ true
+    with_p x q a e d = twice_or x ∙ or_right (in_words k.twice x) _
+        (both_and x ∙ and_both (in_words k.once x) (has p x) ((s.once_is x).1 (q, a, e)) d)
 
     two-more : (x q r : ℕ) → q ≢ r → u q ≡ true → u r ≡ true → has q x ≡ true → has r x ≡ true → in_words (sharing k (g p)).twice x ≡ true
     two-more x q r n a b c d = by_test (eqb q p)
-        (λ e. let z = eqb-true q p e in with-p x r (before r (λ y. n (z ∙ sym y)) b) d (at_p q x z c))
-        (λ e. by_test (eqb r p) (λ f. with-p x q (before q (eqb-false q p e) a) c (at_p r x (eqb-true r p f) d))
-        (λ f. twice-or x ∙ or_left (in_words k.twice x) _
+        (λ e. let z = eqb-true q p e in with_p x r (before r (λ y. n (z ∙ sym y)) b) d (at_p q x z c))
+        (λ e. by_test (eqb r p) (λ f. with_p x q (before q (eqb-false q p e) a) c (at_p r x (eqb-true r p f) d))
+        (λ f. twice_or x ∙ or_left (in_words k.twice x) _
         ((s.twice-is x).1 (q, r, n, before q (eqb-false q p e) a, before r (eqb-false r p f) b, c, d))))
 
-    pub shared-more : SharedBy g u (sharing k (g p))
-    shared-more = record {
+    pub shared_more : SharedBy g u (sharing k (g p))
+    shared_more = record {
       once-words = length-wordwise bit_or k.once (g p) ∙ s.once-words;
       twice-words = length-wordwise bit_or k.twice common ∙ s.twice-words;
       once_is = λ x. (
-        λ e. or_cases (in_words k.once x) (has p x) (sym (once-or x) ∙ e)
+        λ e. or_cases (in_words k.once x) (has p x) (sym (once_or x) ∙ e)
             (λ a. let (q, b, c) = (s.once_is x).0 a in (q, still q b, c)) (λ a. (p, now, a)),
-        λ (q, a, b). once-or x ∙ by_test (eqb q p)
+        λ (q, a, b). once_or x ∙ by_test (eqb q p)
             (λ e. or_right (in_words k.once x) (has p x) (at_p q x (eqb-true q p e) b))
             (λ e. or_left (in_words k.once x) (has p x) ((s.once_is x).1 (q, before q (eqb-false q p e) a, b))),
       );
       twice-is = λ x. (
         λ e. or_cases (in_words k.twice x) (in_words common x)
-            (sym (twice-or x) ∙ e)
+            (sym (twice_or x) ∙ e)
             (λ a. let (q, r, n, b, c, d, f) = (s.twice-is x).0 a in (q, r, n, still q b, still r c, d, f))
-            (λ a. let v = sym (both-and x) ∙ a in
+            (λ a. let v = sym (both_and x) ∙ a in
             let (q, b, c) = (s.once_is x).0 (and_left (in_words k.once x) (has p x) v) in
             (q, p, other q b, still q b, now, c, and_right (in_words k.once x) (has p x) v)),
         λ (q, r, n, a, b, c, d). two-more x q r n a b c d,
@@ -124,29 +124,29 @@ module _ (g : ℕ → List ℕ) where
     }
 
   -- of 1 to n
-  pub shared-to : (n : ℕ) → ((p : ℕ) → 1 ≤ p → p ≤ n → length (g p) ≡ word_count) → SharedBy g (λ p. leb 1 p && leb p n) (shared_to g n)
+  pub shared_to_lem : (n : ℕ) → ((p : ℕ) → 1 ≤ p → p ≤ n → length (g p) ≡ word_count) → SharedBy g (λ p. leb 1 p && leb p n) (shared_to g n)
   unfolding shared_to
-  shared-to zero w = shared-none _ (λ p. no_true _ (λ e. let a = leb-true 1 p (and_left (leb 1 p) (leb p 0) e) in
+  shared_to_lem zero w = shared_none _ (λ p. no_true _ (λ e. let a = leb-true 1 p (and_left (leb 1 p) (leb p 0) e) in
       let b = leb-true p 0 (and_right (leb 1 p) (leb p 0) e) in omega arith))
-  shared-to (suc n) w = shared-more (λ p. leb 1 p && leb p n) (λ p. leb 1 p && leb p (suc n)) (suc n) (shared_to g n)
+  shared_to_lem (suc n) w = shared_more (λ p. leb 1 p && leb p n) (λ p. leb 1 p && leb p (suc n)) (suc n) (shared_to g n)
       (w (suc n) (omega arith) (omega arith))
       (no_true _ (λ e. let b = leb-true (suc n) n (and_right (leb 1 (suc n)) (leb (suc n) n) e) in omega arith))
       (and_both (leb 1 (suc n)) (leb (suc n) (suc n)) (le-leb 1 (suc n) (omega arith)) (le-leb (suc n) (suc n) (omega arith)))
       (λ q d. ap (λ (w : Bool). leb 1 q && w) (same_test (leb q (suc n)) (leb q n)
       (λ e. let a = leb-true q (suc n) e in le-leb q n (omega arith)) (λ e. let a = leb-true q n e in le-leb q (suc n) (omega arith))))
-      (shared-to n (λ p h k. w p h (omega arith)))
+      (shared_to_lem n (λ p h k. w p h (omega arith)))
 
   -- and of 1 to p
-  pub to-more : (p : ℕ) (k r : Shared) → 1 ≤ p → k ≡ shared_to g (p - 1) → r ≡ sharing k (g p) → r ≡ shared_to g (p + 1 - 1)
+  pub to_more : (p : ℕ) (k r : Shared) → 1 ≤ p → k ≡ shared_to g (p - 1) → r ≡ sharing k (g p) → r ≡ shared_to g (p + 1 - 1)
   unfolding shared_to
-  to-more zero k r h e d = absurd (omega arith)
-  to-more (suc p) k r h e d =
+  to_more zero k r h e d = absurd (omega arith)
+  to_more (suc p) k r h e d =
       let a : suc p + 1 - 1 ≡ suc p = omega arith in let z : suc p - 1 ≡ p = omega arith in
       rw a (d ∙ ap (λ (x : Shared). sharing x (g (suc p))) (e ∙ ap (shared_to g) z))
 
   pub once_more : (p : ℕ) (w : List ℕ) → 1 ≤ p → w ≡ (shared_to g (p - 1)).once → wordwise bit_or w (g p) ≡ (shared_to g (p + 1 - 1)).once
   once_more p w h e = ap (λ (x : List ℕ). wordwise bit_or x (g p)) e
-      ∙ ap (λ (k : Shared). k.once) (to-more p (shared_to g (p - 1)) (sharing (shared_to g (p - 1)) (g p)) h refl refl)
+      ∙ ap (λ (k : Shared). k.once) (to_more p (shared_to g (p - 1)) (sharing (shared_to g (p - 1)) (g p)) h refl refl)
 
   -- ---- the others than p
 
@@ -157,17 +157,17 @@ module _ (g : ℕ → List ℕ) where
     less : (x : ℕ) → in_words rest x ≡ (in_words k.once x && not (has p x))
     less x = but_words k.once (g p) x (s.once-words ∙ sym w)
 
-    theirs-or : (x : ℕ) → in_words (others_of k (g p)) x ≡ (in_words k.twice x || in_words rest x)
-    theirs-or x = or_words k.twice rest x (s.twice-words ∙ sym (length-wordwise less_bits k.once (g p) ∙ s.once-words))
+    theirs_or : (x : ℕ) → in_words (others_of k (g p)) x ≡ (in_words k.twice x || in_words rest x)
+    theirs_or x = or_words k.twice rest x (s.twice-words ∙ sym (length-wordwise less_bits k.once (g p) ∙ s.once-words))
 
     -- what another has
     pub of_others : (q x : ℕ) → t q ≡ true → q ≢ p → has q x ≡ true → in_words (others_of k (g p)) x ≡ true
-    of_others q x a n b = theirs-or x ∙ by_test (has p x)
+    of_others q x a n b = theirs_or x ∙ by_test (has p x)
         (λ c. or_left (in_words k.twice x) _ ((s.twice-is x).1 (q, p, n, a, e, b, c)))
         (λ c. or_right (in_words k.twice x) _ (less x ∙ rw ((s.once_is x).1 (q, a, b), c)))
 
     pub others-of : (x : ℕ) → in_words (others_of k (g p)) x ≡ true → (q : ℕ) × (t q ≡ true) × (q ≢ p) × (has q x ≡ true)
-    others-of x d = or_cases (in_words k.twice x) (in_words rest x) (sym (theirs-or x) ∙ d)
+    others-of x d = or_cases (in_words k.twice x) (in_words rest x) (sym (theirs_or x) ∙ d)
         (λ a. let (q, r, n, b, c, u, v) = (s.twice-is x).0 a in by_test (eqb q p)
         (λ z. (r, c, λ y. n (eqb-true q p z ∙ sym y), v)) (λ z. (q, b, eqb-false q p z, u)))
         (λ a. let v = sym (less x) ∙ a in
@@ -199,9 +199,9 @@ module _ (g : ℕ → List ℕ) where
     -- a file that p has not: some program has it exactly if another has
     pub some-member : (f : ℕ) → member (set_of (g p)) f ≡ false → member all f ≡ any (λ i. not (eqb i p) && member (set_of (g i)) f) everyone
     some-member f out = same_test (member all f) _
-        (λ e. let (i, a, b) = ((shared-to 32 w).once_is (f - 1)).0 (has-bit 64 all.bits f e) in
+        (λ e. let (i, a, b) = ((shared_to_lem 32 w).once_is (f - 1)).0 (has-bit 64 all.bits f e) in
         let m = and_both (is_file f) (has i (f - 1)) (has-number 64 all.bits f e) b in
         some-other (λ s. member s f) i a (λ z. never (ap (λ (x : ℕ). member (set_of (g x)) f) (sym z) ∙ m) out) m)
         (λ e. let (i, a, n, b) = other-some (λ s. member s f) e in
         and_both (is_file f) (has_bit all.bits (f - 1)) (has-number 64 (set_of (g i)).bits f b)
-        (((shared-to 32 w).once_is (f - 1)).1 (i, a, has-bit 64 (set_of (g i)).bits f b)))
+        (((shared_to_lem 32 w).once_is (f - 1)).1 (i, a, has-bit 64 (set_of (g i)).bits f b)))

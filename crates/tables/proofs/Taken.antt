@@ -29,11 +29,11 @@ module _ (t : Seat) (f n : ℕ) where
   other-file d = rw (ne_eqb t.file f d)
       (sym (ap (λ (x : Bool). x && eqb t.item n) (and_false (is_running t.standing && not (eqb t.item 0)))))
 
-  pub other-record : t.item ≢ n → false ≡ seat_uses t f n
-  other-record d = rw (ne_eqb t.item n d) (sym (and_false (is_running t.standing && not (eqb t.item 0) && eqb t.file f)))
+  pub other_record : t.item ≢ n → false ≡ seat_uses t f n
+  other_record d = rw (ne_eqb t.item n d) (sym (and_false (is_running t.standing && not (eqb t.item 0) && eqb t.file f)))
 
-  pub record-used : t.item ≢ 0 → t.file ≡ f → t.item ≡ n → is_running t.standing ≡ seat_uses t f n
-  record-used d e g =
+  pub record_used : t.item ≢ 0 → t.file ≡ f → t.item ≡ n → is_running t.standing ≡ seat_uses t f n
+  record_used d e g =
       let a = is_running t.standing in
       let x : (a && not (eqb t.item 0)) ≡ a = ap (λ (z : Bool). a && not z) (ne_eqb t.item 0 d) ∙ and_true a in
       sym (ap₂ (λ (y z : Bool). a && not (eqb t.item 0) && y && z) (eq-eqb t.file f e) (eq-eqb t.item n g)
@@ -43,10 +43,10 @@ module _ (t : Seat) (f n : ℕ) where
 
 module _ (sets : Sets) (r : Rest) where
   -- a use, by the seat
-  pub seat-uses : (i f n : ℕ) → i ∈ everyone → uses (at (board_of sets r) i) f n ≡ seat_uses (seat_at r i) f n
-  seat-uses i f n m = let c = everyone_is i m in ap (λ (q : Program). uses q f n) (board-at sets r i c.least c.most)
+  pub seat_uses_lem : (i f n : ℕ) → i ∈ everyone → uses (at (board_of sets r) i) f n ≡ seat_uses (seat_at r i) f n
+  seat_uses_lem i f n m = let c = everyone_is i m in ap (λ (q : Program). uses q f n) (board-at sets r i c.least c.most)
 
   -- the seats say whether another has it
-  pub seats-taken : (p f n : ℕ) → taken_in r p f n ≡ taken (board_of sets r) p f n
+  pub seats_taken : (p f n : ℕ) → taken_in r p f n ≡ taken (board_of sets r) p f n
   unfolding taken
-  seats-taken p f n = any_same _ _ everyone (λ i m. ap (λ (t : Bool). not (eqb i p) && t) (sym (seat-uses i f n m)))
+  seats_taken p f n = any_same _ _ everyone (λ i m. ap (λ (t : Bool). not (eqb i p) && t) (sym (seat_uses_lem i f n m)))

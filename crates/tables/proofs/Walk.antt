@@ -50,8 +50,8 @@ module _ (s : ProgramSet) where
   pub came-other : (rest : ProgramSet) (p x : ℕ) → x ≢ p → came (without_program rest p) x ≡ came rest x
   came-other rest p x n = ap (λ (y : Bool). has_program s x && not y) (without-number-other 32 rest.bits p x n)
 
-  pub came-not : (rest : ProgramSet) (x : ℕ) → has_program rest x ≡ true → came rest x ≡ false
-  came-not rest x e = by_test (has_program s x) (λ t. rw (t, e)) (λ t. rw t)
+  pub came_not : (rest : ProgramSet) (x : ℕ) → has_program rest x ≡ true → came rest x ≡ false
+  came_not rest x e = by_test (has_program s x) (λ t. rw (t, e)) (λ t. rw t)
 
   pub came-all : (rest : ProgramSet) (x : ℕ) → rest.bits ≡ 0 → came rest x ≡ has_program s x
   came-all rest x e = ap (λ (y : Bool). has_program s x && not y) (none_left rest x e) ∙ and_true (has_program s x)
@@ -84,7 +84,7 @@ module _ (s : ProgramSet) where
     -- the place of one that is to come is as before
     pub wrote-here : (rest : ProgramSet) (after : List ℕ) (p : ℕ) → WroteTo rest after → IsLowest rest p → get_or after (p - 1) 0 ≡ get_or before (p - 1) 0
     wrote-here rest after p (r, n, f) (a, b, h, l) = let w : suc (p - 1) ≡ p = omega arith in
-        f (p - 1) (omega arith) ∙ ap (λ (c : Bool). cond c (g (p - 1)) (get_or before (p - 1) 0)) (ap (came rest) w ∙ came-not rest p h)
+        f (p - 1) (omega arith) ∙ ap (λ (c : Bool). cond c (g (p - 1)) (get_or before (p - 1) 0)) (ap (came rest) w ∙ came_not rest p h)
 
     pub wrote-done : (rest : ProgramSet) (after : List ℕ) → rest.bits ≡ 0 → WroteTo rest after
         → after ≡ places (λ i. cond (has_program s (suc i)) (g i) (get_or before i 0)) 32 0
@@ -113,7 +113,7 @@ module _ (s : ProgramSet) where
       where
         here : has_program (joined u p y) p ≡ t p
         here = by_test y (λ q. rw q (with_number-same 32 u.bits p (is_number_lem 32 p a b)) ∙ sym q ∙ e)
-            (λ q. rw q (f p ∙ ap (λ (c : Bool). c && t p) (came-not rest p h)) ∙ sym q ∙ e)
+            (λ q. rw q (f p ∙ ap (λ (c : Bool). c && t p) (came_not rest p h)) ∙ sym q ∙ e)
 
         there : (x : ℕ) → x ≢ p → has_program (joined u p y) x ≡ has_program u x
         there x z = by_test y (λ q. rw q (with_number-other 32 u.bits p x z)) (λ q. rw q)

@@ -38,7 +38,7 @@ use Rattle.theory.specs.Modes.{by_mode_lem}
 use Rattle.theory.specs.Programs.{Is, is_of, of_is, mem-everyone, Progs, Sized, prog, put, put_same, put_other, put_case, give, can}
 use Rattle.theory.specs.Programs.{can_give_is, everyone_is, SameSets, standing_same, item_same, same_then, same_turn, within_same, own_same}
 use Rattle.theory.specs.Programs.{opening_standing, opening_item, is_in, ins, mem-ins, ins_once, ins-same, ins_out, ins-give}
-use Rattle.theory.specs.Records.{Uses, uses-of, of-uses, ItemOwn, none_item, out_item, Records, records-quiet, records-release}
+use Rattle.theory.specs.Records.{Uses, uses-of, of-uses, ItemOwn, none_item, out_item, Records, records-quiet, records_release}
 use Rattle.theory.specs.Records.{records-fetched, records-waited}
 use Rattle.theory.specs.Loose.{stands, waits_in, held_at, absent_is, held_is, waiting_file, Asked, LooseIn, Loose, Stuck, Free}
 use Rattle.theory.specs.Loose.{count_in, Counted, Counts, Good, test_put, test_other, test_same}
@@ -91,7 +91,7 @@ pub record Stepped (b : Board) (k o x : ℕ) (s : Step) : Type 0 where
   pub many : length s.lines ≤ 32
   pub fav : ((p : ℕ) × Newly s p) ⊎ (((s.board.favoured ≡ 0) ⊎ FavourMore b s.board k) × NoFavour s.lines)
   pub ended : b.favoured ≢ 0 → FavourMore b s.board k ⊎ (EndedIn b s ⊎ Withdrew b x s)
-  pub file-stays : b.favoured ≢ 0 → s.board.favoured ≡ b.favoured → at s.board b.favoured ≡ at b b.favoured
+  pub file_stays : b.favoured ≢ 0 → s.board.favoured ≡ b.favoured → at s.board b.favoured ≡ at b b.favoured
   -- the count of who waits now goes up by the ADMIT lines
   pub count : (y : ℕ) → Is y → waits_in s.board.programs y ≡ true
       → count_in s.board.passed y ≡ count_in b.passed y + admits s.lines
@@ -111,7 +111,7 @@ plain b c ls g m n x y z a t u = record {
   many = m;
   fav = inr (inr f, n);
   ended = λ _. inl f;
-  file-stays = λ d _. a d;
+  file_stays = λ d _. a d;
   count = t;
   sum = omega (arith, u);
 }
@@ -235,8 +235,8 @@ pub record FetchMay (b : Board) (p f r : ℕ) : Type 0 where
   pub is : Is p
   pub runs : stands b.programs p ≡ Standing.Running
   pub no_item : (prog b.programs p).item ≡ 0
-  pub some-record : r ≢ 0
-  pub open-so : member (prog b.programs p).inquiring f ≡ true
+  pub some_record : r ≢ 0
+  pub open_so : member (prog b.programs p).inquiring f ≡ true
 
 pub fetch_may : (b : Board) (p f r : ℕ) → fetch_check b p f r ≡ Check.Passed → FetchMay b p f r
 unfolding fetch_check
@@ -251,8 +251,8 @@ fetch_may b p f r e =
       is = is_of p (and_left (is_program p) (is_file f) (not_of (is_program p && is_file f) a));
       runs = s;
       no_item = eqb-true (at b p).item 0 (not_of (eqb (at b p).item 0) z);
-      some-record = λ d. omega arith;
-      open-so = not_of (member (at b p).inquiring f) o;
+      some_record = λ d. omega arith;
+      open_so = not_of (member (at b p).inquiring f) o;
     }
 
 pub return_may : (b : Board) (p : ℕ) → return_check b p ≡ Check.Passed → RunsMay b p
@@ -351,7 +351,7 @@ done_stepped b c t p f k o r l v su i w h x a = record {
         runs = ap (stands t.board.programs) (sym x.who) ∙ q.runs;
       })))
       (r.ended (λ d. n (sym x.who ∙ d)));
-  file-stays = λ n d. let (j, u) = r.good.loose.fav-waits (λ e. n (sym d ∙ e)) in
+  file_stays = λ n d. let (j, u) = r.good.loose.fav-waits (λ e. n (sym d ∙ e)) in
       r.waited b.favoured (subst Is d j) (ap (waits_in t.board.programs) (sym d) ∙ u) ∙ a n;
   count = λ y i j. let z = r.count y i j in let q = v y i (ap (λ (u : Program). is_waiting u.standing) (sym (r.waited y i j)) ∙ j) in
       omega arith;
@@ -448,7 +448,7 @@ pub record Holding (b c : Board) (p : ℕ) : Type 0 where
   pub h-who : c.favoured ≡ b.favoured
   pub h-number : c.initial ≡ b.initial
   pub h-left : c.leaves ≡ b.leaves
-  pub h-waiting : c.waiting ≡ b.waiting
+  pub h_waiting : c.waiting ≡ b.waiting
   pub h-passed : (y : ℕ) → count_in c.passed y ≡ count_in b.passed y
   pub h-file : b.favoured ≢ 0 → at c b.favoured ≡ at b b.favoured
 
@@ -466,7 +466,7 @@ hold_holding b p v q j g m = record {
   h-who = refl;
   h-number = refl;
   h-left = refl;
-  h-waiting = refl;
+  h_waiting = refl;
   h-passed = λ y. refl;
   h-file = file_put b p x k m.is (ap is_waiting m.absent);
 }
@@ -505,7 +505,7 @@ favour_stepped b c p s e h r len w = record {
   many = omega arith;
   fav = inl (w.0, newly_more (line Word.Held p 0 ∷ []) s w.0 (one (line Word.Held p 0) held_not_favour) w.1);
   ended = λ n. absurd (n e);
-  file-stays = λ n. absurd (n e);
+  file_stays = λ n. absurd (n e);
   count = λ y i j. let x = r.count y i j in
       let z = h.h-same y i (ap (λ (q : Program). is_waiting q.standing) (sym (r.waited y i j)) ∙ j) in omega arith;
   sum = let x = r.sum in let z = h.h-ins in omega arith;
@@ -526,7 +526,7 @@ hold_for_stepped b p v q j w g m e u = stepped_reply b (favour c w).board 0 Answ
 
     r : Chosen c (favour c w)
     r = let (f, d) = first_some (λ y. eqb (passed_by b y) 8) (names b.waiting) w u in
-        chosen_some c w h.h-loose h.h-stuck h.h-counts (h.h-who ∙ e) (subst (λ l. w ∈ names l) (sym h.h-waiting) f)
+        chosen_some c w h.h-loose h.h-stuck h.h-counts (h.h-who ∙ e) (subst (λ l. w ∈ names l) (sym h.h_waiting) f)
         (inr (h.h-passed w ∙ eqb-true (passed_by b w) 8 d))
 
 enter_stepped : (b : Board) (p : ℕ) (v q j : FileSet) → Good b → EnterMay b p v q j → Stepped b 0 0 0 (step_of (enter b p v q j))
@@ -649,11 +649,11 @@ fetch_waits : (b : Board) (p f r : ℕ) → Good b → FetchMay b p f r → take
 unfolding wait_item
 fetch_waits b p f r g m u = wait-plain b p x (line_of Word.Wait p f r) g m.is m.runs refl
     (same_then _ _ _ (standing_same (at b p) (Standing.Waiting f)) (item_same (set_standing (at b p) (Standing.Waiting f)) f r))
-    (λ h e. absurd (m.some-record e.1)) (λ h e. absurd (m.some-record e.1))
+    (λ h e. absurd (m.some_record e.1)) (λ h e. absurd (m.some_record e.1))
     (let (j, i, n, v) = taken_by b p f r u in records-waited b.programs (put b.programs p x) p m.is
     (λ i j m. put_other b.programs p i x c j m) (subst ItemOwn (sym s) (record {
-      no_item = λ d. absurd (m.some-record d);
-      in-i = λ _. m.open-so;
+      no_item = λ d. absurd (m.some_record d);
+      in_i = λ _. m.open_so;
       stands-so = λ _. inr refl;
     })) f r m.no_item (ap (λ (q : Program). q.file) s) (ap (λ (q : Program). q.item) s) (ap (λ (q : Program). is_waiting q.standing) s)
     j i n v g.counts.records)
@@ -702,8 +702,8 @@ fetch-gets b p f r g m u = plain b (set_program b p x) _ (record {
     counted = item-counted b p f r g c m.runs;
     records = records-fetched b.programs (put b.programs p x) p c (λ i j m. put_other b.programs p i x c j m)
         (subst ItemOwn (sym s) (record {
-          no_item = λ d. absurd (m.some-record d);
-          in-i = λ _. m.open-so;
+          no_item = λ d. absurd (m.some_record d);
+          in_i = λ _. m.open_so;
           stands-so = λ _. inl m.runs;
         })) f r m.no_item (ap (λ (q : Program). q.file) s) (ap (λ (q : Program). q.item) s)
         (ap (λ (q : Program). q.standing) s ∙ m.runs) (λ i j n v. never (by_taken b p f r i j n v) u) g.counts.records;
@@ -761,8 +761,8 @@ module _ (b : Board) (p : ℕ) (x : Program) (g : Good b) (m : CloseMay b p) (r 
         (e ∙ (g.counts.records.own p m.is).no_item m.no_item);
   }
 
-  still-in : 0 + length (ins (put b.programs p x)) ≡ length (ins b.programs)
-  still-in = let y = ap length (ins-same b.programs p x g.loose.base.size m.is (ap is_admitted r ∙ sym (ap is_admitted
+  still_in : 0 + length (ins (put b.programs p x)) ≡ length (ins b.programs)
+  still_in = let y = ap length (ins-same b.programs p x g.loose.base.size m.is (ap is_admitted r ∙ sym (ap is_admitted
       m.runs))) in
       omega arith
 
@@ -770,7 +770,7 @@ close_stepped : (b : Board) (p f : ℕ) → Good b → CloseMay b p → Stepped 
 unfolding close_file done finish closing
 close_stepped b p f g m = stepped_reply b (settle c).board 0 Answer.Done (line Word.Done p f ∷ (settle c).lines)
     (done_stepped b c (settle c) p f 0 0 (settle_settled c l (still-counts b p x g m m.runs refl refl)) l
-    (λ y i w. refl) (still-in b p x g m m.runs refl refl) m.is
+    (λ y i w. refl) (still_in b p x g m m.runs refl refl) m.is
     (test_same is_waiting b.programs p x g.loose.base.size m.is ∙ ap is_waiting m.runs)
     (test_same is_held b.programs p x g.loose.base.size m.is ∙ ap is_held m.runs)
     (record { who = refl; number = refl; left = λ _. omega arith }) (file_put b p x g.loose m.is (ap is_waiting m.runs)))
@@ -788,7 +788,7 @@ drop_stepped : (b : Board) (p f : ℕ) → Good b → OpenMay b p f → Stepped 
 unfolding drop_file done finish dropping
 drop_stepped b p f g m = stepped_reply b (settle c).board 0 Answer.Done (line Word.Done p f ∷ (settle c).lines)
     (done_stepped b c (settle c) p f 0 0 (settle_settled c l (still-counts b p x g r m.runs refl refl)) l
-    (λ y i w. refl) (still-in b p x g r m.runs refl refl) m.is
+    (λ y i w. refl) (still_in b p x g r m.runs refl refl) m.is
     (test_same is_waiting b.programs p x g.loose.base.size m.is ∙ ap is_waiting m.runs)
     (test_same is_held b.programs p x g.loose.base.size m.is ∙ ap is_held m.runs)
     (record { who = refl; number = refl; left = λ _. omega arith }) (file_put b p x g.loose m.is (ap is_waiting m.runs)))
@@ -823,7 +823,7 @@ gone_one b p g c a = let x = ap length (ins_out b.programs p no_program g.loose.
 -- The board of a leave, before settling.
 pub record Left (b c : Board) (p : ℕ) : Type 0 where
   pub l-loose : Loose c
-  pub l-programs : c.programs ≡ put b.programs p no_program
+  pub l_programs : c.programs ≡ put b.programs p no_program
   pub l-favour : FavourMore b c 1
   pub l-counted : Counted c.passed c.programs
   pub l-records : Records c.programs (at b p).file (at b p).item
@@ -836,7 +836,7 @@ leave_left b p g m = by_test (eqb b.favoured 0)
     (record {
       l-loose = loose_leave b.programs b.waiting b.entry b.favoured b.initial b.leaves
           b.leaves p m.is m.runs (λ n. absurd (n e)) (λ _. refl) g.loose;
-      l-programs = refl;
+      l_programs = refl;
       l-favour =
           record { who = refl; number = refl; left = λ n. absurd (n e) };
       l-counted = counts;
@@ -848,7 +848,7 @@ leave_left b p g m = by_test (eqb b.favoured 0)
     (record {
       l-loose = loose_leave b.programs b.waiting b.entry b.favoured b.initial b.leaves
           (b.leaves + 1) p m.is m.runs (λ _. refl) (λ e. absurd (n e)) g.loose;
-      l-programs = refl;
+      l_programs = refl;
       l-favour =
           record { who = refl; number = refl; left = λ _. omega arith };
       l-counted = counts;
@@ -863,7 +863,7 @@ leave_left b p g m = by_test (eqb b.favoured 0)
 
     records : Records (put b.programs p no_program) (at b p).file (at b p).item
     records = let s = put_same b.programs p no_program g.loose.base.size m.is in
-        records-release b.programs (put b.programs p no_program) p m.is (λ i j n. put_other b.programs p i no_program m.is j n)
+        records_release b.programs (put b.programs p no_program) p m.is (λ i j n. put_other b.programs p i no_program m.is j n)
         (subst ItemOwn (sym s) (none_item no_program refl refl)) (ap (λ (q : Program). q.item) s) m.runs g.counts.records
 
     fewer : 1 + length (ins (put b.programs p no_program)) ≡ length (ins b.programs)
@@ -874,9 +874,9 @@ unfolding leave finish
 leave_stepped b p g m = stepped_reply b t.board 1 Answer.Done (line Word.Done p 0 ∷ t.lines)
     (done_stepped b c t p 0 1 1 (hand_settled c (at b p).file (at b p).item l.l-loose l.l-counted l.l-records) l.l-loose
     l.l-same l.l-sum m.is
-    (ap (λ P. waits_in P p) l.l-programs ∙ test_same is_waiting b.programs p no_program g.loose.base.size m.is)
-    (ap (λ P. held_at P p) l.l-programs ∙ test_same is_held b.programs p no_program g.loose.base.size m.is)
-    l.l-favour (λ n. ap (λ P. prog P b.favoured) l.l-programs ∙ file_put b p no_program
+    (ap (λ P. waits_in P p) l.l_programs ∙ test_same is_waiting b.programs p no_program g.loose.base.size m.is)
+    (ap (λ P. held_at P p) l.l_programs ∙ test_same is_held b.programs p no_program g.loose.base.size m.is)
+    l.l-favour (λ n. ap (λ P. prog P b.favoured) l.l_programs ∙ file_put b p no_program
     g.loose m.is (ap is_waiting m.runs) n))
   where
     c : Board
@@ -903,7 +903,7 @@ return_step b p = let h = hand_on (returned b p) (at b p).file (at b p).item in 
 pub return_settled : (b : Board) (p : ℕ) → Good b → RunsMay b p → Settled (returned b p) (return_step b p)
 return_settled b p g m = hand_settled (returned b p) (at b p).file (at b p).item (item-loose b p 0 0 g m.is m.runs)
     (item-counted b p 0 0 g m.is m.runs) (let s = item-put b p 0 0 g m.is m.runs in
-    records-release b.programs (put b.programs p x) p m.is (λ i j n. put_other b.programs p i x m.is j n)
+    records_release b.programs (put b.programs p x) p m.is (λ i j n. put_other b.programs p i x m.is j n)
     (subst ItemOwn (sym s) (none_item x refl refl)) (ap (λ (q : Program). q.item) s) m.runs g.counts.records)
   where
     x : Program
@@ -946,16 +946,16 @@ own_stepped b c t p k o r l v su i s e n₀ = record {
         quiet_more (line Word.Done p 0 ∷ []) t.lines (one (line Word.Done p 0) done_not_favour) q.1,
       ))
       r.fav;
-  ended = λ n. inr (inr (record { own = e; over = ap (waits_in t.board.programs) e ∙ not-again }));
-  file-stays = λ n d. let (_, w) = r.good.loose.fav-waits (λ q. n (sym d ∙ q)) in
-      never w (ap (waits_in t.board.programs) (d ∙ e) ∙ not-again);
+  ended = λ n. inr (inr (record { own = e; over = ap (waits_in t.board.programs) e ∙ not_again }));
+  file_stays = λ n d. let (_, w) = r.good.loose.fav-waits (λ q. n (sym d ∙ q)) in
+      never w (ap (waits_in t.board.programs) (d ∙ e) ∙ not_again);
   count = λ y i j. let z = r.count y i j in let q = v y i (ap (λ (u : Program). is_waiting u.standing) (sym (r.waited y i j)) ∙ j) in
       omega arith;
   sum = let z = r.sum in omega arith;
 }
   where
-    not-again : waits_in t.board.programs p ≡ false
-    not-again = ap (λ (x : Program). is_waiting x.standing) (r.others p i (ap is_waiting s) (ap is_held s)) ∙ ap is_waiting s
+    not_again : waits_in t.board.programs p ≡ false
+    not_again = ap (λ (x : Program). is_waiting x.standing) (r.others p i (ap is_waiting s) (ap is_held s)) ∙ ap is_waiting s
 
 -- The three ways of counting.
 count_own : (b : Board) (p : ℕ) → b.favoured ≡ p → count_cancel b p ≡ set_favour b 0 0 0
@@ -974,7 +974,7 @@ count_other b p n e = rw (ne_eqb b.favoured p n, ne_eqb b.favoured 0 e)
 -- The board c of a cancel, before settling: p is gone. If p was favoured nobody is now; otherwise the favouring goes on with what is counted.
 pub record Withdrawn (b c : Board) (p : ℕ) : Type 0 where
   pub w-loose : Loose c
-  pub w-programs : c.programs ≡ put b.programs p no_program
+  pub w_programs : c.programs ≡ put b.programs p no_program
   pub w-favour : b.favoured ≢ p → FavourMore b c (cancel_count b p)
   pub w-own : b.favoured ≡ p → c.favoured ≡ 0
   pub w-counts : Counts c
@@ -1009,7 +1009,7 @@ waiting_withdrawn b p f g c s = by_test (eqb b.favoured p)
         → (b.favoured ≡ p → fav ≡ 0) → Withdrawn b (set_favour d fav n l) p
     gone fav n l x y v w = record {
       w-loose = loose_withdraw b.programs b.waiting b.entry b.favoured b.initial b.leaves fav n l p f c s x y g.loose;
-      w-programs = refl;
+      w_programs = refl;
       w-favour = v;
       w-own = w;
       w-counts = record {
@@ -1024,7 +1024,7 @@ waiting_withdrawn b p f g c s = by_test (eqb b.favoured p)
 held-withdrawn : (b : Board) (p : ℕ) → Good b → Is p → stands b.programs p ≡ Standing.Held → Withdrawn b (withdrawn b p Standing.Held) p
 held-withdrawn b p g c s = record {
   w-loose = loose_unhold b.programs b.waiting b.entry b.favoured b.initial b.leaves p c s g.loose;
-  w-programs = refl;
+  w_programs = refl;
   w-favour = λ n. record {
     who = refl;
     number = refl;
@@ -1059,7 +1059,7 @@ cancel_stepped b p g m = stepped_reply b (settle c).board (cancel_count b p) Ans
     l.w-sum m.is gone e (l.w-own e))
     (λ t. let n = eqb-false b.favoured p t in done_stepped b c (settle c) p 0 (cancel_count b p) (gone_count b p) r l.w-loose l.w-same
     l.w-sum m.is (ap is_waiting gone) (ap is_held gone) (l.w-favour n)
-    (λ z. ap (λ P. prog P b.favoured) l.w-programs ∙ put_other
+    (λ z. ap (λ P. prog P b.favoured) l.w_programs ∙ put_other
     b.programs p b.favoured no_program m.is (g.loose.fav-waits z).0 n)))
   where
     c : Board
@@ -1072,7 +1072,7 @@ cancel_stepped b p g m = stepped_reply b (settle c).board (cancel_count b p) Ans
     r = settle_settled c l.w-loose l.w-counts
 
     gone : stands c.programs p ≡ Standing.Absent
-    gone = ap (λ P. stands P p) l.w-programs ∙ ap (λ (q : Program). q.standing) (put_same b.programs p no_program
+    gone = ap (λ P. stands P p) l.w_programs ∙ ap (λ (q : Program). q.standing) (put_same b.programs p no_program
         g.loose.base.size m.is)
 
 -- ── Any call ──

@@ -75,7 +75,7 @@ cancelled-goes b p z s a = ap (λ (x : Board). at x p) (cancel-board b p s e)
     l = cancel-withdrawn b p k (cancel_may b p e)
 
     is-gone : at c p ≡ no_program
-    is-gone = ap (λ P. prog P p) l.w-programs ∙ put_same b.programs p no_program z d
+    is-gone = ap (λ P. prog P p) l.w_programs ∙ put_same b.programs p no_program z d
 
     gone : (at c p).standing ≡ Standing.Absent
     gone = ap (λ (x : Program). x.standing) is-gone
@@ -109,26 +109,26 @@ module _ (P : Progs) (p y g : ℕ) (b : Base P) (c : Is p) (s : stands P p ≡ S
   same_in : ins (give less y g) ≡ ins (give P y g)
   same_in = ins-give less y g size i ∙ ins-same P p no_program b.size c (sym (ap is_admitted s)) ∙ sym (ins-give P y g b.size i)
 
-  in-other : (j : ℕ) → j ∈ ins (give P y g) → Is j × (j ≢ p)
-  in-other j m = let (d, t) = ins-mem P j (subst (λ l. j ∈ l) (ins-give P y g b.size i) m) in
+  in_other : (j : ℕ) → j ∈ ins (give P y g) → Is j × (j ≢ p)
+  in_other j m = let (d, t) = ins-mem P j (subst (λ l. j ∈ l) (ins-give P y g b.size i) m) in
       (d, λ e. never {t = false} (sym (ap is_admitted s) ∙ ap (λ k. is_admitted (stands P k)) (sym e) ∙ t) refl)
 
-  unused-too : used less y g ≡ false → used P y g ≡ false
-  unused-too u = no_true _ (λ t. let (j, d, m, k) = used_by_lem P y g t in by_test (eqb j p)
+  unused_too : used less y g ≡ false → used P y g ≡ false
+  unused_too u = no_true _ (λ t. let (j, d, m, k) = used_by_lem P y g t in by_test (eqb j p)
       (λ e. never k (ap (λ h. conflict (prog P h) (opening (prog P y) g)) (eqb-true j p e)
       ∙ idle_conflict (prog P p) (opening (prog P y) g) ((b.own p c).idle (ap is_admitted s))))
       (λ e. never (by_used less y g j d m (ap₂ (λ (x z : Program). conflict x (opening z g)) (same j d (eqb-false j p e)) (same y i n) ∙ k)) u))
 
-  can-too : can less y g ≡ true → can P y g ≡ true
-  can-too t = let (o, k) = can-order less y g t in
-      can_of P y g (unused-too (can-unused less y g t)) o
+  can_too : can less y g ≡ true → can P y g ≡ true
+  can_too t = let (o, k) = can-order less y g t in
+      can_of P y g (unused_too (can-unused less y g t)) o
       (order_below (holds (give less y g)) (holds (give P y g)) (ins (give P y g)) o
-      (λ a e m l _ u. ap₂ holds_back (same-given a (in-other a m).0 (in-other a m).1) (same-given e (in-other e l).0 (in-other e l).1) ∙ u)
+      (λ a e m l _ u. ap₂ holds_back (same-given a (in_other a m).0 (in_other a m).1) (same-given e (in_other e l).0 (in_other e l).1) ∙ u)
       (subst (λ l. IsOrder (holds (give less y g)) l o) same_in k))
 
 stuck_unhold : (P : Progs) (p : ℕ) → Base P → Is p → stands P p ≡ Standing.Held → Stuck P → Stuck (put P p no_program)
 stuck_unhold P p b c s k y i g = put_case (λ q. Awaits q g → can (put P p no_program) y g ≡ false) P p no_program b.size c y i
-    (λ _ u. never {t = false} (ap is_waiting u.0) refl) (λ n u. no_true _ (λ t. never (can-too P p y g b c s i n t) (k y i g u)))
+    (λ _ u. never {t = false} (ap is_waiting u.0) refl) (λ n u. no_true _ (λ t. never (can_too P p y g b c s i n t) (k y i g u)))
 
 -- ── Settling does nothing ──
 

@@ -109,12 +109,12 @@ pub record FavouredBy (xs : List Call) (p : ℕ) : Type 0 where
   pub item : ℕ
   pub favours : Favours before call p file item
   pub latest : (us vs : List Call) (d : Call) (f r : ℕ) → after ≡ us ++ (d ∷ vs) → Favours (before ++ (call ∷ us)) d p f r → ⊥
-  pub adds-up : leaves_in p (before ++ (call ∷ [])) after + admitted_after xs ≡ admitted_after (before ++ (call ∷ []))
+  pub adds_up : leaves_in p (before ++ (call ∷ [])) after + admitted_after xs ≡ admitted_after (before ++ (call ∷ []))
   -- "the board's two numbers are the number admitted after that call and the count of these leaves"
   pub number : (worked xs).initial ≡ admitted_after (before ++ (call ∷ []))
   pub count : (worked xs).leaves ≡ leaves_in p (before ++ (call ∷ [])) after
   -- while it is favoured, those leaves have not yet come to that number less one
-  pub to-come : leaves_in p (before ++ (call ∷ [])) after + 2 ≤ admitted_after (before ++ (call ∷ []))
+  pub to_come : leaves_in p (before ++ (call ∷ [])) after + 2 ≤ admitted_after (before ++ (call ∷ []))
 
 -- A call of ys, which come after the calls xs, gives p the file f, or the record r of f where r isn't 0, by a GIVEN line after the call's first,
 -- and "that wait is then over": p was favoured until then, and "is favoured no longer".
@@ -123,7 +123,7 @@ pub record GetsIt (xs ys : List Call) (p f r : ℕ) : Type 0 where
   pub call : Call
   pub after : List Call
   pub split : ys ≡ before ++ (call ∷ after)
-  pub that-wait : FavouredThrough xs before p
+  pub that_wait : FavouredThrough xs before p
   pub given : line_of Word.Given p f r ∈ settling_lines (reply_after (xs ++ before) call)
   pub wait-over : is_waiting (at (worked (xs ++ (before ++ (call ∷ [])))) p).standing ≡ false
   pub no_longer : (worked (xs ++ (before ++ (call ∷ [])))).favoured ≢ p
@@ -134,7 +134,7 @@ pub record CancelledIn (xs ys : List Call) (p : ℕ) : Type 0 where
   pub before : List Call
   pub after : List Call
   pub split : ys ≡ before ++ (Cancel p ∷ after)
-  pub that-wait : FavouredThrough xs before p
+  pub that_wait : FavouredThrough xs before p
   pub accepted : Accepted (xs ++ before) (Cancel p)
   pub wait-over : is_waiting (at (worked (xs ++ (before ++ (Cancel p ∷ [])))) p).standing ≡ false
 

@@ -118,7 +118,7 @@ own_cancel xs es c p z v d w = let (e, k) = cancelled_is (worked xs) c p z d in 
   before = [];
   after = es;
   split = ap (◌∷ es) e;
-  that-wait = λ us vs k. through-none xs us vs p v k;
+  that_wait = λ us vs k. through-none xs us vs p v k;
   accepted = subst (λ l. Accepted l (Cancel p)) (sym (append-nil xs)) (ap (λ (r : Reply). refused r.answer)
       (apply-accepted (worked xs) (Cancel p) (subst (λ h. checked (worked xs) h ≡ Check.Passed) e k)) ∙ cancel_answer (worked xs) p);
   wait-over = ap (λ h. is_waiting (at (worked (xs ++ (h ∷ []))) p).standing) (sym e)
@@ -261,10 +261,10 @@ favoured_now xs c p z e w = record {
   item = (at (reply_after xs c).board p).item;
   favours = w.line-there;
   latest = λ us vs d f r k _. let j = ap length k in let i = lib.ListN.length-append us (d ∷ vs) in omega arith;
-  adds-up = omega arith;
+  adds_up = omega arith;
   number = number;
   count = count;
-  to-come = coming (xs ++ (c ∷ [])) p _ _ z e number count;
+  to_come = coming (xs ++ (c ∷ [])) p _ _ z e number count;
 }
   where
     count : (worked (xs ++ (c ∷ []))).leaves ≡ 0
@@ -292,10 +292,10 @@ favoured_still xs c p z e m quiet r = record {
       (subst (λ h. Favours (r.before ++ (r.call ∷ us)) h p f n) q.1 w))))
       (λ q. r.latest us q.0 d f n q.1 w)
       (snoc_split r.after us vs c d k);
-  adds-up = sum_of (xs ++ (c ∷ [])) p _ _ z e number count;
+  adds_up = sum_of (xs ++ (c ∷ [])) p _ _ z e number count;
   number = number;
   count = count;
-  to-come = coming (xs ++ (c ∷ [])) p _ _ z e number count;
+  to_come = coming (xs ++ (c ∷ [])) p _ _ z e number count;
 }
   where
     start : List Call
@@ -354,7 +354,7 @@ gets_it xs (c ∷ es) p f n z e a a' k = ⊎_elim
     let s = worked_snoc xs c in
     let now : (reply_after xs c).board.favoured ≡ (worked xs).favoured = m.who in
     let same : at (reply_after xs c).board p ≡ at (worked xs) p = ap (at (reply_after xs c).board) (sym e)
-    ∙ (step xs c).file-stays fav now ∙ ap (at (worked xs)) e in
+    ∙ (step xs c).file_stays fav now ∙ ap (at (worked xs)) e in
     let i = ap (λ (b : Board). b.initial) s ∙ m.number in
     let l = ap (λ (b : Board). b.leaves) s ∙ m.left fav in
     let q = leaves-same xs c ∙ ap (λ n. accepted_leave n xs c) e in
@@ -366,7 +366,7 @@ gets_it xs (c ∷ es) p f n z e a a' k = ⊎_elim
       call = r.call;
       after = r.after;
       split = ap (c ∷◌) r.split;
-      that-wait = λ us vs k. through-one xs us vs r.before c p e r.that-wait k;
+      that_wait = λ us vs k. through-one xs us vs r.before c p e r.that_wait k;
       no_longer = subst (λ h. (worked h).favoured ≢ p) (append_assoc xs (c ∷ []) (r.before ++ (r.call ∷ []))) r.no_longer;
       given = subst (λ h. line_of Word.Given p f n ∈ settling_lines (reply_after h r.call)) (append_assoc xs (c ∷ []) r.before) r.given;
       wait-over = subst (λ h. is_waiting (at (worked h) p).standing ≡ false) (append_assoc xs (c ∷ [])
@@ -376,7 +376,7 @@ gets_it xs (c ∷ es) p f n z e a a' k = ⊎_elim
       before = c ∷ r.before;
       after = r.after;
       split = ap (c ∷◌) r.split;
-      that-wait = λ us vs k. through-one xs us vs r.before c p e r.that-wait k;
+      that_wait = λ us vs k. through-one xs us vs r.before c p e r.that_wait k;
       accepted = subst (λ h. Accepted h (Cancel p)) (append_assoc xs (c ∷ []) r.before) r.accepted;
       wait-over = subst (λ h. is_waiting (at (worked h) p).standing ≡ false) (append_assoc xs (c ∷ [])
           (r.before ++ (Cancel p ∷ []))) r.wait-over;
@@ -386,7 +386,7 @@ gets_it xs (c ∷ es) p f n z e a a' k = ⊎_elim
       call = c;
       after = es;
       split = refl;
-      that-wait = λ us vs k. through-none xs us vs p e k;
+      that_wait = λ us vs k. through-none xs us vs p e k;
       no_longer = not_favoured (xs ++ (c ∷ [])) p z (ap (λ b. is_waiting (at b p).standing) (worked_snoc xs c)
           ∙ ap is_waiting (ap (stands (reply_after xs c).board.programs) (sym e) ∙ m.runs));
       given = subst (λ h. line_of Word.Given p f n ∈ settling_lines (reply_after h c)) (sym (append-nil xs))

@@ -24,9 +24,9 @@ use Rattle.laws.specs.Laws.{◌∈◌, Pairs, by_mem, any_some, listed-mem, mem-
 use Rattle.theory.specs.Programs.{Is, is_of, of_is, everyone_is, Own, opening_own, conflict-holds, conflict_sym, idle_conflict}
 use Rattle.theory.specs.Carried.{holds_on, order_of_lem}
 use Rattle.theory.specs.Loose.{waiting_in, waiting_file}
-use Rattle.theory.specs.Reach.{mem-admitted, admitted-mem, given-same, given-other, given-admitted, given-grown}
-use Rattle.theory.specs.Loops.{LeadsTo, Closes, IsLoop, is_loop_iff, loop_test, loop_on, loop_no-order, unordered_loop}
-use Rattle.theory.specs.Matrix.{step-iff, in_mem, mem_in, admitted_once, carried_in}
+use Rattle.theory.specs.Reach.{mem-admitted, admitted-mem, given-same, given-other, given-admitted, given_grown}
+use Rattle.theory.specs.Loops.{LeadsTo, Closes, IsLoop, is_loop_iff, loop_test, loop_on, loop_no_order, unordered_loop}
+use Rattle.theory.specs.Matrix.{step_iff, in_mem, mem_in, admitted_once, carried_in}
 use Rattle.theory.specs.Calls.{open_may}
 use Rattle.theory.specs.Sound.{Sound, sound_iff, own_of}
 
@@ -38,9 +38,9 @@ LoopOn b L = IsLoop (holds_on b) (admitted b) L
 
 pub loop_iff : (b : Board) (L : List ℕ) → (is_loop_of (step b) L ≡ true) ↔ LoopOn b L
 loop_iff b L = (
-  λ e. loop_on (step b) (holds_on b) (admitted b) L (λ x y m k n u. ((step-iff b x y).0 u).3)
-      ((is_loop_iff (step b) (admitted b) L (λ x y u. ((step-iff b x y).0 u).1)).0 e),
-  λ c. loop_test (step b) (admitted b) L (loop_on (holds_on b) (step b) (admitted b) L (λ x y m k n u. (step-iff b x y).1 (n, m, k, u)) c),
+  λ e. loop_on (step b) (holds_on b) (admitted b) L (λ x y m k n u. ((step_iff b x y).0 u).3)
+      ((is_loop_iff (step b) (admitted b) L (λ x y u. ((step_iff b x y).0 u).1)).0 e),
+  λ c. loop_test (step b) (admitted b) L (loop_on (holds_on b) (step b) (admitted b) L (λ x y m k n u. (step_iff b x y).1 (n, m, k, u)) c),
 )
 
 -- "A checker accepts all such lists and no others", for any board, any numbers p and f, any list of numbers: the list is a loop "with the
@@ -70,7 +70,7 @@ checker_iff b p f L = (
 pub loop_exists : (b : Board) → ((L : List ℕ) × (is_loop_of (step b) L ≡ true)) ↔ (found (carried b) ≡ false)
 loop_exists b = (
   λ (L, e). no_true (found (carried b)) (λ t. let (o, c) = order_of_lem b t in
-      loop_no-order (holds_on b) (admitted b) L o ((loop_iff b L).0 e) c),
+      loop_no_order (holds_on b) (admitted b) L o ((loop_iff b L).0 e) c),
   λ t. let (L, c) = unordered_loop (holds_on b) (admitted b) (admitted_once b) (sym (carried_in b) ∙ none_of t) in (L, (loop_iff b L).1 c),
 )
   where
@@ -90,15 +90,15 @@ given_loop b p f i k = (
 abbrev pub LoopHasProgram : Type 0
 LoopHasProgram = (b : Board) (p f : ℕ) (L : List ℕ) → found (carried b) ≡ true → is_loop_with b p f L ≡ true → p ∈ L
 
-pub loop_has-program : LoopHasProgram
-loop_has-program b p f L e t = by_test (listed p L) (listed-mem p L) (λ u. let (m, k, c) = (checker_iff b p f L).0 t in
+pub loop_has_program : LoopHasProgram
+loop_has_program b p f L e t = by_test (listed p L) (listed-mem p L) (λ u. let (m, k, c) = (checker_iff b p f L).0 t in
     let (i, a) = admitted-mem b p m in let d = of_is p i in
     let inside : (y : ℕ) → y ∈ L → y ∈ admitted b = λ y q. subst (λ l. y ∈ l) (given-admitted b p f d a) (c.within y q) in
     let before = loop_on (holds_on (with_given b p f)) (holds_on b) L L
-    (λ x y q r n w. sym ((given-grown b p f d a).same x y (inside x q) (inside y r) n (λ z. never (mem-listed p L (Memᴰ.cast (sym z) q)) u)) ∙ w)
+    (λ x y q r n w. sym ((given_grown b p f d a).same x y (inside x q) (inside y r) n (λ z. never (mem-listed p L (Memᴰ.cast (sym z) q)) u)) ∙ w)
     (record { two = c.two; different = c.different; within = λ y q. q; closed = c.closed }) in
     let (o, r) = order_of_lem b e in
-    absurd (loop_no-order (holds_on b) (admitted b) L o
+    absurd (loop_no_order (holds_on b) (admitted b) L o
     (record { two = before.two; different = before.different; within = inside; closed = before.closed }) r))
 
 -- ── Waiters ──
@@ -112,7 +112,7 @@ used_unsafe b p f i s c a k j n e = (loop_exists (with_given b p f)).0 (
   (loop_iff (with_given b p f) (p ∷ i ∷ [])).1 (record {
     two = omega arith;
     different = (λ y m d. by_mem m (λ u. n (sym (d ∙ u))) (λ q. Memᴰ.not-nil q), (λ y m d. Memᴰ.not-nil m, tt));
-    within = λ y m. by_mem m (λ d. inside y (Memᴰ.cast d (mem-admitted b p c a))) (λ q. by_mem q (λ d. inside y (Memᴰ.cast d in-i))
+    within = λ y m. by_mem m (λ d. inside y (Memᴰ.cast d (mem-admitted b p c a))) (λ q. by_mem q (λ d. inside y (Memᴰ.cast d in_i))
         (λ r. absurd (Memᴰ.not-nil r)));
     closed = (
       ap₂ holds_back (given-same b p f c a) (given-other b p f c a i j n)
@@ -130,8 +130,8 @@ used_unsafe b p f i s c a k j n e = (loop_exists (with_given b p f)).0 (
     own : Own (opening (at b p) f)
     own = opening_own (at b p) f k a (own_of b p s (is_of p c))
 
-    in-i : i ∈ admitted b
-    in-i = mem-admitted b i (of_is i j) (not_of _ (no_true (not (is_admitted (at b i).standing)) (λ t. never e
+    in_i : i ∈ admitted b
+    in_i = mem-admitted b i (of_is i j) (not_of _ (no_true (not (is_admitted (at b i).standing)) (λ t. never e
         (idle_conflict (at b i) (opening (at b p) f) ((own_of b i s j).idle (not_true _ t))))))
 
 -- Who waits for a file on a sound board can't be given it without closing a loop: the file is in conflicting use, or no order comes back.
@@ -170,7 +170,7 @@ pub record UnsafeOpen (b : Board) (c : Call) (r : Reply) : Type 0 where
   pub file : ℕ
   pub call : c ≡ Open program file
   pub told : get_or r.lines 0 blank ≡ line Word.Unsafe program file
-  pub is-in : is_in b program ≡ true
+  pub is_in_lem : is_in b program ≡ true
   pub claimed : claims (at b program) file ≡ true
   pub unsafe : safe b program file ≡ false
 
@@ -215,7 +215,7 @@ unsafe_open b (Open p f) e =
       file = f;
       call = refl;
       told = ap (λ (r : Reply). get_or r.lines 0 blank) d ∙ x;
-      is-in = and_both (is_program p) (is_admitted (at b p).standing) (of_is p m.is) (ap is_admitted m.runs);
+      is_in_lem = and_both (is_program p) (is_admitted (at b p).standing) (of_is p m.is) (ap is_admitted m.runs);
       claimed = m.asked.claimed;
       unsafe = n;
     }
@@ -232,6 +232,6 @@ CarriesSome = (b : Board) (c : Call) → (L : List ℕ) × (may_carry b c (direc
 
 pub carries_some : CarriesSome
 carries_some b c = by_test (is_unsafe (direct b c).answer)
-    (λ t. let o = unsafe_open b c t in let (L, e) = (given_loop b o.program o.file o.is-in o.claimed).1 o.unsafe in
+    (λ t. let o = unsafe_open b c t in let (L, e) = (given_loop b o.program o.file o.is_in_lem o.claimed).1 o.unsafe in
     (L, rw t (ap (λ (x : Call). loop_for b x L) o.call ∙ e)))
     (λ t. ([], rw t))

@@ -6,12 +6,12 @@ use Rattle.std.proofs.Math.Option.{none}
 use mathlib.Core.List.Memᴰ
 use Rattle.std.proofs.lemmas.Bool.{eqb-false}
 use Rattle.laws.specs.Tests.{by_test, by_option, never, and_left, and_right, and_both, not_true, not_of}
-use Rattle.laws.specs.Lists.{any, first, withFound, without, listed, distinct}
+use Rattle.laws.specs.Lists.{any, first, with_found, without, listed, distinct}
 use Rattle.rules.specs.Digraph.{leads_to, closes, is_loop_of}
 use Rattle.laws.specs.Laws.{◌∈◌, Pairs, NoRepeat, by_mem, here, no_some, any_some, first_some, first-none}
 use Rattle.laws.specs.Laws.{without-mem, Pairs-without, length_without, no_longer, listed-mem, mem-listed, distinct_once, once_distinct}
 use Rattle.theory.specs.Order.{IsOrder, held_in, search, order_in}
-use Rattle.theory.specs.Reach.{Reaches, direct, through, no-order_by_round}
+use Rattle.theory.specs.Reach.{Reaches, direct, through, no_order_by_round}
 
 -- x holds back the first of L, each of L the next, and the last of them z.
 unfoldable pub LeadsTo : (ℕ → ℕ → Bool) → ℕ → ℕ → List ℕ → Type 0
@@ -138,8 +138,8 @@ loop_round h l (x ∷ (y ∷ L)) c = (
       (λ a m. c.within a (Memᴰ.tail (Memᴰ.tail m))) (λ a m d. c.different.0 a m (sym d)) c.different.1 c.closed.1),
 )
 
-pub loop_no-order : (h : ℕ → ℕ → Bool) (l L o : List ℕ) → IsLoop h l L → IsOrder h l o → ⊥
-loop_no-order h l L o c r = let (p, m, q) = loop_round h l L c in no-order_by_round h l o p m q r
+pub loop_no_order : (h : ℕ → ℕ → Bool) (l L o : List ℕ) → IsLoop h l L → IsOrder h l o → ⊥
+loop_no_order h l L o c r = let (p, m, q) = loop_round h l L c in no_order_by_round h l o p m q r
 
 -- ── Going back from holder to holder until one comes again ──
 
@@ -157,7 +157,7 @@ up_to y (x ∷ c) = x ∷ cond (eqb x y) [] (up_to y c)
 unfoldable pub walk : (ℕ → ℕ → Bool) → List ℕ → ℕ → ℕ → List ℕ → List ℕ
 walk h s zero x c = []
 walk h s (suc n) x c =
-    withFound (first (λ y. not (eqb y x) && h y x) s) [] (λ y. cond (listed y c) (x ∷ up_to y c) (walk h s n y (x ∷ c)))
+    with_found (first (λ y. not (eqb y x) && h y x) s) [] (λ y. cond (listed y c) (x ∷ up_to y c) (walk h s n y (x ∷ c)))
 
 -- x holds back the first of c, and each the next
 unfoldable Chain : (ℕ → ℕ → Bool) → ℕ → List ℕ → Type 0
@@ -220,7 +220,7 @@ held_loop h l s n x t f m b =
 -- what is left where the search can take nobody
 unfoldable stuck : (ℕ → ℕ → Bool) → ℕ → List ℕ → List ℕ
 stuck h zero l = []
-stuck h (suc n) l = withFound (first (λ p. not (held_in h l p)) l) l (λ p. stuck h n (without p l))
+stuck h (suc n) l = with_found (first (λ p. not (held_in h l p)) l) l (λ p. stuck h n (without p l))
 
 -- Somebody is left, and everybody left is held back by another one left.
 record Stuck (h : ℕ → ℕ → Bool) (l s : List ℕ) : Type 0 where

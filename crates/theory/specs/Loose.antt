@@ -220,8 +220,8 @@ pub loose_close : (P : Progs) (w e : List ℕ) (fav n l p f : ℕ) → Is p → 
 unfolding closing
 loose_close P w e fav n l p f c r k = let x = prog P p in let o = k.base.own p c in
     loose_shrink P w e fav n l p (closing x f) c r r (record {
-      in-claim = λ m. subst (λ s. s ⊑ claim_of m x) (sym (closing_claim m x f)) (λ g z. z);
-      in-open = less x;
+      in_claim = λ m. subst (λ s. s ⊑ claim_of m x) (sym (closing_claim m x f)) (λ g z. z);
+      in_open = less x;
     })
     (record {
       inside = λ m. subst (λ s. open_of m (closing x f) ⊑ s) (sym (closing_claim m x f)) (λ g z. o.inside m g (less x m g z));
@@ -240,8 +240,8 @@ pub loose_drop : (P : Progs) (w e : List ℕ) (fav n l p f : ℕ) → Is p → s
 unfolding dropping
 loose_drop P w e fav n l p f c r h k = let x = prog P p in let o = k.base.own p c in
     loose_shrink P w e fav n l p (dropping x f) c r r (record {
-      in-claim = less x;
-      in-open = λ m. subst (λ s. s ⊑ open_of m x) (sym (dropping_open m x f)) (λ g z. z);
+      in_claim = less x;
+      in_open = λ m. subst (λ s. s ⊑ open_of m x) (sym (dropping_open m x f)) (λ g z. z);
     })
     (record {
       inside = λ m. subst (λ s. s ⊑ claim_of m (dropping x f)) (sym (dropping_open m x f))
@@ -259,8 +259,8 @@ loose_drop P w e fav n l p f c r h k = let x = prog P p in let o = k.base.own p 
 
 pub none_within : (x : Program) → Within no_program x
 none_within x = record {
-  in-claim = λ m. subst (λ s. s ⊑ claim_of m x) (sym (none_claim m)) (none_⊑ _);
-  in-open = λ m. subst (λ s. s ⊑ open_of m x) (sym (none_open m)) (none_⊑ _);
+  in_claim = λ m. subst (λ s. s ⊑ claim_of m x) (sym (none_claim m)) (none_⊑ _);
+  in_open = λ m. subst (λ s. s ⊑ open_of m x) (sym (none_open m)) (none_⊑ _);
 }
 
 pub none_own : Own no_program
@@ -388,7 +388,7 @@ module _ (P : Progs) (p f : ℕ) (z : Sized P) (c : Is p) where
   unfolding give
   served-stuck a y g i n = stuck-put (give P p f) p (set_standing (prog (give P p f) p) Standing.Running) given-size c
       (within_same _ _ (standing_same _ Standing.Running)) (sym (ap is_admitted given-stands
-      ∙ a)) y g i (λ _. (standing_same (prog (give P p f) p) Standing.Running).same-claim)
+      ∙ a)) y g i (λ _. (standing_same (prog (give P p f) p) Standing.Running).same_claim)
       (stuck-put P p (opening (prog P p) f) z c (opening_more (prog P p) f)
       (ap is_admitted (opening_standing (prog P p) f)) y g i (λ _. opening-claims (prog P p) f) n)
 
@@ -433,7 +433,7 @@ woken_handed P p c a b = record {
   w-runs = ap (λ (q : Program). q.standing) (put_same P p x b.size c);
   w-other = λ i j n. put_other P p i x c j n;
   w-ins = ins-same P p x b.size c (sym a);
-  w-stuck = λ y g i. stuck-put P p x b.size c (within_same _ _ d) (sym a) y g i (λ _. d.same-claim);
+  w-stuck = λ y g i. stuck-put P p x b.size c (within_same _ _ d) (sym a) y g i (λ _. d.same_claim);
 }
   where
     x : Program
@@ -538,14 +538,14 @@ stuck-same P p x z c r a d n s y i g = put_case (λ q. Awaits q g → can (put P
     (λ e u. same (ap (λ h. can P h g) e ∙ n g u)) (λ _ u. same (s y i g u))
   where
     same : can P y g ≡ false → can (put P p x) y g ≡ false
-    same = stuck-put P p x z c (within_same _ _ d) (a ∙ sym (ap is_admitted r)) y g i (λ _. d.same-claim)
+    same = stuck-put P p x z c (within_same _ _ d) (a ∙ sym (ap is_admitted r)) y g i (λ _. d.same_claim)
 
 -- ── Enter ──
 
 absent_within : (x y : Program) → Own x → x.standing ≡ Standing.Absent → Within x y
 absent_within x y o e = record {
-  in-claim = λ m. subst (λ s. s ⊑ claim_of m y) (sym (o.gone e m)) (none_⊑ _);
-  in-open = λ m. subst (λ s. s ⊑ open_of m y) (sym (o.idle (ap is_admitted e) m)) (none_⊑ _);
+  in_claim = λ m. subst (λ s. s ⊑ claim_of m y) (sym (o.gone e m)) (none_⊑ _);
+  in_open = λ m. subst (λ s. s ⊑ open_of m y) (sym (o.idle (ap is_admitted e) m)) (none_⊑ _);
 }
 
 -- A program with nothing open runs that was not admitted: one that enters, or one that was held.

@@ -6,7 +6,7 @@ use Rattle.std.proofs.Math.Option.{Option, none, some}
 use mathlib.Core.List.Memᴰ
 use Rattle.std.proofs.lemmas.Bool.{eqb-false}
 use Rattle.laws.specs.Tests.{by_test, by_option, never, and_right, and_both, no_true, not_true, true_not}
-use Rattle.laws.specs.Lists.{any, first, withFound, without}
+use Rattle.laws.specs.Lists.{any, first, with_found, without}
 use Rattle.laws.specs.Laws.{◌∈◌, Pairs, NoRepeat, by_mem, here, no_some, some_same, any_some, some-any, first_some}
 use Rattle.laws.specs.Laws.{first-none, without-mem, mem-without, Pairs-without, length_without, Pairs_map₂, Pairs-append}
 use Rattle.laws.specs.Laws.{Pairs_split}
@@ -35,7 +35,7 @@ held_in h l p = any (λ i. not (eqb i p) && h i p) l
 -- The carried order of the n members of l: the first that no other one holds back, then the same for the rest.
 unfoldable pub search : (ℕ → ℕ → Bool) → ℕ → List ℕ → Option (List ℕ)
 search h zero l = some []
-search h (suc n) l = withFound (first (λ p. not (held_in h l p)) l) none (λ p. withFound (search h n (without p l)) none (λ o. some (p ∷ o)))
+search h (suc n) l = with_found (first (λ p. not (held_in h l p)) l) none (λ p. with_found (search h n (without p l)) none (λ o. some (p ∷ o)))
 
 -- ── Free ──
 

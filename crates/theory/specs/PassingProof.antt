@@ -23,7 +23,7 @@ use Rattle.theory.specs.Programs.{Is, admitted_is, mem-ins, ins_once}
 use Rattle.theory.specs.Loose.{stands, waiting_in}
 use Rattle.theory.specs.Settling.{waiter_line, Newly}
 use Rattle.theory.specs.Calls.{gone_count, count_if, gone_by, apply-accepted, RunsMay, open_may, fetch_may}
-use Rattle.theory.specs.Waits.{Begins, waits-from}
+use Rattle.theory.specs.Waits.{Begins, waits_from}
 use Rattle.theory.specs.Worked.{worked_good, worked_snoc, passed_of, waiter_bound}
 use Rattle.theory.specs.Demand3.{reply_after, Waits, AsksFor, admitted_after, accepted_leave, leaves_in}
 use Rattle.theory.specs.Demand3Proof.{step, by_end, snoc_split, leaves_in_snoc}
@@ -209,7 +209,7 @@ waiter_began xs = by_end (λ l. (p : ℕ) → Is p → is_waiting (at (worked l)
     next l c ih p i w = let s = worked_snoc l c in
         ⊎_elim (λ v. let e = ap (λ b. at b p) s ∙ v in
         began_still l c p w e (ih p i (ap (λ (q : Program). is_waiting q.standing) (sym e) ∙ w))) (began_now l c p)
-        (waits-from (worked l) (worked_good l) c p i (ap (λ b. is_waiting (at b p).standing) (sym s) ∙ w))
+        (waits_from (worked l) (worked_good l) c p i (ap (λ b. is_waiting (at b p).standing) (sym s) ∙ w))
 
 waiting_since : (xs : List Call) (p : ℕ) → Is p → is_waiting (at (worked xs) p).standing ≡ true → WaitingSince xs p
 waiting_since xs p i w =

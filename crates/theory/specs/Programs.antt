@@ -45,17 +45,17 @@ everyone_is p m = let r = rising-mem 32 1 p m in record { least = r.0; most = le
 -- ── More files, more claims ──
 
 pub record Within (x y : Program) : Type 0 where
-  pub in-claim : (m : Mode) → claim_of m x ⊑ claim_of m y
-  pub in-open : (m : Mode) → open_of m x ⊑ open_of m y
+  pub in_claim : (m : Mode) → claim_of m x ⊑ claim_of m y
+  pub in_open : (m : Mode) → open_of m x ⊑ open_of m y
 
 pub within_refl : (x : Program) → Within x x
-within_refl x = record { in-claim = λ m f e. e; in-open = λ m f e. e }
+within_refl x = record { in_claim = λ m f e. e; in_open = λ m f e. e }
 
 pub holds_back_mono : (i j i' j' : Program) → Within i i' → Within j j' → holds_back i j ≡ true → holds_back i' j' ≡ true
-holds_back_mono i j i' j' c d = touching_mono _ _ _ _ c.in-open d.in-claim
+holds_back_mono i j i' j' c d = touching_mono _ _ _ _ c.in_open d.in_claim
 
 pub conflict_mono : (i j i' j' : Program) → Within i i' → Within j j' → conflict i j ≡ true → conflict i' j' ≡ true
-conflict_mono i j i' j' c d = touching_mono _ _ _ _ c.in-open d.in-open
+conflict_mono i j i' j' c d = touching_mono _ _ _ _ c.in_open d.in_open
 
 pub conflict_sym : (i j : Program) → conflict i j ≡ true → conflict j i ≡ true
 conflict_sym i j = touching_sym _ _
@@ -212,36 +212,36 @@ pub record Own (x : Program) : Type 0 where
 
 -- Two programs with the same claims and the same open files.
 pub record SameSets (x y : Program) : Type 0 where
-  pub same-claim : SameClaims x y
-  pub same-open : (m : Mode) → open_of m x ≡ open_of m y
+  pub same_claim : SameClaims x y
+  pub same_open : (m : Mode) → open_of m x ≡ open_of m y
 
 pub same-sets : (x : Program) → SameSets x x
-same-sets x = record { same-claim = λ m. refl; same-open = λ m. refl }
+same-sets x = record { same_claim = λ m. refl; same_open = λ m. refl }
 
 pub standing_same : (x : Program) (s : Standing) → SameSets x (set_standing x s)
-standing_same x s = record { same-claim = λ m. sym (standing_claim m x s); same-open = λ m. sym (standing_open m x s) }
+standing_same x s = record { same_claim = λ m. sym (standing_claim m x s); same_open = λ m. sym (standing_open m x s) }
 
 pub item_same : (x : Program) (f r : ℕ) → SameSets x (set_item x f r)
-item_same x f r = record { same-claim = λ m. sym (item_claim m x f r); same-open = λ m. sym (item_open m x f r) }
+item_same x f r = record { same_claim = λ m. sym (item_claim m x f r); same_open = λ m. sym (item_open m x f r) }
 
 pub same_then : (x y z : Program) → SameSets x y → SameSets y z → SameSets x z
-same_then x y z d e = record { same-claim = λ m. d.same-claim m ∙ e.same-claim m; same-open = λ m. d.same-open m ∙ e.same-open m }
+same_then x y z d e = record { same_claim = λ m. d.same_claim m ∙ e.same_claim m; same_open = λ m. d.same_open m ∙ e.same_open m }
 
 pub same_turn : (x y : Program) → SameSets x y → SameSets y x
-same_turn x y d = record { same-claim = λ m. sym (d.same-claim m); same-open = λ m. sym (d.same-open m) }
+same_turn x y d = record { same_claim = λ m. sym (d.same_claim m); same_open = λ m. sym (d.same_open m) }
 
 pub within_same : (x y : Program) → SameSets x y → Within x y
 within_same x y d = record {
-  in-claim = λ m. subst (λ s. claim_of m x ⊑ s) (d.same-claim m) (λ g e. e);
-  in-open = λ m. subst (λ s. open_of m x ⊑ s) (d.same-open m) (λ g e. e);
+  in_claim = λ m. subst (λ s. claim_of m x ⊑ s) (d.same_claim m) (λ g e. e);
+  in_open = λ m. subst (λ s. open_of m x ⊑ s) (d.same_open m) (λ g e. e);
 }
 
 -- An admitted program with the sets of another.
 pub own_same : (x y : Program) → SameSets x y → is_admitted y.standing ≡ true → Own x → Own y
 own_same x y d a o = record {
-  inside = λ m. subst (λ s. s ⊑ claim_of m y) (d.same-open m)
-      (subst (λ s. open_of m x ⊑ s) (d.same-claim m) (o.inside m));
-  apart = meet_same x y d.same-claim ∙ o.apart;
+  inside = λ m. subst (λ s. s ⊑ claim_of m y) (d.same_open m)
+      (subst (λ s. open_of m x ⊑ s) (d.same_claim m) (o.inside m));
+  apart = meet_same x y d.same_claim ∙ o.apart;
   idle = λ e. never a e;
   gone = λ e. never a (ap is_admitted e);
 }
@@ -375,8 +375,8 @@ opening-claims x f m = sym (opened_claim (mode_of x f) m x f)
 pub opening_more : (x : Program) (f : ℕ) → Within x (opening x f)
 unfolding opening
 opening_more x f = record {
-  in-claim = λ m. subst (λ s. claim_of m x ⊑ s) (opening-claims x f m) (λ g e. e);
-  in-open = λ m. opened_case ◌⊑◌ (mode_of x f) m x f (λ _. adding_⊒ (open_of m x) f) (λ g e. e);
+  in_claim = λ m. subst (λ s. claim_of m x ⊑ s) (opening-claims x f m) (λ g e. e);
+  in_open = λ m. opened_case ◌⊑◌ (mode_of x f) m x f (λ _. adding_⊒ (open_of m x) f) (λ g e. e);
 }
 
 pub opening_own : (x : Program) (f : ℕ) → claims x f ≡ true → is_admitted x.standing ≡ true → Own x → Own (opening x f)
@@ -452,9 +452,9 @@ base_give P p f c m a e b = record {
 pub opening_mono : (x y : Program) (f : ℕ) → Within x y → SameClaims x y → Within (opening x f) (opening y f)
 unfolding opening
 opening_mono x y f d e = subst (λ k. Within (opened (mode_of x f) x f) (opened k y f)) (mode_same x y f e) (record {
-  in-claim = λ m. subst (λ s. claim_of m (opened k x f) ⊑ s) (sym (opened_claim k m y f))
-      (subst (λ s. s ⊑ claim_of m y) (sym (opened_claim k m x f)) (d.in-claim m));
-  in-open = λ m. opened_both ◌⊑◌ k m x y f (adding_mono (open_of m x) (open_of m y) f (d.in-open m)) (d.in-open m);
+  in_claim = λ m. subst (λ s. claim_of m (opened k x f) ⊑ s) (sym (opened_claim k m y f))
+      (subst (λ s. s ⊑ claim_of m y) (sym (opened_claim k m x f)) (d.in_claim m));
+  in_open = λ m. opened_both ◌⊑◌ k m x y f (adding_mono (open_of m x) (open_of m y) f (d.in_open m)) (d.in_open m);
 })
   where
     k : Mode

@@ -1,8 +1,8 @@
 -- One program p comes to hold back more, and all else stays: does a completion order still exist?
 -- x *reaches* p if x holds back p, or holds back another one that reaches p. Where an order existed, none exists any more exactly if p
--- now holds back one that reaches it: `no-order_iff`, and on a board, where p is given a file, `unsafe-iff-reach`.
+-- now holds back one that reaches it: `no_order_iff`, and on a board, where p is given a file, `unsafe_iff_reach`.
 -- For code, each half by itself. One exists if some set has everyone that reaches p, and p now holds back nobody in it:
--- `order_by_closed`, `safe-by-closed`. None exists if p now holds back one that reaches it: `no-order_by_reach`, `unsafe-by-reach`.
+-- `order_by_closed`, `safe-by-closed`. None exists if p now holds back one that reaches it: `no_order_by_reach`, `unsafe-by_reach`.
 -- Assumes nothing.
 use Rattle.std.specs.Prelude.{ℕ, suc, ◌<◌, ◌-◌, ◌≡◌, refl, ◌↔◌, ◌≢◌, true, false, not, cond, ◌&&◌, ◌||◌, List, [], ◌∷◌, ◌++◌, eqb, leb, length}
 use Rattle.std.proofs.Common.{arith, sym, ◌∙◌, ap₂, ⊎_elim}
@@ -71,16 +71,16 @@ order_by_closed h h' l o p s c i g k f = (
         (λ e. let m' = mem-without p o a (c.all a m) (eqb-false a p e) in by_test (s a)
         (λ u. Memᴰ.append_left (p ∷ keep t w) (mem_keep s w a m' u))
         (λ u. Memᴰ.append_right (keep s w) (Memᴰ.tail (mem_keep t w a m' (true_not (s a) u)))));
-    only = λ a m. ⊎_elim (λ m'. (in-l a (keep_mem s w a m').0).0)
-        (λ m'. by_mem m' (λ d. Memᴰ.cast d i) (λ n. (in-l a (keep_mem t w a n).0).0)) (Memᴰ.append_cases (keep s w) m);
-    once = around (λ a b. a ≢ b) s p w once-w (λ a m u. (in-l a m).1) (λ b m u d. (in-l b m).1 (sym d))
+    only = λ a m. ⊎_elim (λ m'. (in_l a (keep_mem s w a m').0).0)
+        (λ m'. by_mem m' (λ d. Memᴰ.cast d i) (λ n. (in_l a (keep_mem t w a n).0).0)) (Memᴰ.append_cases (keep s w) m);
+    once = around (λ a b. a ≢ b) s p w once-w (λ a m u. (in_l a m).1) (λ b m u d. (in_l b m).1 (sym d))
         (λ a b m n u v d. never u (ap s d ∙ v));
     clear = around (λ a b. h' b a ≡ false) s p w
         (Pairs_map₂ (λ a b. a ≢ b) (λ a b. h b a ≡ false) _ w (λ a b m n d u. was b a n m (λ e. d (sym e)) ∙ u) once-w
         (Pairs-without _ p o c.clear))
-        (λ a m u. let r = in-l a m in f a r.0 r.1 u)
-        (λ b m u. let r = in-l b m in g.same b p r.0 i r.1 r.1 ∙ no_true (h b p) (λ e. never (k.base b r.0 r.1 e) u))
-        (λ a b m n u v. let q = in-l a m in let r = in-l b n in let d : b ≢ a = λ e. never u (ap s (sym e) ∙ v) in
+        (λ a m u. let r = in_l a m in f a r.0 r.1 u)
+        (λ b m u. let r = in_l b m in g.same b p r.0 i r.1 r.1 ∙ no_true (h b p) (λ e. never (k.base b r.0 r.1 e) u))
+        (λ a b m n u v. let q = in_l a m in let r = in_l b n in let d : b ≢ a = λ e. never u (ap s (sym e) ∙ v) in
         was b a n m d ∙ no_true (h b a) (λ e. never (k.step b a r.0 q.0 r.1 q.1 d u e) v));
   },
 )
@@ -94,11 +94,11 @@ order_by_closed h h' l o p s c i g k f = (
     once-w : NoRepeat w
     once-w = Pairs-without _ p o c.once
 
-    in-l : (a : ℕ) → a ∈ w → (a ∈ l) × (a ≢ p)
-    in-l a m = let r = without-mem p o a m in (c.only a r.0, r.1)
+    in_l : (a : ℕ) → a ∈ w → (a ∈ l) × (a ≢ p)
+    in_l a m = let r = without-mem p o a m in (c.only a r.0, r.1)
 
     was : (a b : ℕ) → a ∈ w → b ∈ w → a ≢ b → h' a b ≡ h a b
-    was a b m n d = g.same a b (in-l a m).0 (in-l b n).0 d (in-l a m).1
+    was a b m n d = g.same a b (in_l a m).0 (in_l b n).0 d (in_l a m).1
 
 -- ── No order exists: whoever reaches p stands before p in every order ──
 
@@ -129,9 +129,9 @@ reaches-before h h' l o p c i g x m (through {y = y} d e k r) =
     let u = holds-before h' o c.clear x y (c.all x m) (c.all y k) d (grown_holds h h' l p x y g m k d e) in
     let v = reaches-before h h' l o p c i g y k r in omega arith
 
-pub no-order_by_reach : (h h' : ℕ → ℕ → Bool) (l o : List ℕ) (p b : ℕ) → p ∈ l → Grown h h' l p → b ∈ l → Reaches h l p b
+pub no_order_by_reach : (h h' : ℕ → ℕ → Bool) (l o : List ℕ) (p b : ℕ) → p ∈ l → Grown h h' l p → b ∈ l → Reaches h l p b
     → h' p b ≡ true → IsOrder h' l o → ⊥
-no-order_by_reach h h' l o p b i g m r e c =
+no_order_by_reach h h' l o p b i g m r e c =
     let u = reaches-before h h' l o p c i g b m r in by_test (eqb b p)
     (λ t. let d = ap (λ z. place z o) (eqb-true b p t) in omega arith)
     (λ t. let v = holds-before h' o c.clear p b (c.all p i) (c.all b m) (λ d. eqb-false b p t (sym d)) e in omega arith)
@@ -140,8 +140,8 @@ same_grown : (h : ℕ → ℕ → Bool) (l : List ℕ) (p : ℕ) → Grown h h l
 same_grown h l p = record { same = λ a b m k n d. refl; more = λ b m n e. e }
 
 -- Where an order exists, nobody reaches itself.
-pub no-order_by_round : (h : ℕ → ℕ → Bool) (l o : List ℕ) (p : ℕ) → p ∈ l → Reaches h l p p → IsOrder h l o → ⊥
-no-order_by_round h l o p m r c = let u = reaches-before h h l o p c m (same_grown h l p) p m r in omega arith
+pub no_order_by_round : (h : ℕ → ℕ → Bool) (l o : List ℕ) (p : ℕ) → p ∈ l → Reaches h l p p → IsOrder h l o → ⊥
+no_order_by_round h l o p m r c = let u = reaches-before h h l o p c m (same_grown h l p) p m r in omega arith
 
 -- ── Both together ──
 
@@ -203,9 +203,9 @@ reachers_closed h p (z ∷ o) c x y m k n e = by_mem m
     (λ k'. more_reachers h p z x o (reachers_closed h p o c.1 x y m' k' n e)))
 
 -- Where h has an order, h' has none exactly if p comes to hold back one that reaches it.
-pub no-order_iff : (h h' : ℕ → ℕ → Bool) (l o : List ℕ) (p : ℕ) → NoRepeat l → IsOrder h l o → p ∈ l → Grown h h' l p
+pub no_order_iff : (h h' : ℕ → ℕ → Bool) (l o : List ℕ) (p : ℕ) → NoRepeat l → IsOrder h l o → p ∈ l → Grown h h' l p
     → (found (order_in h' l) ≡ false) ↔ ((b : ℕ) × (b ∈ l) × (b ≢ p) × (h' p b ≡ true) × Reaches h l p b)
-no-order_iff h h' l o p n c i g = (
+no_order_iff h h' l o p n c i g = (
   λ e. by_test (holds_in h' r p)
       (λ u. let (b, m, d, v) = holds_in_some h' r p u in let q : b ≢ p = λ z. d (sym z) in
       let k = reachers_reach h l p o c.only b m q in (b, k.0, q, v, k.1))
@@ -213,7 +213,7 @@ no-order_iff h h' l o p n c i g = (
       (λ w. never (some_holds_in h' r p b (listed-mem b r v) (λ z. d (sym z)) w) u)) in
       never (ap found ((order_in_iff h' l n).1 (o', k)).1) e),
   λ (b, m, d, e, r). no_true (found (order_in h' l)) (λ u. let (o', k) = (order_in_iff h' l n).0 (found_some (order_in h' l) u) in
-      no-order_by_reach h h' l o' p b i g m r e k),
+      no_order_by_reach h h' l o' p b i g m r e k),
 )
   where
     r : List ℕ
@@ -282,7 +282,7 @@ reaches-through b p x y c n e k = ((other-mem b p x c).0, through (eqb-false x y
 pub no_back : (b : Board) (p x : ℕ) → is_program p ≡ true → is_admitted (at b p).standing ≡ true → found (carried b) ≡ true
     → ReachesOn b p x → holds_on b p x ≡ false
 no_back b p x c a e r = no_true (holds_on b p x) (λ t. let (o, u) = order_of_lem b e in
-    no-order_by_reach (holds_on b) (holds_on b) (admitted b) o p x (mem-admitted b p c a)
+    no_order_by_reach (holds_on b) (holds_on b) (admitted b) o p x (mem-admitted b p c a)
     (same_grown (holds_on b) (admitted b) p) r.0 r.1 t u)
 
 module _ (b : Board) (p f : ℕ) (c : is_program p ≡ true) (a : is_admitted (at b p).standing ≡ true) where
@@ -299,19 +299,19 @@ module _ (b : Board) (p f : ℕ) (c : is_program p ≡ true) (a : is_admitted (a
   pub given-admitted : admitted (with_given b p f) ≡ admitted b
   unfolding admitted
   given-admitted = keep_same _ _ everyone (λ i m. by_test (eqb i p)
-      (λ t. let d = eqb-true i p t in ap (λ j. is_admitted (at (with_given b p f) j).standing) d ∙ ap standing-in given-same
+      (λ t. let d = eqb-true i p t in ap (λ j. is_admitted (at (with_given b p f) j).standing) d ∙ ap standing_in given-same
       ∙ ap is_admitted (opening_standing (at b p) f) ∙ ap (λ j. is_admitted (at b j).standing) (sym d))
-      (λ t. ap standing-in (given-other i (everyone_is i m) (eqb-false i p t))))
+      (λ t. ap standing_in (given-other i (everyone_is i m) (eqb-false i p t))))
     where
-      standing-in : Program → Bool
-      standing-in q = is_admitted q.standing
+      standing_in : Program → Bool
+      standing_in q = is_admitted q.standing
 
   -- whom p holds back with f given
   given_by : (x : ℕ) → x ∈ admitted b → x ≢ p → holds_on (with_given b p f) p x ≡ holds_back (opening (at b p) f) (at b x)
   given_by x m n = ap₂ holds_back given-same (given-other x (admitted-mem b x m).0 n)
 
-  pub given-grown : Grown (holds_on b) (holds_on (with_given b p f)) (admitted b) p
-  given-grown = record {
+  pub given_grown : Grown (holds_on b) (holds_on (with_given b p f)) (admitted b) p
+  given_grown = record {
     same = λ x y m k n d. ap (λ q. holds_back q (at (with_given b p f) y)) (given-other x (admitted-mem b x m).0 d) ∙ by_test (eqb y p)
         (λ t. let e = eqb-true y p t in ap (λ j. holds_back (at b x) (at (with_given b p f) j)) e ∙ ap (holds_back (at b x)) given-same
         ∙ holds_back-claims (at b x) (at b p) f ∙ ap (holds_on b x) (sym e))
@@ -326,7 +326,7 @@ module _ (b : Board) (p f : ℕ) (c : is_program p ≡ true) (a : is_admitted (a
   unfolding safe
   safe-by-closed s e k g =
       let (o, u) = order_of_lem b e in
-      let (o', v) = order_by_closed (holds_on b) (holds_on (with_given b p f)) (admitted b) o p s u (mem-admitted b p c a) given-grown
+      let (o', v) = order_by_closed (holds_on b) (holds_on (with_given b p f)) (admitted b) o p s u (mem-admitted b p c a) given_grown
       (record {
         base = λ x m n w. k.base x (mem-other b p x m n) w;
         step = λ x y m m' n n' d t w. k.step x y (mem-other b p x m n) (mem-other b p y m' n') (ne_eqb x y d) t w;
@@ -335,30 +335,30 @@ module _ (b : Board) (p f : ℕ) (c : is_program p ≡ true) (a : is_admitted (a
       of_order (with_given b p f) o' (subst (λ l. IsOrder (holds_on (with_given b p f)) l o') (sym given-admitted) v)
 
   -- None comes back, if p then holds back one that reaches it.
-  pub unsafe-by-reach : (x : ℕ) → ReachesOn b p x → holds_back (opening (at b p) f) (at b x) ≡ true → safe b p f ≡ false
+  pub unsafe-by_reach : (x : ℕ) → ReachesOn b p x → holds_back (opening (at b p) f) (at b x) ≡ true → safe b p f ≡ false
   unfolding safe
-  unsafe-by-reach x (m, r) e = no_true (safe b p f) (λ t. let (o, u) = order_of_lem (with_given b p f) t in
+  unsafe-by_reach x (m, r) e = no_true (safe b p f) (λ t. let (o, u) = order_of_lem (with_given b p f) t in
       let k = subst (λ l. IsOrder (holds_on (with_given b p f)) l o) given-admitted u in
       let i = mem-admitted b p c a in by_test (eqb x p)
-      (λ d. let v = reaches-before (holds_on b) (holds_on (with_given b p f)) (admitted b) o p k i given-grown x m r in
+      (λ d. let v = reaches-before (holds_on b) (holds_on (with_given b p f)) (admitted b) o p k i given_grown x m r in
       let z = ap (λ y. place y o) (eqb-true x p d) in omega arith)
-      (λ d. no-order_by_reach (holds_on b) (holds_on (with_given b p f)) (admitted b) o p x i given-grown m r
+      (λ d. no_order_by_reach (holds_on b) (holds_on (with_given b p f)) (admitted b) o p x i given_grown m r
       (given_by x m (eqb-false x p d) ∙ e) k))
 
-  safe-is-in : safe b p f ≡ found (order_in (holds_on (with_given b p f)) (admitted b))
+  safe-is_in : safe b p f ≡ found (order_in (holds_on (with_given b p f)) (admitted b))
   unfolding safe
-  safe-is-in = ap found (carried_is (with_given b p f))
+  safe-is_in = ap found (carried_is (with_given b p f))
       ∙ ap (λ l. found (order_in (holds_on (with_given b p f)) l)) (sym (admitted_is (with_given b p f)) ∙ given-admitted)
 
   -- On a board that has an order, none comes back exactly then.
-  pub unsafe-iff-reach : found (carried b) ≡ true
+  pub unsafe_iff_reach : found (carried b) ≡ true
       → (safe b p f ≡ false) ↔ ((x : ℕ) × ReachesOn b p x × (holds_back (opening (at b p) f) (at b x) ≡ true))
-  unsafe-iff-reach e = (
+  unsafe_iff_reach e = (
     λ t. let (o, u) = order_of_lem b e in
-        let (x, m, n, v, r) = (no-order_iff (holds_on b) (holds_on (with_given b p f)) (admitted b) o p once u (mem-admitted b p c a)
-        given-grown).0 (sym safe-is-in ∙ t) in
+        let (x, m, n, v, r) = (no_order_iff (holds_on b) (holds_on (with_given b p f)) (admitted b) o p once u (mem-admitted b p c a)
+        given_grown).0 (sym safe-is_in ∙ t) in
         (x, (m, r), sym (given_by x m n) ∙ v),
-    λ (x, r, v). unsafe-by-reach x r v,
+    λ (x, r, v). unsafe-by_reach x r v,
   )
     where
       once : NoRepeat (admitted b)

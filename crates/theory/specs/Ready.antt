@@ -45,14 +45,14 @@ module _ (b : Board) (z : Sized b.programs) (s : sound b ≡ true) where
       (ap is_held m.absent) in omega arith
 
   -- Open: a program more fits in the waiting line.
-  pub waiting-room : (p f : ℕ) → open_check b p f ≡ Check.Passed → length (names b.waiting) < 32
-  waiting-room p f e = let m = open_may b p f e in let n = crowd b p good.loose m.is (ap is_waiting m.runs)
+  pub waiting_room : (p f : ℕ) → open_check b p f ≡ Check.Passed → length (names b.waiting) < 32
+  waiting_room p f e = let m = open_may b p f e in let n = crowd b p good.loose m.is (ap is_waiting m.runs)
       (ap is_held m.runs) in omega arith
 
   -- Close, drop and cancel: the board before settling.
-  pub close-ready : (p f : ℕ) → close_check b p f ≡ Check.Passed → Ready (set_program b p (closing (at b p) f))
+  pub close_ready : (p f : ℕ) → close_check b p f ≡ Check.Passed → Ready (set_program b p (closing (at b p) f))
   unfolding closing
-  close-ready p f e = let m = close_may b p f e in
+  close_ready p f e = let m = close_may b p f e in
       ready (set_program b p (closing (at b p) f)) p (loose_close b.programs b.waiting b.entry b.favoured
       b.initial b.leaves p f m.is m.runs good.loose) (still-counts b p (closing (at b p) f) good m m.runs refl refl) m.is
       (test_same is_waiting b.programs p (closing (at b p) f) z m.is ∙ ap is_waiting m.runs)
@@ -70,8 +70,8 @@ module _ (b : Board) (z : Sized b.programs) (s : sound b ≡ true) where
   pub cancel-ready : (p : ℕ) → cancel_check b p ≡ Check.Passed → Ready (withdrawn b p (at b p).standing)
   cancel-ready p e = let m = cancel_may b p e in let l = cancel-withdrawn b p good m in
       ready (withdrawn b p (at b p).standing) p l.w-loose l.w-counts m.is
-      (ap (λ P. waits_in P p) l.w-programs ∙ test_same is_waiting b.programs p no_program z m.is)
-      (ap (λ P. held_at P p) l.w-programs ∙ test_same is_held b.programs p no_program z m.is)
+      (ap (λ P. waits_in P p) l.w_programs ∙ test_same is_waiting b.programs p no_program z m.is)
+      (ap (λ P. held_at P p) l.w_programs ∙ test_same is_held b.programs p no_program z m.is)
 
   -- Leave: the count of leaves does not overflow.
   pub leaves-room : b.leaves ≤ 32
@@ -86,13 +86,13 @@ module _ (b : Board) (z : Sized b.programs) (s : sound b ≡ true) where
   leave_room p e = let m = leave_may b p e in let l = leave_left b p good m in let c = count_leave (set_program b p no_program) in
       let r = (hand_settled c (at b p).file (at b p).item l.l-loose l.l-counted l.l-records).many in
       let n = crowd c p l.l-loose m.is
-      (ap (λ P. waits_in P p) l.l-programs ∙ test_same is_waiting b.programs p no_program z m.is)
-      (ap (λ P. held_at P p) l.l-programs ∙ test_same is_held b.programs p no_program z m.is) in omega arith
+      (ap (λ P. waits_in P p) l.l_programs ∙ test_same is_waiting b.programs p no_program z m.is)
+      (ap (λ P. held_at P p) l.l_programs ∙ test_same is_held b.programs p no_program z m.is) in omega arith
 
-  pub return-room : (p : ℕ) → return_check b p ≡ Check.Passed
+  pub return_room : (p : ℕ) → return_check b p ≡ Check.Passed
       → let h = hand_on (set_program b p (set_item (at b p) 0 0)) (at b p).file (at b p).item in
       suc (length (h.lines ++ (settle h.board).lines)) ≤ 32
-  return-room p e = let m = return_may b p e in let x = set_item (at b p) 0 0 in
+  return_room p e = let m = return_may b p e in let x = set_item (at b p) 0 0 in
       let r = (return_settled b p good m).many in
       let n = crowd (set_program b p x) p (item-loose b p 0 0 good m.is m.runs) m.is
       (test_same is_waiting b.programs p x z m.is ∙ ap is_waiting m.runs)

@@ -68,12 +68,12 @@ module _ (q : Program) (f r : ℕ) where
 -- What holds of a program's record by itself.
 pub record ItemOwn (q : Program) : Type 0 where
   pub no_item : q.item ≡ 0 → q.file ≡ 0
-  pub in-i : q.item ≢ 0 → member q.inquiring q.file ≡ true
+  pub in_i : q.item ≢ 0 → member q.inquiring q.file ≡ true
   pub stands-so : q.item ≢ 0 → (q.standing ≡ Standing.Running) ⊎ (q.standing ≡ Standing.Waiting q.file)
 
 -- A program without a record.
 pub none_item : (q : Program) → q.item ≡ 0 → q.file ≡ 0 → ItemOwn q
-none_item q z e = record { no_item = λ _. e; in-i = λ n. absurd (n z); stands-so = λ n. absurd (n z) }
+none_item q z e = record { no_item = λ _. e; in_i = λ n. absurd (n z); stands-so = λ n. absurd (n z) }
 
 -- Who isn't admitted has none.
 pub out_item : (q : Program) → is_admitted q.standing ≡ false → ItemOwn q → q.item ≡ 0
@@ -138,9 +138,9 @@ module _ (P P'' : Progs) (p : ℕ) (c : Is p) (same : (i : ℕ) → Is i → i �
       (λ i j u. uses-none (prog P'' i) 0 u) k
 
   -- p returns what it has in use.
-  pub records-release : (prog P'' p).item ≡ 0 → (prog P p).standing ≡ Standing.Running → Records P 0 0
+  pub records_release : (prog P'' p).item ≡ 0 → (prog P p).standing ≡ Standing.Running → Records P 0 0
       → Records P'' (prog P p).file (prog P p).item
-  records-release z r k = records_make P P'' p 0 0 (prog P p).file (prog P p).item c same o (λ g s u. absurd (u.1 z))
+  records_release z r k = records_make P P'' p 0 0 (prog P p).file (prog P p).item c same o (λ g s u. absurd (u.1 z))
       (λ g s u. absurd (u.1 z))
       (λ g s m u. ⊎_elim (λ v. absurd (m v.1)) (λ v. moved P P'' p g s same v.0 v.1 v.2
       (λ w. inl (sym w.2, sym w.3)) inr) u)

@@ -72,7 +72,7 @@ leaves b p g m n = record {
   gone = settled p m.is ∙ test_same is_absent b.programs p no_program g.loose.base.size m.is;
   others = λ i j n. settled i j ∙ test_other is_absent b.programs p no_program m.is i j n;
   no_items = λ i j. ap (λ (q : Reply). (prog q.board.programs i).item) e ∙ ap (λ (s : Step). (prog (settle s.board).board.programs i).item) h
-      ∙ (settle_settled d l.l-loose counts).items i j ∙ ap (λ P. (prog P i).item) l.l-programs
+      ∙ (settle_settled d l.l-loose counts).items i j ∙ ap (λ P. (prog P i).item) l.l_programs
       ∙ put_case (λ q. q.item ≡ 0) b.programs p no_program g.loose.base.size m.is i j (λ _. refl) (λ _. n i j);
 }
   where
@@ -97,7 +97,7 @@ leaves b p g m n = record {
     settled : (i : ℕ) → Is i → absent_in (apply b (Leave p)).board.programs i ≡ absent_in (set_program b p no_program).programs i
     settled i j = ap (λ (q : Reply). absent_in q.board.programs i) e ∙ ap (λ (s : Step). absent_in (settle s.board).board.programs i) h
         ∙ settle_there d l.l-loose counts i j
-        ∙ ap (λ P. absent_in P i) l.l-programs
+        ∙ ap (λ P. absent_in P i) l.l_programs
 
 -- ── The first program finishes ──
 

@@ -66,34 +66,34 @@ favour_trans : (b c d : Board) → Favour b c → Favour c d → Favour b d
 favour_trans b c d x y = record { who = y.who ∙ x.who; number = y.number ∙ x.number; left = y.left ∙ x.left }
 
 module _ (b : Board) (p : ℕ) where
-  resumed-stop : b.favoured ≡ p → resumed b p ≡ set_favour (resume b p) 0 0 0
+  resumed_stop : b.favoured ≡ p → resumed b p ≡ set_favour (resume b p) 0 0 0
   unfolding resume
-  resumed-stop e = unfavour_stop (resume b p) p e
+  resumed_stop e = unfavour_stop (resume b p) p e
 
   resumed-keep : b.favoured ≢ p → resumed b p ≡ resume b p
   unfolding resume
   resumed-keep n = unfavour_keep (resume b p) p n
 
   -- A part that favouring leaves alone.
-  resumed-part : {A : Type 0} (D : Board → A) → D (set_favour (resume b p) 0 0 0) ≡ D (resume b p) → D (resumed b p) ≡ D (resume b p)
-  resumed-part D e = by_test (eqb b.favoured p) (λ t. ap D (resumed-stop (eqb-true b.favoured p t)) ∙ e)
+  resumed_part : {A : Type 0} (D : Board → A) → D (set_favour (resume b p) 0 0 0) ≡ D (resume b p) → D (resumed b p) ≡ D (resume b p)
+  resumed_part D e = by_test (eqb b.favoured p) (λ t. ap D (resumed_stop (eqb-true b.favoured p t)) ∙ e)
       (λ t. ap D (resumed-keep (eqb-false b.favoured p t)))
 
-  pub resumed-programs : (resumed b p).programs ≡ awake b.programs p
+  pub resumed_programs : (resumed b p).programs ≡ awake b.programs p
   unfolding resume
-  resumed-programs = resumed-part (λ c. c.programs) refl
+  resumed_programs = resumed_part (λ c. c.programs) refl
 
-  resumed-waiting : (resumed b p).waiting ≡ padded 0 (without p (names b.waiting))
+  resumed_waiting : (resumed b p).waiting ≡ padded 0 (without p (names b.waiting))
   unfolding resume
-  resumed-waiting = resumed-part (λ c. c.waiting) refl
+  resumed_waiting = resumed_part (λ c. c.waiting) refl
 
   resumed-entry : (resumed b p).entry ≡ b.entry
   unfolding resume
-  resumed-entry = resumed-part (λ c. c.entry) refl
+  resumed-entry = resumed_part (λ c. c.entry) refl
 
   resumed-passed : (resumed b p).passed ≡ set b.passed (p - 1) 0
   unfolding resume
-  resumed-passed = resumed-part (λ c. c.passed) refl
+  resumed-passed = resumed_part (λ c. c.passed) refl
 
   resumed-favour : b.favoured ≢ p → Favour b (resumed b p)
   unfolding resume
@@ -105,14 +105,14 @@ module _ (b : Board) (p : ℕ) where
 
   resumed-nobody : b.favoured ≡ p → (resumed b p).favoured ≡ 0
   unfolding resume
-  resumed-nobody d = ap (λ (c : Board). c.favoured) (resumed-stop d)
+  resumed-nobody d = ap (λ (c : Board). c.favoured) (resumed_stop d)
 
   -- P are the programs before p was given its file.
   resumed-loose : (P : Progs) → Is p → waits_in P p ≡ true → Woken P (awake b.programs p) p
       → LooseIn P b.waiting b.entry b.favoured b.initial b.leaves → Loose (resumed b p)
   unfolding resume
   resumed-loose P c s u k = by_test (eqb b.favoured p)
-      (λ t. subst Loose (sym (resumed-stop (eqb-true b.favoured p t))) (loose_wake P (awake b.programs p) b.waiting
+      (λ t. subst Loose (sym (resumed_stop (eqb-true b.favoured p t))) (loose_wake P (awake b.programs p) b.waiting
       b.entry b.favoured b.initial b.leaves 0 0 0 p c s u (λ m. absurd (m refl)) (λ _. (refl, refl)) k))
       (λ t. subst Loose (sym (resumed-keep (eqb-false b.favoured p t))) (loose_wake P (awake b.programs p) b.waiting
       b.entry b.favoured b.initial b.leaves b.favoured b.initial b.leaves p c s u
@@ -129,7 +129,7 @@ pub record Gave (b c : Board) (p : ℕ) : Type 0 where
   pub g-ins : ins c.programs ≡ ins b.programs
   pub g-stuck : (y g : ℕ) → Is y → can b.programs y g ≡ false → can c.programs y g ≡ false
   pub g-entry : c.entry ≡ b.entry
-  pub g-waiting : c.waiting ≡ padded 0 (without p (names b.waiting))
+  pub g_waiting : c.waiting ≡ padded 0 (without p (names b.waiting))
   pub g-passed : c.passed ≡ set b.passed (p - 1) 0
   pub g-favour : b.favoured ≢ p → Favour b c
   pub g-nobody : b.favoured ≡ p → c.favoured ≡ 0
@@ -152,7 +152,7 @@ woken_as b c p i w u e l en wa pa fa nb it t rec = record {
   g-ins = ap ins e ∙ u.w-ins;
   g-stuck = λ y g k q. ap (λ P. can P y g) e ∙ u.w-stuck y g k q;
   g-entry = en;
-  g-waiting = wa;
+  g_waiting = wa;
   g-passed = pa;
   g-favour = fa;
   g-nobody = nb;
@@ -167,8 +167,8 @@ woken_as b c p i w u e l en wa pa fa nb it t rec = record {
 gave_file : (b : Board) (p f : ℕ) → Loose b → Counts b → Is p → Awaits (prog b.programs p) f → can b.programs p f ≡ true
     → Gave b (given b p f) p
 unfolding with_given give
-gave_file b p f k n c s u = woken_as b (with_given b p f) p c w v (resumed-programs (with_given b p f) p)
-    (resumed-loose (with_given b p f) p P c w v k) (resumed-entry (with_given b p f) p) (resumed-waiting (with_given b p f) p)
+gave_file b p f k n c s u = woken_as b (with_given b p f) p c w v (resumed_programs (with_given b p f) p)
+    (resumed-loose (with_given b p f) p P c w v k) (resumed-entry (with_given b p f) p) (resumed_waiting (with_given b p f) p)
     (resumed-passed (with_given b p f) p) (λ m. let q = resumed-favour (with_given b p f) p m in record { who = q.who; number = q.number; left = q.left })
     (resumed-nobody (with_given b p f) p) i.0 n.counted
     (records-quiet P (served P p f) p c v.w-other (none_item _ z (i.1 ∙ (n.records.own p c).no_item s.1)) z
@@ -192,12 +192,12 @@ gave_file b p f k n c s u = woken_as b (with_given b p f) p c w v (resumed-progr
 -- A waiter gets its record.
 gave_record : (b : Board) (p f r : ℕ) → Loose b → Counted b.passed b.programs → Records b.programs f r → Is p
     → Wants (prog b.programs p) f r → Gave b (resumed b p) p
-gave_record b p f r k n rec c s = woken_as b b p c s.0 v (resumed-programs b p)
-    (resumed-loose b p P c s.0 v k) (resumed-entry b p) (resumed-waiting b p)
+gave_record b p f r k n rec c s = woken_as b b p c s.0 v (resumed_programs b p)
+    (resumed-loose b p P c s.0 v k) (resumed-entry b p) (resumed_waiting b p)
     (resumed-passed b p) (resumed-favour b p) (resumed-nobody b p) (ap (λ (q : Program). q.item) e) n
     (records-handed P (awake P p) p c v.w-other (subst ItemOwn (sym e) (record {
       no_item = o.no_item;
-      in-i = o.in-i;
+      in_i = o.in_i;
       stands-so = λ _. inl refl;
     })) f r s e rec)
   where
@@ -230,7 +230,7 @@ gave_items b c p g i j = by_test (eqb i p)
 
 -- The waiting line is one shorter.
 gave_fewer : (b c : Board) (p : ℕ) → Loose b → Gave b c p → 1 + length (names c.waiting) ≡ length (names b.waiting)
-gave_fewer b c p k g = let y = ap length (ap names g.g-waiting ∙ names_padded (without p (names b.waiting))
+gave_fewer b c p k g = let y = ap length (ap names g.g_waiting ∙ names_padded (without p (names b.waiting))
     (λ i q d. let w = k.waits.of i (Rattle.laws.specs.Laws.without-mem p (names b.waiting) i q).0 in
     let v = w.0.least in omega arith)) in
     let v = length_without p (names b.waiting) k.waits.once (k.waits.on p g.g-is g.g-waits) in omega arith
@@ -546,7 +546,7 @@ pub record Admitted (b c : Board) (p : ℕ) (ps : List ℕ) : Type 0 where
   pub a-counts : Counts c
   pub a-who : c.favoured ≡ b.favoured
   pub a-same : Favour b c
-  pub a-waiting : c.waiting ≡ b.waiting
+  pub a_waiting : c.waiting ≡ b.waiting
   pub a-entry : names c.entry ≡ ps
   pub a-is : Is p
   pub a-held : held_at b.programs p ≡ true
@@ -571,7 +571,7 @@ admit-held b p ps k n e h v = record {
   };
   a-who = refl;
   a-same = record { who = refl; number = refl; left = refl };
-  a-waiting = refl;
+  a_waiting = refl;
   a-entry = names_padded ps (λ q m o. let w = (f q m).0.least in omega arith);
   a-is = c;
   a-held = (k.helds.of p (subst (λ w. p ∈ w) (sym h) here)).1;
@@ -604,7 +604,7 @@ admit-held b p ps k n e h v = record {
     o = k.base.own p c
 
     idle : Idle x
-    idle m = sym ((standing_same (prog P p) Standing.Running).same-open m) ∙ o.idle (ap is_admitted s) m
+    idle m = sym ((standing_same (prog P p) Standing.Running).same_open m) ∙ o.idle (ap is_admitted s) m
 
     z0 : (prog P p).item ≡ 0
     z0 = out_item (prog P p) (ap is_admitted s) (n.records.own p c)
@@ -640,7 +640,7 @@ chosen_one : (b c : Board) (p : ℕ) (ps : List ℕ) (s : Step) → b.favoured �
 unfolding admits
 chosen_one b c p ps s e h a r = record {
   good = r.good;
-  many = let m = r.many in let x = ap (λ l. length (names l)) a.a-waiting in let y = ap length a.a-entry in
+  many = let m = r.many in let x = ap (λ l. length (names l)) a.a_waiting in let y = ap length a.a-entry in
       let z = ap length h in omega arith;
   fav = ⊎_elim
       (λ x. inl (e, (x.1.0, newly_more (line Word.Admit p 0 ∷ []) s x.1.0 quiet x.1.1)))

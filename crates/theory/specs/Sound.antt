@@ -47,9 +47,9 @@ pub record Sound (b : Board) : Type 0 where
   -- "no conflict"
   pub no-conflict : (i j : ℕ) → Is i → Is j → i ≢ j → conflict (at b i) (at b j) ≡ false
   -- "a completion order exists"
-  pub order-exists : (o : List ℕ) × CompletionOrder b o
+  pub order_exists : (o : List ℕ) × CompletionOrder b o
   -- "each line names its programs once and is then 0"
-  pub waiting-line : OnLine b.waiting (λ p. is_waiting (at b p).standing)
+  pub waiting_line : OnLine b.waiting (λ p. is_waiting (at b p).standing)
   pub entry-line : OnLine b.entry (λ p. is_held (at b p).standing)
   -- "a waiter's file is claimed, not open by it"
   pub waiter-asked : (p : ℕ) → Is p → Asks (at b p)
@@ -149,7 +149,7 @@ item_of q e = by_test (eqb q.item 0)
     (λ t. let z = eqb-true q.item 0 t in none_item q z (eqb-true q.file 0 (rw t at e)))
     (λ t. let n = eqb-false q.item 0 t in let m = member q.inquiring q.file in let h = may_have q.standing q in record {
       no_item = λ z. absurd (n z);
-      in-i = λ _. and_left m h (rw t at e);
+      in_i = λ _. and_left m h (rw t at e);
       stands-so = λ _. may_of q.standing q (and_right m h (rw t at e));
     })
 
@@ -157,7 +157,7 @@ of_item_lem : (q : Program) → ItemOwn q → item_sound q ≡ true
 unfolding item_sound
 of_item_lem q o = by_test (eqb q.item 0)
     (λ t. rw t (eq-eqb q.file 0 (o.no_item (eqb-true q.item 0 t))))
-    (λ t. let n = eqb-false q.item 0 t in rw t (and_both (member q.inquiring q.file) (may_have q.standing q) (o.in-i n)
+    (λ t. let n = eqb-false q.item 0 t in rw t (and_both (member q.inquiring q.file) (may_have q.standing q) (o.in_i n)
     (of_may q.standing q (o.stands-so n))))
 
 line_of_lem : (l : List ℕ) (t : ℕ → Bool) → line_sound l t ≡ true → OnLine l t
@@ -332,16 +332,16 @@ module _ (b : Board) where
 
   -- the ten parts of the test
   record Parts : Type 0 where
-    part-1 : all (λ p. program_sound (at b p)) everyone ≡ true
-    part-2 : no_conflict b ≡ true
-    part-3 : found (carried b) ≡ true
-    part-4 : line_sound b.waiting (λ p. is_waiting (at b p).standing) ≡ true
-    part-5 : line_sound b.entry (λ p. is_held (at b p).standing) ≡ true
-    part-6 : all (λ p. waiter_sound b p (awaited b p)) (names b.waiting) ≡ true
-    part-7 : cond (eqb b.favoured 0) (none_favoured b) (some_favoured b) ≡ true
-    part-8 : all (count_sound b) everyone ≡ true
-    part-9 : uses_differ b ≡ true
-    part-10 : awaited_in_use b ≡ true
+    part_1 : all (λ p. program_sound (at b p)) everyone ≡ true
+    part_2 : no_conflict b ≡ true
+    part_3 : found (carried b) ≡ true
+    part_4 : line_sound b.waiting (λ p. is_waiting (at b p).standing) ≡ true
+    part_5 : line_sound b.entry (λ p. is_held (at b p).standing) ≡ true
+    part_6 : all (λ p. waiter_sound b p (awaited b p)) (names b.waiting) ≡ true
+    part_7 : cond (eqb b.favoured 0) (none_favoured b) (some_favoured b) ≡ true
+    part_8 : all (count_sound b) everyone ≡ true
+    part_9 : uses_differ b ≡ true
+    part_10 : awaited_in_use b ≡ true
 
   parts-of : sound b ≡ true → Parts
   unfolding sound
@@ -365,50 +365,50 @@ module _ (b : Board) where
       let e₃ = and_left (x₁ && x₂ && x₃) x₄ e₄ in
       let e₂ = and_left (x₁ && x₂) x₃ e₃ in
       record {
-        part-1 = and_left x₁ x₂ e₂;
-        part-2 = and_right x₁ x₂ e₂;
-        part-3 = and_right (x₁ && x₂) x₃ e₃;
-        part-4 = and_right (x₁ && x₂ && x₃) x₄ e₄;
-        part-5 = and_right (x₁ && x₂ && x₃ && x₄) x₅ e₅;
-        part-6 = and_right (x₁ && x₂ && x₃ && x₄ && x₅) x₆ e₆;
-        part-7 = and_right (x₁ && x₂ && x₃ && x₄ && x₅ && x₆) x₇ e₇;
-        part-8 = and_right (x₁ && x₂ && x₃ && x₄ && x₅ && x₆ && x₇) x₈ e₈;
-        part-9 = and_right (x₁ && x₂ && x₃ && x₄ && x₅ && x₆ && x₇ && x₈) x₉ e₉;
-        part-10 = and_right (x₁ && x₂ && x₃ && x₄ && x₅ && x₆ && x₇ && x₈ && x₉) x₁₀ e;
+        part_1 = and_left x₁ x₂ e₂;
+        part_2 = and_right x₁ x₂ e₂;
+        part_3 = and_right (x₁ && x₂) x₃ e₃;
+        part_4 = and_right (x₁ && x₂ && x₃) x₄ e₄;
+        part_5 = and_right (x₁ && x₂ && x₃ && x₄) x₅ e₅;
+        part_6 = and_right (x₁ && x₂ && x₃ && x₄ && x₅) x₆ e₆;
+        part_7 = and_right (x₁ && x₂ && x₃ && x₄ && x₅ && x₆) x₇ e₇;
+        part_8 = and_right (x₁ && x₂ && x₃ && x₄ && x₅ && x₆ && x₇) x₈ e₈;
+        part_9 = and_right (x₁ && x₂ && x₃ && x₄ && x₅ && x₆ && x₇ && x₈) x₉ e₉;
+        part_10 = and_right (x₁ && x₂ && x₃ && x₄ && x₅ && x₆ && x₇ && x₈ && x₉) x₁₀ e;
       }
 
   of_parts : Parts → sound b ≡ true
   unfolding sound
-  of_parts k = rw (k.part-1, k.part-2, k.part-3, k.part-4, k.part-5, k.part-6, k.part-7, k.part-8, k.part-9, k.part-10)
+  of_parts k = rw (k.part_1, k.part_2, k.part_3, k.part_4, k.part_5, k.part_6, k.part_7, k.part_8, k.part_9, k.part_10)
 
-  clauses-of : sound b ≡ true → Sound b
+  clauses_of : sound b ≡ true → Sound b
   unfolding program_sound
-  clauses-of e = record {
+  clauses_of e = record {
     sets = λ p i. sets_of (at b p) (and_left (sets_sound (at b p)) (standing_sound (at b p).standing (at b p)) (both p i));
     absent-empty = λ p i. (stand p i).0;
     held-closed = λ p i. (stand p i).1;
-    no-conflict = conflict-of k.part-2;
-    order-exists = order_of_lem b k.part-3;
-    waiting-line = l;
-    entry-line = line_of_lem b.entry _ k.part-5;
+    no-conflict = conflict-of k.part_2;
+    order_exists = order_of_lem b k.part_3;
+    waiting_line = l;
+    entry-line = line_of_lem b.entry _ k.part_5;
     waiter-asked = λ p i f u. (waiter p f i u).0;
     waiter-stuck = λ p i f u. (waiter p f i u).1;
-    favoured-waits = λ n. (some_of (rw (ne_eqb b.favoured 0 n) at k.part-7)).0;
-    nobody-favoured = λ d. none_of (rw (eq-eqb b.favoured 0 d) at k.part-7);
-    favoured-count = λ n. (some_of (rw (ne_eqb b.favoured 0 n) at k.part-7)).1;
-    count_most = λ p i. (count_of p (all-each (count_sound b) everyone k.part-8 p (mem-everyone p i))).0;
-    count-rest = λ p i. (count_of p (all-each (count_sound b) everyone k.part-8 p (mem-everyone p i))).1;
+    favoured-waits = λ n. (some_of (rw (ne_eqb b.favoured 0 n) at k.part_7)).0;
+    nobody-favoured = λ d. none_of (rw (eq-eqb b.favoured 0 d) at k.part_7);
+    favoured-count = λ n. (some_of (rw (ne_eqb b.favoured 0 n) at k.part_7)).1;
+    count_most = λ p i. (count_of p (all-each (count_sound b) everyone k.part_8 p (mem-everyone p i))).0;
+    count-rest = λ p i. (count_of p (all-each (count_sound b) everyone k.part_8 p (mem-everyone p i))).1;
     item-own = λ p i. item_of (at b p) (and_right (sets_sound (at b p) && standing_sound (at b p).standing (at b p)) (item_sound (at b p))
         (each p i));
-    uses-differ = differ_of k.part-9;
-    awaited-used = used-of k.part-10;
+    uses-differ = differ_of k.part_9;
+    awaited-used = used-of k.part_10;
   }
     where
       k : Parts
       k = parts-of e
 
       each : (p : ℕ) → Is p → program_sound (at b p) ≡ true
-      each p i = all-each (λ p. program_sound (at b p)) everyone k.part-1 p (mem-everyone p i)
+      each p i = all-each (λ p. program_sound (at b p)) everyone k.part_1 p (mem-everyone p i)
 
       both : (p : ℕ) → Is p → sets_sound (at b p) && standing_sound (at b p).standing (at b p) ≡ true
       both p i = and_left (sets_sound (at b p) && standing_sound (at b p).standing (at b p)) (item_sound (at b p)) (each p i)
@@ -419,38 +419,38 @@ module _ (b : Board) where
           (standing_sound (at b p).standing (at b p)) (both p i)) refl
 
       l : OnLine b.waiting (λ p. is_waiting (at b p).standing)
-      l = line_of_lem b.waiting (λ p. is_waiting (at b p).standing) k.part-4
+      l = line_of_lem b.waiting (λ p. is_waiting (at b p).standing) k.part_4
 
       waiter : (p f : ℕ) → Is p → Awaits (at b p) f → Asked (at b p) f × (can_give b p f ≡ false)
       waiter p f i u = waiter-of p f (ap (waiter_sound b p) (sym (ap awaited_of u.0))
-          ∙ all-each (λ p. waiter_sound b p (awaited b p)) (names b.waiting) k.part-6 p (l.on p i (ap is_waiting u.0))) u.1
+          ∙ all-each (λ p. waiter_sound b p (awaited b p)) (names b.waiting) k.part_6 p (l.on p i (ap is_waiting u.0))) u.1
 
-  of-clauses : Sound b → sound b ≡ true
+  of_clauses : Sound b → sound b ≡ true
   unfolding program_sound
-  of-clauses k = of_parts (record {
-    part-1 = each_all (λ p. program_sound (at b p)) everyone (λ p m. let i = everyone_is p m in
+  of_clauses k = of_parts (record {
+    part_1 = each_all (λ p. program_sound (at b p)) everyone (λ p m. let i = everyone_is p m in
         and_both (sets_sound (at b p) && standing_sound (at b p).standing (at b p)) (item_sound (at b p))
         (and_both (sets_sound (at b p)) (standing_sound (at b p).standing (at b p)) (of_sets (at b p) (k.sets p i))
         (of_standing (at b p) (at b p).standing refl (k.absent-empty p i) (k.held-closed p i))) (of_item_lem (at b p) (k.item-own p i)));
-    part-2 = of-conflict k.no-conflict;
-    part-3 = of_order b k.order-exists.0 k.order-exists.1;
-    part-4 = of_line_lem b.waiting (λ p. is_waiting (at b p).standing) k.waiting-line;
-    part-5 = of_line_lem b.entry (λ p. is_held (at b p).standing) k.entry-line;
-    part-6 = each_all (λ p. waiter_sound b p (awaited b p)) (names b.waiting)
-        (λ p m. let (i, u) = k.waiting-line.of p m in let (f, s) = waiting_file (at b p).standing u in
+    part_2 = of-conflict k.no-conflict;
+    part_3 = of_order b k.order_exists.0 k.order_exists.1;
+    part_4 = of_line_lem b.waiting (λ p. is_waiting (at b p).standing) k.waiting_line;
+    part_5 = of_line_lem b.entry (λ p. is_held (at b p).standing) k.entry-line;
+    part_6 = each_all (λ p. waiter_sound b p (awaited b p)) (names b.waiting)
+        (λ p m. let (i, u) = k.waiting_line.of p m in let (f, s) = waiting_file (at b p).standing u in
         ap (waiter_sound b p) (ap awaited_of s) ∙ of-waiter p f (λ z. k.waiter-asked p i f (s, z)) (λ z. k.waiter-stuck p i f (s, z)));
-    part-7 = by_test (eqb b.favoured 0)
+    part_7 = by_test (eqb b.favoured 0)
         (λ t. rw t (let (h, i, l) = k.nobody-favoured (eqb-true b.favoured 0 t) in of_none h i l))
         (λ t. rw t (let n = eqb-false b.favoured 0 t in let (i, u) = k.favoured-waits n in
         let (c, l) = k.favoured-count n in of_some i u c l));
-    part-8 = each_all (count_sound b) everyone (λ p m. let i = everyone_is p m in of-count p (k.count_most p i) (k.count-rest p i));
-    part-9 = of-differ k.uses-differ;
-    part-10 = of-used k.awaited-used;
+    part_8 = each_all (count_sound b) everyone (λ p m. let i = everyone_is p m in of-count p (k.count_most p i) (k.count-rest p i));
+    part_9 = of-differ k.uses-differ;
+    part_10 = of-used k.awaited-used;
   })
 
 -- The test `sound` of the rules is 01's clauses.
 pub sound_iff : (b : Board) → (sound b ≡ true) ↔ Sound b
-sound_iff b = (clauses-of b, of-clauses b)
+sound_iff b = (clauses_of b, of_clauses b)
 
 -- ── What the calls keep is soundness ──
 
@@ -460,8 +460,8 @@ good_sound b g = record {
   absent-empty = λ p i u. let o = own p i in λ m. (o.gone u m, o.idle (ap is_admitted u) m);
   held-closed = λ p i u. (own p i).idle (ap is_admitted u);
   no-conflict = g.loose.base.apart;
-  order-exists = let (o, c) = g.loose.base.order in (o, subst (λ l. IsOrder (holds_on b) l o) (sym (admitted_is b)) c);
-  waiting-line = g.loose.waits;
+  order_exists = let (o, c) = g.loose.base.order in (o, subst (λ l. IsOrder (holds_on b) l o) (sym (admitted_is b)) c);
+  waiting_line = g.loose.waits;
   entry-line = g.loose.helds;
   waiter-asked = g.loose.asked;
   waiter-stuck = λ p i f u. can_give_is b p f ∙ g.stuck p i f u;
@@ -501,10 +501,10 @@ sound_good b z s = record {
       size = z;
       own = λ p i. own_of b p s i;
       apart = s.no-conflict;
-      order = let (o, c) = s.order-exists in
+      order = let (o, c) = s.order_exists in
           (o, subst (λ l. IsOrder (holds_on b) l o) (admitted_is b) c);
     };
-    waits = s.waiting-line;
+    waits = s.waiting_line;
     helds = s.entry-line;
     asked = s.waiter-asked;
     fav-waits = s.favoured-waits;

@@ -29,7 +29,7 @@ use Rattle.theory.specs.Settling.{settle_settled, hand_settled}
 use Rattle.theory.specs.Calls.{by_check, OpenMay, FetchMay, enter_may, open_may, close_may, leave_may, cancel_may, fetch_may, return_may}
 use Rattle.theory.specs.Calls.{leave_left, cancel-withdrawn, return_settled, apply-accepted, apply-refused}
 use Rattle.theory.specs.Sound.{sound_iff, good_sound}
-use Rattle.theory.specs.Ready.{close-ready, drop-ready}
+use Rattle.theory.specs.Ready.{close_ready, drop-ready}
 use Rattle.theory.specs.Demand3.{Waits, AsksFor}
 
 -- A program that doesn't wait is put.
@@ -91,7 +91,7 @@ fetch_from : (b : Board) (p f r : ℕ) → Sized b.programs → FetchMay b p f r
 unfolding fetch wait_item reply
 fetch_from b p f r z m y i u = by_test (taken b p f r)
     (λ t. rw t (wait_from b p f r (set_item (set_standing (at b p) (Standing.Waiting f)) f r) (Fetch p f r) Answer.Wait z m.is (inl refl)
-    (inr (refl, m.some-record)) refl refl y i))
+    (inr (refl, m.some_record)) refl refl y i))
     (λ t. rw t (inl (put_waits b.programs p (set_item (at b p) f r) z m.is (ap is_waiting m.runs) y i (rw t at u))))
 
 -- Settling begins no wait, nor does handing on a record.
@@ -106,38 +106,38 @@ module _ (b : Board) (k : Good b) where
   snd : sound b ≡ true
   snd = (sound_iff b).1 (good_sound b k)
 
-  close-from : (p f y : ℕ) → close_check b p f ≡ Check.Passed → Is y → is_waiting (stands (close_file b p f).board.programs y) ≡ true
+  close_from : (p f y : ℕ) → close_check b p f ≡ Check.Passed → Is y → is_waiting (stands (close_file b p f).board.programs y) ≡ true
       → prog (close_file b p f).board.programs y ≡ prog b.programs y
   unfolding close_file done finish closing reply
-  close-from p f y e i = let m = close_may b p f e in let r = close-ready b z snd p f e in
+  close_from p f y e i = let m = close_may b p f e in let r = close_ready b z snd p f e in
       let c = set_program b p (closing (at b p) f) in
       then_from b.programs c.programs (settle c).board.programs y ((settle_settled c r.loose r.counts).waited y i)
       (put_waits b.programs p (closing (at b p) f) z m.is (ap is_waiting m.runs) y i)
 
-  drop-from : (p f y : ℕ) → open_check b p f ≡ Check.Passed → Is y → is_waiting (stands (drop_file b p f).board.programs y) ≡ true
+  drop_from : (p f y : ℕ) → open_check b p f ≡ Check.Passed → Is y → is_waiting (stands (drop_file b p f).board.programs y) ≡ true
       → prog (drop_file b p f).board.programs y ≡ prog b.programs y
   unfolding drop_file done finish dropping reply
-  drop-from p f y e i = let m = open_may b p f e in let r = drop-ready b z snd p f e in
+  drop_from p f y e i = let m = open_may b p f e in let r = drop-ready b z snd p f e in
       let c = set_program b p (dropping (at b p) f) in
       then_from b.programs c.programs (settle c).board.programs y ((settle_settled c r.loose r.counts).waited y i)
       (put_waits b.programs p (dropping (at b p) f) z m.is (ap is_waiting m.runs) y i)
 
-  cancel-from : (p y : ℕ) → cancel_check b p ≡ Check.Passed → Is y → is_waiting (stands (cancel b p).board.programs y) ≡ true
+  cancel_from : (p y : ℕ) → cancel_check b p ≡ Check.Passed → Is y → is_waiting (stands (cancel b p).board.programs y) ≡ true
       → prog (cancel b p).board.programs y ≡ prog b.programs y
   unfolding cancel done finish reply
-  cancel-from p y e i = let m = cancel_may b p e in let l = cancel-withdrawn b p k m in let c = withdrawn b p (at b p).standing in
+  cancel_from p y e i = let m = cancel_may b p e in let l = cancel-withdrawn b p k m in let c = withdrawn b p (at b p).standing in
       then_from b.programs c.programs (settle c).board.programs y ((settle_settled c l.w-loose l.w-counts).waited y i)
-      (subst (λ P. is_waiting (stands P y) ≡ true → prog P y ≡ prog b.programs y) (sym l.w-programs)
+      (subst (λ P. is_waiting (stands P y) ≡ true → prog P y ≡ prog b.programs y) (sym l.w_programs)
       (put_waits b.programs p no_program z m.is refl y i))
 
-  leave-from : (p y : ℕ) → leave_check b p ≡ Check.Passed → Is y → is_waiting (stands (leave b p).board.programs y) ≡ true
+  leave_from : (p y : ℕ) → leave_check b p ≡ Check.Passed → Is y → is_waiting (stands (leave b p).board.programs y) ≡ true
       → prog (leave b p).board.programs y ≡ prog b.programs y
   unfolding leave finish reply
-  leave-from p y e i = let m = leave_may b p e in let l = leave_left b p k m in let c = count_leave (set_program b p no_program) in
+  leave_from p y e i = let m = leave_may b p e in let l = leave_left b p k m in let c = count_leave (set_program b p no_program) in
       let h = hand_on c (at b p).file (at b p).item in
       then_from b.programs c.programs (settle h.board).board.programs y
       ((hand_settled c (at b p).file (at b p).item l.l-loose l.l-counted l.l-records).waited y i)
-      (subst (λ P. is_waiting (stands P y) ≡ true → prog P y ≡ prog b.programs y) (sym l.l-programs)
+      (subst (λ P. is_waiting (stands P y) ≡ true → prog P y ≡ prog b.programs y) (sym l.l_programs)
       (put_waits b.programs p no_program z m.is refl y i))
 
   return_from : (p y : ℕ) → return_check b p ≡ Check.Passed → Is y → is_waiting (stands (return_item b p).board.programs y) ≡ true
@@ -149,20 +149,20 @@ module _ (b : Board) (k : Good b) where
       ((return_settled b p k m).waited y i)
       (put_waits b.programs p (set_item (at b p) 0 0) z m.is (ap is_waiting m.runs) y i)
 
-  accepted-from : (c : Call) → checked b c ≡ Check.Passed → (y : ℕ) → Is y → is_waiting (stands (accepted b c).board.programs y) ≡ true
+  accepted_from : (c : Call) → checked b c ≡ Check.Passed → (y : ℕ) → Is y → is_waiting (stands (accepted b c).board.programs y) ≡ true
       → From b c (accepted b c) y
-  accepted-from (Enter p v q j) e y i u = inl (enter_from b p v q j z (enter_may b p v q j e).is y i u)
-  accepted-from (Open p f) e y i u = open_from b p f z (open_may b p f e) y i u
-  accepted-from (Close p f) e y i u = inl (close-from p f y e i u)
-  accepted-from (Drop p f) e y i u = inl (drop-from p f y e i u)
-  accepted-from (Leave p) e y i u = inl (leave-from p y e i u)
-  accepted-from (Cancel p) e y i u = inl (cancel-from p y e i u)
-  accepted-from (Fetch p f r) e y i u = fetch_from b p f r z (fetch_may b p f r e) y i u
-  accepted-from (Return p) e y i u = inl (return_from p y e i u)
+  accepted_from (Enter p v q j) e y i u = inl (enter_from b p v q j z (enter_may b p v q j e).is y i u)
+  accepted_from (Open p f) e y i u = open_from b p f z (open_may b p f e) y i u
+  accepted_from (Close p f) e y i u = inl (close_from p f y e i u)
+  accepted_from (Drop p f) e y i u = inl (drop_from p f y e i u)
+  accepted_from (Leave p) e y i u = inl (leave_from p y e i u)
+  accepted_from (Cancel p) e y i u = inl (cancel_from p y e i u)
+  accepted_from (Fetch p f r) e y i u = fetch_from b p f r z (fetch_may b p f r e) y i u
+  accepted_from (Return p) e y i u = inl (return_from p y e i u)
 
-  pub waits-from : (c : Call) (y : ℕ) → Is y → is_waiting (stands (apply b c).board.programs y) ≡ true → From b c (apply b c) y
+  pub waits_from : (c : Call) (y : ℕ) → Is y → is_waiting (stands (apply b c).board.programs y) ≡ true → From b c (apply b c) y
   unfolding refuse reply
-  waits-from c y i u = by_check (checked b c)
+  waits_from c y i u = by_check (checked b c)
       (λ e. let d = apply-accepted b c e in subst (λ r. From b c r y) (sym d)
-      (accepted-from c e y i (ap (λ (r : Reply). is_waiting (stands r.board.programs y)) (sym d) ∙ u)))
+      (accepted_from c e y i (ap (λ (r : Reply). is_waiting (stands r.board.programs y)) (sym d) ∙ u)))
       (λ r e. inl (ap (λ (q : Reply). prog q.board.programs y) (apply-refused b c r e)))

@@ -204,12 +204,12 @@ never_not_sound cs r m e = let k = replies_number empty_board cs r Refusal.NotSo
 -- ── Every reply carries the order of its board, its lines in 32 places and its order in 32 places ──
 
 pub record IsReply (r : Reply) : Type 0 where
-  pub its-lines : List Line
-  pub is : r ≡ reply r.board r.answer its-lines
+  pub its_lines : List Line
+  pub is : r ≡ reply r.board r.answer its_lines
 
 made : (b : Board) (a : Answer) (ls : List Line) → IsReply (reply b a ls)
 unfolding reply
-made b a ls = record { its-lines = ls; is = refl }
+made b a ls = record { its_lines = ls; is = refl }
 
 accepted-reply : (b : Board) (c : Call) → IsReply (accepted b c)
 unfolding enter hold_for open_file close_file drop_file leave cancel done finish fetch return_item
@@ -237,7 +237,7 @@ reply-order b a ls = take_padded 0 (get_or (carried b) [])
 pub order-carried : (b : Board) (c : Call) → order_of (apply b c) ≡ get_or (carried (apply b c).board) []
 order-carried b c =
     let k = apply-reply b c in
-    ap order_of k.is ∙ reply-order (apply b c).board (apply b c).answer k.its-lines
+    ap order_of k.is ∙ reply-order (apply b c).board (apply b c).answer k.its_lines
 
 -- The carried order of a sound board is a completion order.
 pub carried-order : (b : Board) → Good b → (o : List ℕ) × (carried b ≡ some o) × CompletionOrder b o
@@ -271,9 +271,9 @@ apply_fits b c g =
     let r = apply b c in
     let k = apply-reply b c in
     let m = (apply_stepped b c g).many in
-    let n = ap (λ (q : Reply). q.count) k.is ∙ reply_count r.board r.answer k.its-lines
+    let n = ap (λ (q : Reply). q.count) k.is ∙ reply_count r.board r.answer k.its_lines
     ∙ ap (λ q. length (lines_of q)) (sym k.is) in
-    let p = ap (λ (q : Reply). q.placed) k.is ∙ reply-placed r.board r.answer k.its-lines
+    let p = ap (λ (q : Reply). q.placed) k.is ∙ reply-placed r.board r.answer k.its_lines
     ∙ ap (λ q. length (order_of q)) (sym k.is) in
     let o = order_of_reply b c g in
     let l = no_longer (order_of r) everyone o.once

@@ -18,7 +18,7 @@ use Rattle.store.specs.declared.Seat.{Seat}
 use Rattle.store.specs.declared.Rest.{Rest}
 use Rattle.store.specs.Sets.{Sets}
 use Rattle.store.specs.Store.{no_seat, program_with, programs_from, board_of}
-use Rattle.store.proofs.Boards.{board-size, board-in}
+use Rattle.store.proofs.Boards.{board-size, board_in}
 
 -- the set of a row of one word
 pub word_set : (s : List ℕ) → length s ≡ word_count → get_or s 0 0 < 2 ^ 64 → record { bits = get_or s 0 0 } ≡ set_of s
@@ -42,7 +42,7 @@ made_size sets seats = board-size sets (seated seats)
 
 pub made_in : (sets : Sets) (seats : List Seat) (i : ℕ) → i < 32 → get_or (made sets seats) i no_program ≡ program_with sets i (get_or seats i no_seat)
 unfolding board_of
-made_in sets seats = board-in sets (seated seats)
+made_in sets seats = board_in sets (seated seats)
 
 -- ---- programs one after another
 

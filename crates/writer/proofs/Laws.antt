@@ -317,17 +317,17 @@ module _ (a : Asked) (buffer : List ℕ) where
   file-placed w after e k = (rw e k.0, rw e k.1)
 
 module _ (a : Asked) (buffer : List ℕ) where
-  pub record-file : is_file a.file ≡ false → (Writing.Refused Unwritten.OutOfRange ≡ record_writing a buffer) × (buffer ≡ record_filled a buffer)
-  record-file e = (rw e, rw e)
+  pub record_file : is_file a.file ≡ false → (Writing.Refused Unwritten.OutOfRange ≡ record_writing a buffer) × (buffer ≡ record_filled a buffer)
+  record_file e = (rw e, rw e)
 
-  pub record-refused : is_file a.file ≡ true → is_record a.item ≡ false
+  pub record_refused : is_file a.file ≡ true → is_record a.item ≡ false
       → (Writing.Refused Unwritten.BadRecord ≡ record_writing a buffer) × (buffer ≡ record_filled a buffer)
-  record-refused e n = (rw (e, n), rw (e, n))
+  record_refused e n = (rw (e, n), rw (e, n))
 
-  pub record-placed : (w : Writing) (after : List ℕ) → is_file a.file ≡ true → is_record a.item ≡ true
+  pub record_placed : (w : Writing) (after : List ℕ) → is_file a.file ≡ true → is_record a.item ≡ true
       → (w ≡ placing (line_as Shape.Record a []) buffer) × (after ≡ placed_in (line_as Shape.Record a []) buffer)
       → (w ≡ record_writing a buffer) × (after ≡ record_filled a buffer)
-  record-placed w after e n k = (rw (e, n) k.0, rw (e, n) k.1)
+  record_placed w after e n k = (rw (e, n) k.0, rw (e, n) k.1)
 
 pub label_size : (label : List ℕ) → (length label ≡ label_width → ⊥) → is_label label ≡ false
 label_size label h = rw (ne_eqb (length label) label_width h)
@@ -398,14 +398,14 @@ module _ (a : Asked) (label buffer : List ℕ) where
   out_of_range Shape.Alone h = (rw h, rw h)
 
   module _ (w : Writing) (after : List ℕ) (range : is_program a.program ≡ true) where
-    pub as-entry : w ≡ entry_writing a label buffer → after ≡ entry_filled a label buffer → WroteAs Shape.Entry w after
-    as-entry ew ea = (rw range ew, rw range ea)
+    pub as_entry : w ≡ entry_writing a label buffer → after ≡ entry_filled a label buffer → WroteAs Shape.Entry w after
+    as_entry ew ea = (rw range ew, rw range ea)
 
-    pub as-file : w ≡ file_writing a buffer → after ≡ file_filled a buffer → WroteAs Shape.File w after
-    as-file ew ea = (rw range ew, rw range ea)
+    pub as_file : w ≡ file_writing a buffer → after ≡ file_filled a buffer → WroteAs Shape.File w after
+    as_file ew ea = (rw range ew, rw range ea)
 
-    pub as-record : w ≡ record_writing a buffer → after ≡ record_filled a buffer → WroteAs Shape.Record w after
-    as-record ew ea = (rw range ew, rw range ea)
+    pub as_record : w ≡ record_writing a buffer → after ≡ record_filled a buffer → WroteAs Shape.Record w after
+    as_record ew ea = (rw range ew, rw range ea)
 
-    pub as-alone : w ≡ placing (line_as Shape.Alone a []) buffer → after ≡ placed_in (line_as Shape.Alone a []) buffer → WroteAs Shape.Alone w after
-    as-alone ew ea = (rw range ew, rw range ea)
+    pub as_alone : w ≡ placing (line_as Shape.Alone a []) buffer → after ≡ placed_in (line_as Shape.Alone a []) buffer → WroteAs Shape.Alone w after
+    as_alone ew ea = (rw range ew, rw range ea)

@@ -7,7 +7,7 @@ use Rattle.rules.specs.Calls.{Call, call_with, checked, accepted}
 use Rattle.store.specs.declared.Seat.{Seat}
 use Rattle.store.specs.Store.{board_of}
 use Rattle.apply.specs.Replies.{near_check}
-use Rattle.apply.proofs.Laws.{apply-passed, apply-failed, checked-near, call_same, by_program, none_entries}
+use Rattle.apply.proofs.Laws.{apply-passed, apply_failed, checked_near, call_same, by_program, none_entries}
 use borrow.Author.Rules.{rules}
 use Rattle.apply.proofs.call_by.Statement.{statement}
 use Rattle.apply.proofs.call_by.Tie as tie
@@ -35,7 +35,7 @@ told : (k : tie.After-check_call-check) → k.check_call-check.result ≡ checke
 told k = let n = numbered k in let f = n.before in let s = start k in let a = s.args in
     k.check_call-check.ensures
     ∙ ap (λ (x : Seat). near_check a.sets.now a.p x f.file_of-f.result n.record_of-n.result a.a.verb a.a.claims) k.before.seat_at-seat.ensures
-    ∙ checked-near a.sets.now a.rest a.p s.requires.0.0 s.requires.0.1 s.requires.3 _ a.a.file _ a.a.item a.a.claims f.file_of-f.ensures.0 n.record_of-n.ensures a.a.verb
+    ∙ checked_near a.sets.now a.rest a.p s.requires.0.0 s.requires.0.1 s.requires.3 _ a.a.file _ a.a.item a.a.claims f.file_of-f.ensures.0 n.record_of-n.ensures a.a.verb
 
 -- once they have passed, the call is that with their numbers
 same : (k : tie.After-check_call-check) → let s = start k in k.check_call-check.result ≡ Check.Passed
@@ -63,7 +63,7 @@ returns c = let t = c.before.before.before in let k = t.before in let s = start 
 
 returns-2 : tie.Need-returns-in-Failed
 returns-2 c = let t = c.before.before in let d = c.before.check.given in let k = t.before.before in let s = start c.before.before in let a = s.args in (
-  c.refused.ensures.0 ∙ apply-failed (board s) (wanted s) d.0.0 (sym (told c.before.before) ∙ d.1)
+  c.refused.ensures.0 ∙ apply_failed (board s) (wanted s) d.0.0 (sym (told c.before.before) ∙ d.1)
       ∙ by_program (board s) a.a a.p s.requires.1,
   (s.requires.3, none_entries a.lines.now s.requires.4, c.refused.ensures.1),
 )

@@ -5,7 +5,7 @@ use Rattle.rules.specs.declared.Board.{Board}
 use Rattle.rules.specs.Boards.{at}
 use Rattle.rules.specs.Calls.{done, withdrawn, cancel}
 use Rattle.store.specs.Store.{board_of}
-use Rattle.store.proofs.Changing.{standing-is}
+use Rattle.store.proofs.Changing.{standing_is}
 use Rattle.apply.proofs.Laws.{cancel_settles, leaves-few}
 use Rattle.apply.proofs.do_cancel.Statement.{statement}
 use Rattle.apply.proofs.do_cancel.Tie as tie
@@ -18,7 +18,7 @@ changed : (k : tie.After-withdraw-c) → let s = k.before.before in let a = s.ar
     board_of k.withdraw-c.new.sets k.withdraw-c.result ≡ withdrawn (board s) a.p (at (board s) a.p).standing
 changed k = let s = k.before.before in let a = s.args in k.withdraw-c.ensures.0
     ∙ ap (λ (x : Standing). withdrawn (board s) a.p x)
-    (s.requires.3 ∙ sym (standing-is a.sets.now a.rest a.p s.requires.0.0 s.requires.0.1 s.requires.4))
+    (s.requires.3 ∙ sym (standing_is a.sets.now a.rest a.p s.requires.0.0 s.requires.0.1 s.requires.4))
 
 withdraw-requires : tie.Need-withdraw-c-requires
 withdraw-requires c κs = let s = c.before in let a = s.args in (s.requires.0, leaves-few a.sets.now a.rest s.requires.1, s.requires.4)

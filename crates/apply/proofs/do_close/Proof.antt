@@ -5,7 +5,7 @@ use Rattle.rules.specs.Boards.{at, set_program, closing}
 use Rattle.rules.specs.Calls.{done, close_file}
 use Rattle.store.specs.Sets.{Sets, IsStore}
 use Rattle.store.specs.Store.{board_of}
-use Rattle.store.proofs.Changing.{closed-store, closed-board}
+use Rattle.store.proofs.Changing.{closed_store, closed-board}
 use Rattle.apply.proofs.Laws.{close_settles}
 use borrow.Author.Rules.{rules}
 use Rattle.apply.proofs.do_close.Statement.{statement}
@@ -23,7 +23,7 @@ changed k = let s = k.before.before in let a = s.args in ap (λ (x : Sets). boar
 done-requires : tie.Need-done-requires
 done-requires c κs = let k = c.before.before in let s = k.before.before in let a = s.args in (
   close_settles (board s) _ a.p a.f (changed k) s.requires.1 s.requires.2,
-  subst IsStore (sym k.close.ensures) (closed-store a.sets.now a.rest a.p a.f s.requires.0.0 s.requires.0.1 s.requires.3),
+  subst IsStore (sym k.close.ensures) (closed_store a.sets.now a.rest a.p a.f s.requires.0.0 s.requires.0.1 s.requires.3),
   s.requires.4,
 )
 

@@ -5,7 +5,7 @@ use Rattle.rules.specs.Boards.{at, set_program, dropping}
 use Rattle.rules.specs.Calls.{done, drop_file}
 use Rattle.store.specs.Sets.{Sets, IsStore}
 use Rattle.store.specs.Store.{board_of}
-use Rattle.store.proofs.Changing.{dropped-store, dropped-board}
+use Rattle.store.proofs.Changing.{dropped_store, dropped_board}
 use Rattle.apply.proofs.Laws.{drop_settles}
 use borrow.Author.Rules.{rules}
 use Rattle.apply.proofs.do_drop.Statement.{statement}
@@ -18,12 +18,12 @@ board s = board_of s.args.sets.now s.args.rest
 changed : (k : tie.After-drop) → let s = k.before.before in let a = s.args in
     board_of k.drop.new.sets a.rest ≡ set_program (board s) a.p (dropping (at (board s) a.p) a.f)
 changed k = let s = k.before.before in let a = s.args in ap (λ (x : Sets). board_of x a.rest) k.drop.ensures
-    ∙ dropped-board a.sets.now a.rest a.p a.f s.requires.0.0 s.requires.0.1 s.requires.3
+    ∙ dropped_board a.sets.now a.rest a.p a.f s.requires.0.0 s.requires.0.1 s.requires.3
 
 done-requires : tie.Need-done-requires
 done-requires c κs = let k = c.before.before in let s = k.before.before in let a = s.args in (
   drop_settles (board s) _ a.p a.f (changed k) s.requires.1 s.requires.2,
-  subst IsStore (sym k.drop.ensures) (dropped-store a.sets.now a.rest a.p a.f s.requires.0.0 s.requires.0.1 s.requires.3),
+  subst IsStore (sym k.drop.ensures) (dropped_store a.sets.now a.rest a.p a.f s.requires.0.0 s.requires.0.1 s.requires.3),
   s.requires.4,
 )
 

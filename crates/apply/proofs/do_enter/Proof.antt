@@ -11,7 +11,7 @@ use Rattle.rules.specs.Replies.{reply}
 use Rattle.store.specs.Store.{board_of}
 use Rattle.settling.proofs.Laws.{all_waiting}
 use Rattle.settling.proofs.Admitting.{overdue-none, overdue_some}
-use Rattle.apply.proofs.Laws.{entry_free, favoured_is, enter-held, enter-for, enter-runs}
+use Rattle.apply.proofs.Laws.{entry_free, favoured_is, enter-held, enter_for, enter-runs}
 use borrow.Author.Rules.{rules}
 use Rattle.apply.proofs.do_enter.Statement.{statement}
 use Rattle.apply.proofs.do_enter.Tie as tie
@@ -52,7 +52,7 @@ hold-for-requires c κs = let i = c.before.before in let o = i.before in let s =
 returns-2 : tie.Need-returns-then-overdue-ne0
 returns-2 c = let i = c.before.before.before in let o = i.before in let e = o.before.before in let s = e in let a = s.args in (
   c.hold_for.ensures.0
-      ∙ enter-for (board s) a.p a.claims.writable a.claims.readable a.claims.inquirable o.oldest_overdue-overdue.result (nobody c.before.before.before.before.before)
+      ∙ enter_for (board s) a.p a.claims.writable a.claims.readable a.claims.inquirable o.oldest_overdue-overdue.result (nobody c.before.before.before.before.before)
       (overdue_some (board s) o.oldest_overdue-overdue.result s.requires.1.loose o.oldest_overdue-overdue.ensures i.if-overdue-ne0.true).0,
   c.hold_for.ensures.1,
 )

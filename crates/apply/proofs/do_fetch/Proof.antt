@@ -8,7 +8,7 @@ use Rattle.rules.specs.Orders.{taken}
 use Rattle.rules.specs.Settling.{line_of}
 use Rattle.rules.specs.Replies.{reply}
 use Rattle.store.specs.Store.{board_of}
-use Rattle.tables.proofs.Taken.{seats-taken}
+use Rattle.tables.proofs.Taken.{seats_taken}
 use Rattle.apply.proofs.Laws.{fetching-free, fetch_waits, fetch-gets}
 use borrow.Author.Rules.{rules}
 use Rattle.apply.proofs.do_fetch.Statement.{statement}
@@ -19,7 +19,7 @@ board s = board_of s.args.sets.now s.args.rest
 
 -- whether another has it
 has : (t : tie.After-is_taken) → let s = t.before in let a = s.args in t.is_taken.result ≡ taken (board s) a.p a.f a.n
-has t = let a = t.before.args in t.is_taken.ensures ∙ seats-taken a.sets.now a.rest a.p a.f a.n
+has t = let a = t.before.args in t.is_taken.ensures ∙ seats_taken a.sets.now a.rest a.p a.f a.n
 
 put-waiting-requires : tie.Need-put_waiting-c-requires
 put-waiting-requires c κs = let s = c.before.before in let a = s.args in

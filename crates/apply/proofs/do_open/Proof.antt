@@ -21,7 +21,7 @@ use Rattle.tables.proofs.Given.{seats_admitted}
 use Rattle.search.specs.Gives.{uses_in}
 use Rattle.search.specs.Rows.{as_order}
 use Rattle.search.proofs.Used.{used_by_lem}
-use Rattle.apply.proofs.Laws.{waiting-free, open_wait, open_waits, open_unsafe, open_given, not-safe, is-safe, found_carries}
+use Rattle.apply.proofs.Laws.{waiting_free, open_wait, open_waits, open_unsafe, open_given, not_safe, is-safe, found_carries}
 use borrow.Author.Rules.{rules}
 use Rattle.apply.proofs.do_open.Statement.{statement}
 use Rattle.apply.proofs.do_open.Tie as tie
@@ -57,7 +57,7 @@ same-sets o = o.order_given-order.ensures.1
 
 put-waiting-requires : tie.Need-put_waiting-c-requires
 put-waiting-requires c κs = let s = start c.before.before in let a = s.args in
-    (s.requires.0, waiting-free a.sets.now a.rest a.p a.f s.requires.1 s.requires.2, s.requires.3)
+    (s.requires.0, waiting_free a.sets.now a.rest a.p a.f s.requires.1 s.requires.2, s.requires.3)
 
 returns : tie.Need-returns-then-in_use
 returns c = let w = c.before.before.before in let i = w.before.before in let u = i.before in let s = start u in let a = s.args in (
@@ -71,7 +71,7 @@ still-store o = subst IsStore (sym (same-sets o)) (start (tested o)).requires.3
 
 put-waiting-requires-2 : tie.Need-put_waiting-c-requires-in_default
 put-waiting-requires-2 c κs = let o = c.before.before in let s = start (tested o) in let a = s.args in
-    (s.requires.0, waiting-free a.sets.now a.rest a.p a.f s.requires.1 s.requires.2, still-store c.before)
+    (s.requires.0, waiting_free a.sets.now a.rest a.p a.f s.requires.1 s.requires.2, still-store c.before)
 
 returns-2 : tie.Need-returns-in_default
 returns-2 c = let w = c.before.before.before in let t = w.before in let o = t.before.before in let i = o.before.before in
@@ -80,7 +80,7 @@ returns-2 c = let w = c.before.before.before in let t = w.before in let o = t.be
           (c.before.before.put_waiting-c-in_default.ensures ∙ ap (λ (x : Sets). waiting_for (board_of x a.rest) a.p a.f 0 0) (same-sets c.before.before.before.before)
           ∙ open_wait (board s) a.p a.f s.requires.1 s.requires.2)
           ∙ open_unsafe (board s) a.p a.f (sym (used c.before.before.before.before.before.before.before) ∙ c.before.before.before.before.before.before.if-in_use.false)
-          (not-safe (board s) a.p a.f c.before.before.before.before.order_given-order.result (sought c.before.before.before.before) c.before.before.before.in_default.is),
+          (not_safe (board s) a.p a.f c.before.before.before.before.order_given-order.result (sought c.before.before.before.before) c.before.before.before.in_default.is),
       (still-store c.before.before.before.before, c.answered-in_default.ensures.1.0, c.answered-in_default.ensures.1.1),
     )
 

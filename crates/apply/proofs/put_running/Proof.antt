@@ -5,7 +5,7 @@ use Rattle.rules.specs.Calls.{admit}
 use Rattle.store.specs.declared.Rest.{Rest}
 use Rattle.store.specs.Store.{board_of}
 use Rattle.settling.specs.Writing.{CountsFew}
-use Rattle.store.proofs.Boards.{with-passed}
+use Rattle.store.proofs.Boards.{with_passed_lem}
 use borrow.Author.Rules.{rules}
 use Rattle.apply.proofs.put_running.Statement.{statement}
 use Rattle.apply.proofs.put_running.Tie as tie
@@ -19,7 +19,7 @@ returns : tie.Need-returns
 unfolding admit
 returns c = let k = c.before.before in let n = k.before.before in let a = n.args in
     let e = c.before.put-c.ensures.0 ∙ ap (set_program (board_of a.sets.now a.rest) a.p) c.before.before.before.new_program-runs.ensures in
-    (with-passed _ c.before.put-c.result _ e _ _ (c.tally-passed.ensures ∙ ap tallied e), c.before.put-c.ensures.1.1)
+    (with_passed_lem _ c.before.put-c.result _ e _ _ (c.tally-passed.ensures ∙ ap tallied e), c.before.put-c.ensures.1.1)
 
 pub put_running_spec : {M : Type 1} → statement M
 put_running_spec = tie.close (tie.spec (λ c κs. search rules) (λ c κs. search rules) tally-requires returns)

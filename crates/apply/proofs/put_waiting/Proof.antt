@@ -4,22 +4,22 @@ use lib.ListN.{length, length-map}
 use Rattle.rules.specs.declared.Standing.{Standing}
 use Rattle.store.specs.declared.Rest.{Rest}
 use Rattle.store.specs.Store.{board_of}
-use Rattle.store.proofs.Changing.{reseat-board}
-use Rattle.store.proofs.Boards.{with-waiting}
+use Rattle.store.proofs.Changing.{reseat_board}
+use Rattle.store.proofs.Boards.{with_waiting_lem}
 use borrow.Author.Rules.{rules}
 use Rattle.apply.proofs.put_waiting.Statement.{statement}
 use Rattle.apply.proofs.put_waiting.Tie as tie
 
-seats-are : (t : tie.Start) → length t.args.rest.seats ≡ 32
-seats-are t = search rules
+seats_are : (t : tie.Start) → length t.args.rest.seats ≡ 32
+seats_are t = search rules
 
 returns : tie.Need-returns
 unfolding board_of
 returns c = let s = c.before.before.before in let a = s.args in
-    with-waiting a.sets.now c.put_seat-c.result _
+    with_waiting_lem a.sets.now c.put_seat-c.result _
     (ap (λ (r : Rest). board_of a.sets.now r) c.put_seat-c.ensures
-    ∙ reseat-board a.sets.now a.rest a.p s.requires.0.0 s.requires.0.1 s.requires.2
-    (record { standing = Standing.Waiting a.f; file = a.g; item = a.n }) (seats-are s))
+    ∙ reseat_board a.sets.now a.rest a.p s.requires.0.0 s.requires.0.1 s.requires.2
+    (record { standing = Standing.Waiting a.f; file = a.g; item = a.n }) (seats_are s))
     _ _ c.before.append-longer.ensures
 
 pub put_waiting_spec : {M : Type 1} → statement M

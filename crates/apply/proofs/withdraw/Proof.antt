@@ -5,8 +5,8 @@ use Rattle.rules.specs.declared.Board.{Board}
 use Rattle.rules.specs.Calls.{count_cancel}
 use Rattle.store.specs.declared.Rest.{Rest}
 use Rattle.store.specs.Store.{board_of}
-use Rattle.store.proofs.Boards.{with-entry}
-use Rattle.apply.proofs.Laws.{with-cancelled}
+use Rattle.store.proofs.Boards.{with_entry_lem}
+use Rattle.apply.proofs.Laws.{with_cancelled}
 use borrow.Author.Rules.{rules}
 use Rattle.apply.proofs.withdraw.Statement.{statement}
 use Rattle.apply.proofs.withdraw.Tie as tie
@@ -26,7 +26,7 @@ unfolding board_of
 returns-3 c = let k = c.before.before in let m = k.before.before in let t = m.before in let a = t.before.args in
     rw c.before.before.before.before.before.in-Waiting.is (
       c.cancel_counted.ensures ∙ ap (λ (x : Board). count_cancel x a.p)
-          (with-cancelled _ c.before.put-c.result _ c.before.put-c.ensures.0 a.p _ _ c.before.before.before.remove-waiters.ensures),
+          (with_cancelled _ c.before.put-c.result _ c.before.put-c.ensures.0 a.p _ _ c.before.before.before.remove-waiters.ensures),
       c.before.put-c.ensures.1.1,
     )
 
@@ -34,7 +34,7 @@ returns-4 : tie.Need-returns-in-Held
 unfolding board_of
 returns-4 c = let m = c.before.before in let t = m.before.before in
     rw t.in-Held.is
-    (with-entry _ c.put-c-in-Held.result _ c.put-c-in-Held.ensures.0 _ _ m.remove-held.ensures, c.put-c-in-Held.ensures.1.1)
+    (with_entry_lem _ c.put-c-in-Held.result _ c.put-c-in-Held.ensures.0 _ _ m.remove-held.ensures, c.put-c-in-Held.ensures.1.1)
 
 pub withdraw_spec : {M : Type 1} → statement M
 withdraw_spec =

@@ -5,7 +5,7 @@ use mathlib.Core.Path.{◌≡◌}
 use native.Mathlib.Omega.{arith}
 use lib.ListN.{length, drop}
 use Rattle.board.specs.Input.{first_line}
-use Rattle.board.proofs.Laws.{line-goes_on, line-ends, line_out}
+use Rattle.board.proofs.Laws.{line_goes_on, line-ends, line_out}
 use Rattle.board.proofs.line_end.Statement.{statement}
 use Rattle.board.proofs.line_end.Tie as tie
 
@@ -26,7 +26,7 @@ loop-again : tie.Need-loop-i-preserved invariant-loop decreases-loop
 loop-again c =
     let s = c.before.before.before.before.args in
     let l = c.before.before.before.loop-i in
-    let e = line-goes_on s.s.now l.i (omega arith) c.if-s-i-eq10.false in
+    let e = line_goes_on s.s.now l.i (omega arith) c.if-s-i-eq10.false in
     (omega arith, omega arith)
 
 returns-2 : tie.Need-returns invariant-loop decreases-loop

@@ -10,7 +10,7 @@ use Rattle.columns.specs.Columns.{program_width, word_width, columns_of}
 use Rattle.columns.specs.Rows.{flat}
 use Rattle.columns.proofs.Laws.{columns_length}
 use Rattle.columns.proofs.Rows.{start, step}
-use Rattle.lines.proofs.Laws.{names-stop, names-end}
+use Rattle.lines.proofs.Laws.{names_stop, names_end}
 use Rattle.board.proofs.Laws.{names_more, names-done}
 use borrow.Author.Rules.{rules}
 use Rattle.board.proofs.put_programs.Statement.{statement}
@@ -58,7 +58,7 @@ returns c =
     let s = c.before.before.before in
     let l = c.before.loop-i in
     let n = long s in
-    let e = names-end s.args.programs l.i (omega arith) in
+    let e = names_end s.args.programs l.i (omega arith) in
     (rw l.invariant.1 (names-done s.args.programs l.i s.args.out.now l.out (omega arith) (omega arith) e l.invariant.4 l.invariant.3), omega arith)
 
 same-length-2 : tie.Need-shape_of-out-then-p-eq0 invariant-loop decreases-loop
@@ -69,7 +69,7 @@ returns-2 c =
     let s = c.before.before.before.before in
     let l = c.before.before.loop-i in
     let n = long s in
-    let e = names-stop s.args.programs l.i (omega arith) c.if-p-eq0.true in
+    let e = names_stop s.args.programs l.i (omega arith) c.if-p-eq0.true in
     (rw l.invariant.1 (names-done s.args.programs l.i s.args.out.now l.out (omega arith) (omega arith) e l.invariant.4 l.invariant.3), omega arith)
 
 pub put_programs_spec : {M : Type 1} → statement M

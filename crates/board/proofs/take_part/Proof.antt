@@ -10,7 +10,7 @@ use Rattle.rules.specs.Soundness.{sound}
 use Rattle.store.specs.Sets.{IsStore}
 use Rattle.store.specs.Store.{board_of}
 use Rattle.board.specs.Input.{buffer_length, last_place, held, fed}
-use Rattle.board.proofs.Laws.{part_begins, part-ends, part-line}
+use Rattle.board.proofs.Laws.{part_begins, part_ends, part_line}
 use Rattle.request.specs.Verbs.{cut_line}
 use borrow.Author.Rules.{rules}
 use Rattle.board.proofs.take_part.Statement.{statement}
@@ -62,7 +62,7 @@ returns c =
     let j = take l.s.out.place l.journal in
     let z : e.result ≡ length p = t.if-end-part.true in (
       ap (λ (x : List ℕ). held (board_of l.sets l.s.rest) x j) k.keep.ensures.0
-          ∙ part-ends _ (board_of l.sets l.s.rest) (take l.s.kept l.kept) j p l.at e.result
+          ∙ part_ends _ (board_of l.sets l.s.rest) (take l.s.kept l.kept) j p l.at e.result
           (omega (arith, length-take l.s.kept l.kept)) e.ensures.0 l.invariant.5 z,
       (
         (l.invariant.6, k.keep.ensures.1, omega (arith, l.invariant.2), l.invariant.7, l.invariant.8),
@@ -94,7 +94,7 @@ line_taken k =
     let j = take r.out.place k.end_line-s.new.journal in
     ap (λ (n : ℕ). held (board_of k.end_line-s.new.sets r.rest) (take n k.end_line-s.new.kept) j) k.end_line-s.ensures.1.1
     ∙ k.end_line-s.ensures.0
-    ∙ part-line _ (board_of l.sets l.s.rest) (take l.s.kept l.kept) (take l.s.out.place l.journal) p l.at e.result
+    ∙ part_line _ (board_of l.sets l.s.rest) (take l.s.kept l.kept) (take l.s.out.place l.journal) p l.at e.result
     (omega (arith, length-take l.s.kept l.kept)) e.ensures.0 l.invariant.5 (ends-within k)
 
 -- the length of a part is a number of 64 bits

@@ -33,7 +33,7 @@ read i = Laws.image_read (start i).args.image.now (found i.before)
 returns : tie.Need-returns-then-not-ok
 returns c = let k = c.before.before in let a = k.before.before.before.before.before.args in
     let n = not-true k.take_image-taken.result.ok c.before.if-not-ok.true in
-    let e = Laws.host-refused a.image.now a.line.now a.journal.now a.place
+    let e = Laws.host_refused a.image.now a.line.now a.journal.now a.place
     (ap (λ (x : Loaded). x.ok) (sym (rw n at k.take_image-taken.ensures.0))) in
     (rw e c.answer_for.ensures, (rw e, rw e))
 

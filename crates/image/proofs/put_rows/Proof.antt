@@ -11,7 +11,7 @@ use Rattle.rules.specs.Boards.{no_program}
 use Rattle.whole.proofs.Laws.{made, made_size, made_in}
 use Rattle.image.specs.Image.{row_of, row_section}
 use Rattle.image.proofs.Sections.{flat_map}
-use Rattle.image.proofs.Laws.{put-row_part}
+use Rattle.image.proofs.Laws.{put_row_part}
 use Rattle.image.proofs.RoundTrip.{row_bytes, row-length}
 use Rattle.image.proofs.put_rows.Statement.{statement}
 use Rattle.image.proofs.put_rows.Tie as tie
@@ -40,7 +40,7 @@ loop-again c =
     let z : l.i + 1 - 1 ≡ l.i = omega arith in (
       omega arith,
       omega arith,
-      put-row_part row_bytes row_section.size row-length a.out.now l.out p.put_row.new.out m no_program l.i
+      put_row_part row_bytes row_section.size row-length a.out.now l.out p.put_row.new.out m no_program l.i
           (omega (arith, made_size a.sets.now a.seats)) l.invariant.2
           (rw (made_in a.sets.now a.seats l.i (search rules)) (rw z at p.put_row.ensures)),
     )

@@ -9,7 +9,7 @@ use Rattle.store.specs.Store.{seat_of, SeatsTo}
 use Rattle.store.proofs.Laws.{sets_more}
 use Rattle.store.proofs.Boards.{seats_more}
 use Rattle.image.specs.Image.{row_section, inquiry_section, front_section, image_section}
-use Rattle.image.proofs.Sections.{row-part, row-after-part}
+use Rattle.image.proofs.Sections.{row_part, row-after_part}
 use Rattle.image.proofs.Stored.{row_in}
 use borrow.Author.Rules.{rules}
 use Rattle.image.proofs.read_rows.Statement.{statement}
@@ -44,8 +44,8 @@ loop-again c =
     let b = image_section.read s in
     let h : l.i < 32 = search rules in
     let z : l.i + 1 - 1 ≡ l.i = omega arith in
-    let row = row-part row_section s l.i in
-    let inquiry = row-after-part inquiry_section s front_section.size l.i in
+    let row = row_part row_section s l.i in
+    let inquiry = row-after_part inquiry_section s front_section.size l.i in
     let put : PutAt (in_place b l.i) l.i l.sets t.read_sets.new.sets
     = rw (row_in s l.i h) (rw (z, row, inquiry) at t.read_sets.ensures) in
     let e : c.read_seat-seat.result ≡ seat_of (in_place b l.i)

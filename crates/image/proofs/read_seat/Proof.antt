@@ -1,5 +1,5 @@
 -- `read_seat` meets its contract. Assumes nothing.
-use Rattle.image.proofs.Stored.{seat-read}
+use Rattle.image.proofs.Stored.{seat_read}
 use borrow.Author.Rules.{rules}
 use Rattle.image.proofs.read_seat.Statement.{statement}
 use Rattle.image.proofs.read_seat.Tie as tie
@@ -9,7 +9,7 @@ returns c =
     let a = c.before.before.before in
     let u = a.before.before.before in
     let s = u.before.before.before.before.before.before.before in
-    seat-read s.args.s.now s.args.x.now u.read_item-u.result a.read_item-a.result s.requires.1
+    seat_read s.args.s.now s.args.x.now u.read_item-u.result a.read_item-a.result s.requires.1
     u.read_item-u.ensures a.read_item-a.ensures _ _ _ c.before.before.standing_of-standing.ensures c.before.file_of-file.ensures c.item_of-item.ensures
 
 pub read_seat_spec : {M : Type 1} → statement M

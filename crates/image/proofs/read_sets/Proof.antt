@@ -10,7 +10,7 @@ use Rattle.image.proofs.read_sets.Tie as tie
 take-three-requires-2 : tie.Need-take_three-requires-2
 take-three-requires-2 c κs = (
   (search rules, search rules, search rules),
-  (omega (arith, c.before.before.before.before.writing_at-w.ensures.0), c.before.before.before.before.before.take_three.ensures.are-store),
+  (omega (arith, c.before.before.before.before.writing_at-w.ensures.0), c.before.before.before.before.before.take_three.ensures.are_store),
 )
 
 returns : tie.Need-returns

@@ -25,7 +25,7 @@ decreases-loop journal₀ place lines count at₀ i₀ journal at i = count - i
 
 -- the lines stand in 32 places
 places : (s : tie.Start invariant-loop decreases-loop) → length (lines_in s.args.lines.now) ≡ 32
-places s = length-lines s.args.lines.now ∙ s.requires.2.places-are
+places s = length-lines s.args.lines.now ∙ s.requires.2.places_are
 
 loop-holds : tie.Need-loop-i-init invariant-loop decreases-loop
 loop-holds c =

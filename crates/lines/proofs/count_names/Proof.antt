@@ -7,7 +7,7 @@ use native.Mathlib.Omega.{arith}
 use lib.ListN.{length, drop}
 use borrow.Author.Rules.{rules}
 use Rattle.laws.specs.Lists.{names}
-use Rattle.lines.proofs.Laws.{names-on, names-stop, names-end}
+use Rattle.lines.proofs.Laws.{names-on, names_stop, names_end}
 use Rattle.lines.proofs.count_names.Statement.{statement}
 use Rattle.lines.proofs.count_names.Tie as tie
 
@@ -23,7 +23,7 @@ loop-holds c = (search rules, zero-add (length (names c.args.line)))
 returns : tie.Need-returns-then-line-k-eq0 invariant-loop decreases-loop
 returns c = let l = c.before.before.loop-k in let a = c.before.before.before.args.line in
     let m : length a ≡ 32 = search rules in
-    let e : length (names (drop l.k a)) ≡ 0 = ap length (names-stop a l.k (omega arith) c.if-line-k-eq0.true) in
+    let e : length (names (drop l.k a)) ≡ 0 = ap length (names_stop a l.k (omega arith) c.if-line-k-eq0.true) in
     (omega (arith, e, l.invariant.1), search rules)
 
 loop-again : tie.Need-loop-k-preserved invariant-loop decreases-loop
@@ -36,7 +36,7 @@ loop-again c = let l = c.before.before.loop-k in let a = c.before.before.before.
 returns-2 : tie.Need-returns invariant-loop decreases-loop
 returns-2 c = let l = c.before.loop-k in let a = c.before.before.args.line in
     let m : length a ≡ 32 = search rules in
-    let e : length (names (drop l.k a)) ≡ 0 = ap length (names-end a l.k (omega arith)) in
+    let e : length (names (drop l.k a)) ≡ 0 = ap length (names_end a l.k (omega arith)) in
     (omega (arith, e, l.invariant.1), search rules)
 
 pub count_names_spec : {M : Type 1} → statement M

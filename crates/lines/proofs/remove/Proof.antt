@@ -8,7 +8,7 @@ use lib.ListN.{length, drop}
 use borrow.Author.Rules.{rules}
 use Rattle.laws.specs.Lists.{padded, names}
 use Rattle.lines.specs.Kept.{kept_as, keep_others}
-use Rattle.lines.proofs.Laws.{names-stop, names-end, keep-on, kept-stop}
+use Rattle.lines.proofs.Laws.{names_stop, names_end, keep-on, kept_stop}
 use Rattle.lines.proofs.remove.Statement.{statement}
 use Rattle.lines.proofs.remove.Tie as tie
 
@@ -25,7 +25,7 @@ loop-holds c = (search rules, search rules, refl)
 returns : tie.Need-returns-then-x-eq0 invariant-loop decreases-loop
 returns c = let l = c.before.before.before.loop-k in let s = c.before.before.before.before.args in
     let m : length s.line ≡ 32 = search rules in
-    kept-stop s.p l.kept s.line l.k m l.invariant.2 (names-stop s.line l.k (omega arith) c.before.if-x-eq0.true)
+    kept_stop s.p l.kept s.line l.k m l.invariant.2 (names_stop s.line l.k (omega arith) c.before.if-x-eq0.true)
 
 loop-again : tie.Need-loop-k-preserved invariant-loop decreases-loop
 loop-again c = let l = c.before.before.before.loop-k in let s = c.before.before.before.before.args in
@@ -39,7 +39,7 @@ loop-again c = let l = c.before.before.before.loop-k in let s = c.before.before.
 returns-2 : tie.Need-returns invariant-loop decreases-loop
 returns-2 c = let l = c.before.before.loop-k in let s = c.before.before.before.args in
     let m : length s.line ≡ 32 = search rules in
-    kept-stop s.p l.kept s.line l.k m l.invariant.2 (names-end s.line l.k (omega arith))
+    kept_stop s.p l.kept s.line l.k m l.invariant.2 (names_end s.line l.k (omega arith))
 
 pub remove_spec : {M : Type 1} → statement M
 remove_spec =

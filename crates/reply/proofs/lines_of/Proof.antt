@@ -22,12 +22,12 @@ loop-again c = let l = c.before.before.before.loop-i in let s = c.before.before.
   search rules,
   search rules,
   lines_more e l.i l.ls c.line_in.result (omega (arith, l.invariant.1))
-      (c.line_in.ensures ∙ sym (line_at e l.i (omega (arith, s.requires.places-are)))) l.invariant.2,
+      (c.line_in.ensures ∙ sym (line_at e l.i (omega (arith, s.requires.places_are)))) l.invariant.2,
 )
 
 returns : tie.Need-returns invariant-loop decreases-loop
 returns c = let l = c.before.loop-i in let a = c.before.before.args in
-    lines_all a.lines.now l.i l.ls l.invariant.1 c.before.before.requires.places-are (omega arith) l.invariant.2
+    lines_all a.lines.now l.i l.ls l.invariant.1 c.before.before.requires.places_are (omega arith) l.invariant.2
 
 pub lines_of_spec : {M : Type 1} → statement M
 lines_of_spec =

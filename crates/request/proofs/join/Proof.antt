@@ -31,11 +31,11 @@ number_is f = sym (read f).read_number-field.ensures ∙ f.in-Number.is
 
 returns-2 : tie.Need-returns-then-g-f
 returns-2 c = let w = c.before.before in let f = numbered w in
-    Laws.join-rises (read f).before.before.before.args.g _ _ w.with-files.result (number_is f) w.with-files.ensures c.if-g-f.true
+    Laws.join_rises (read f).before.before.before.args.g _ _ w.with-files.result (number_is f) w.with-files.ensures c.if-g-f.true
 
 returns-3 : tie.Need-returns
 returns-3 c = let w = c.before.before in let f = numbered w in
-    Laws.join-falls (read f).before.before.before.args.g _ _ w.with-files.result (number_is f) w.with-files.ensures c.if-g-f.false
+    Laws.join_falls (read f).before.before.before.args.g _ _ w.with-files.result (number_is f) w.with-files.ensures c.if-g-f.false
 
 pub join_spec : {M : Type 1} → statement M
 join_spec =

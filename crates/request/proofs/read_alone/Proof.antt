@@ -18,12 +18,12 @@ returns c = let a = c.before.before.before.args in
 
 returns-2 : tie.Need-returns-in_default
 returns-2 c = let n = c.before.before in let e = sized n in let a = (start e).args in
-    c.refusing-in_default.ensures ∙ sym (Laws.alone-program a.verb a.line.now e.if-line-ne-ALONE_LEN.false
+    c.refusing-in_default.ensures ∙ sym (Laws.alone_program a.verb a.line.now e.if-line-ne-ALONE_LEN.false
     (sym n.read_program-field.ensures ∙ c.before.in_default.is))
 
 returns-3 : tie.Need-returns
 returns-3 c = let f = c.before in let n = f.before in let e = sized n in let a = (start e).args in
-    c.taking.ensures ∙ sym (Laws.alone-good a.verb a.line.now _ e.if-line-ne-ALONE_LEN.false (sym n.read_program-field.ensures ∙ f.in-Number.is))
+    c.taking.ensures ∙ sym (Laws.alone_good a.verb a.line.now _ e.if-line-ne-ALONE_LEN.false (sym n.read_program-field.ensures ∙ f.in-Number.is))
 
 pub read_alone_spec : {M : Type 1} → statement M
 read_alone_spec =

@@ -109,17 +109,17 @@ returns-3 c = let n = c.before.before.before in let a = (begun-j n).args in
 
 returns-4 : tie.Need-returns-then-not-v-2
 returns-4 c = let e = c.before.before.before in let n = read-j e in let a = (begun-j n).args in
-    c.refusing-then-not-v-2.ensures ∙ sym (by-groups n ∙ Laws.v-falls a.verb (v-of n) (q-of n) (j n) a.program (good e)
+    c.refusing-then-not-v-2.ensures ∙ sym (by-groups n ∙ Laws.v_falls a.verb (v-of n) (q-of n) (j n) a.program (good e)
     (not-true (v-of n).rising c.before.if-not-v-2.true))
 
 returns-5 : tie.Need-returns-then-not-q-2
 returns-5 c = let s = c.before.before.before in let e = all_files s in let n = read-j e in let a = (begun-j n).args in
-    c.refusing-then-not-q-2.ensures ∙ sym (by-groups n ∙ Laws.q-falls a.verb (v-of n) (q-of n) (j n) a.program (good e) (v-rises s)
+    c.refusing-then-not-q-2.ensures ∙ sym (by-groups n ∙ Laws.q_falls a.verb (v-of n) (q-of n) (j n) a.program (good e) (v-rises s)
     (not-true (q-of n).rising c.before.if-not-q-2.true))
 
 returns-6 : tie.Need-returns-then-not-i-2
 returns-6 c = let f = c.before.before.before in let s = v-risen f in let e = all_files s in let n = read-j e in let a = (begun-j n).args in
-    c.refusing-then-not-i-2.ensures ∙ sym (by-groups n ∙ Laws.j-falls a.verb (v-of n) (q-of n) (j n) a.program (good e) (v-rises s) (q-rises f)
+    c.refusing-then-not-i-2.ensures ∙ sym (by-groups n ∙ Laws.j_falls a.verb (v-of n) (q-of n) (j n) a.program (good e) (v-rises s) (q-rises f)
     (not-true (j n).rising c.before.if-not-i-2.true))
 
 returns-7 : tie.Need-returns

@@ -34,13 +34,13 @@ returns c = let a = c.before.before.before.args in
 
 returns-2 : tie.Need-returns-in_default
 returns-2 c = let n = c.before.before in let a = (start n).args in
-    c.refusing-in_default.ensures ∙ sym (Laws.record-program a.verb a.line.now (sized n).if-line-ne-RECORD_LEN.false
+    c.refusing-in_default.ensures ∙ sym (Laws.record_program a.verb a.line.now (sized n).if-line-ne-RECORD_LEN.false
     (sym n.read_program-first.ensures ∙ c.before.in_default.is))
 
 returns-3 : tie.Need-returns-in_default-second
 unfolding file_field
 returns-3 c = let m = c.before.before in let f = numbered m in let n = read f in let a = (start n).args in
-    c.refusing-in_default-second.ensures ∙ sym (Laws.record-file a.verb a.line.now (program f) (sized n).if-line-ne-RECORD_LEN.false (program-is f)
+    c.refusing-in_default-second.ensures ∙ sym (Laws.record_file a.verb a.line.now (program f) (sized n).if-line-ne-RECORD_LEN.false (program-is f)
     (sym m.read_number-second.ensures ∙ c.before.in_default-second.is))
 
 -- where the file's number is known
@@ -57,7 +57,7 @@ file-is g = sym (at-file g).read_number-second.ensures ∙ g.in-Number-second.is
 returns-4 : tie.Need-returns-in_default-third
 unfolding record_field
 returns-4 c = let m = c.before.before in let g = filed m in let f = numbered (at-file g) in let n = read f in let a = (start n).args in
-    c.refusing-in_default-third.ensures ∙ sym (Laws.record-record a.verb a.line.now (program f) _ (sized n).if-line-ne-RECORD_LEN.false (program-is f) (file-is g)
+    c.refusing-in_default-third.ensures ∙ sym (Laws.record_record a.verb a.line.now (program f) _ (sized n).if-line-ne-RECORD_LEN.false (program-is f) (file-is g)
     (sym m.read_number-third.ensures ∙ c.before.in_default-third.is))
 
 returns-5 : tie.Need-returns

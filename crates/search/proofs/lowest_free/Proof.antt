@@ -3,7 +3,7 @@ use mathlib.Core.Path.{sym}
 use borrow.Author.Tests.{eq-eqb, ne_eqb}
 use borrow.Author.Rules.{rules}
 use Rattle.search.specs.Counts.{count_of}
-use Rattle.search.proofs.Lowest.{Untried, untried-start, untried-more, lowest-at, lowest-no}
+use Rattle.search.proofs.Lowest.{Untried, untried_start, untried_more, lowest-at, lowest-no}
 use Rattle.tables.proofs.Walk.{without_lt}
 use Rattle.search.proofs.lowest_free.Statement.{statement}
 use Rattle.search.proofs.lowest_free.Tie as tie
@@ -15,7 +15,7 @@ abbrev decreases-loop : tie.decreases-loop-rest
 decreases-loop counts rest₀ rest = rest.bits
 
 loop-holds : tie.Need-loop-rest-init invariant-loop decreases-loop
-loop-holds c = untried-start c.args.counts.now c.args.left
+loop-holds c = untried_start c.args.counts.now c.args.left
 
 lowest-requires : tie.Need-lowest-p-requires invariant-loop decreases-loop
 lowest-requires c κs = c.loop-rest-test.true
@@ -33,7 +33,7 @@ loop-less c = let l = c.before.before.before.before.lowest-p in let s = c.before
 
 loop-again : tie.Need-loop-rest-preserved invariant-loop decreases-loop
 loop-again c = let l = c.before.before.before.before.lowest-p in let s = c.before.before.before.before.before.before in let a = s.before.before.args in
-    rw (c.but_lowest-rest.ensures, sym l.ensures.0) (untried-more a.counts.now a.left s.before.loop-rest.rest l.result s.before.loop-rest.invariant
+    rw (c.but_lowest-rest.ensures, sym l.ensures.0) (untried_more a.counts.now a.left s.before.loop-rest.rest l.result s.before.loop-rest.invariant
     (ne_eqb (count_of a.counts.now l.result) 0 c.before.if-counts-i-eq0.false))
 
 returns-2 : tie.Need-returns invariant-loop decreases-loop

@@ -10,7 +10,7 @@ use Rattle.rules.specs.Boards.{at, wants}
 use Rattle.theory.specs.Settling.{hand_none}
 use Rattle.store.specs.Store.{board_of}
 use Rattle.settling.specs.Writing.{written_in, after, record_waiter}
-use Rattle.settling.proofs.Laws.{after-still, all_waiting, nobody-first, somebody-first}
+use Rattle.settling.proofs.Laws.{after-still, all_waiting, nobody-first, somebody_first}
 use Rattle.settling.proofs.Storing.{one_entry, handed-done}
 use borrow.Author.Rules.{rules}
 use Rattle.settling.proofs.hand_on.Statement.{statement}
@@ -43,7 +43,7 @@ some-waiter : (i : tie.Else-p-eq0) → let o = i.before in let s = start o in le
     (record_waiter (board s) s.args.f s.args.n ≡ some p) × ((1 ≤ p) × (p ≤ 32))
 unfolding board_of
 some-waiter i = let o = i.before in let s = start o in let a = s.args in
-    somebody-first (board s) (λ x. wants (at (board s) x) a.f a.n) o.oldest_for-p.result s.requires.0 o.oldest_for-p.ensures i.if-p-eq0.false
+    somebody_first (board s) (λ x. wants (at (board s) x) a.f a.n) o.oldest_for-p.result s.requires.0 o.oldest_for-p.ensures i.if-p-eq0.false
 
 served-requires : tie.Need-served-c-requires
 served-requires c κs = (some-waiter c).1

@@ -9,7 +9,7 @@ use lib.Dec.{eqb}
 use Rattle.laws.specs.Lists.{all, names}
 use Rattle.rules.specs.Boards.{is_program}
 use Rattle.search.specs.Gives.{give_in}
-use Rattle.lines.proofs.Laws.{names-stop, names-end, name_range, names_left}
+use Rattle.lines.proofs.Laws.{names_stop, names_end, name_range, names_left}
 use Rattle.settling.proofs.Giving.{asks_none}
 use Rattle.settling.proofs.Laws.{Over, next-none, waiter-can, asks-left, waiter-over}
 use borrow.Author.Rules.{rules}
@@ -32,7 +32,7 @@ returns c = let l = c.before.before.loop-k in let g = c.before.before.before.arg
   search rules,
   λ b s u r a.
       let (r', a', e) = l.invariant.4 b s u r a in (
-        next-none b g.line g.from l.k (omega (arith, l.invariant.0, l.invariant.1)) m r' e (names-stop g.line l.k (omega arith) c.if-p-eq0.true),
+        next-none b g.line g.from l.k (omega (arith, l.invariant.0, l.invariant.1)) m r' e (names_stop g.line l.k (omega arith) c.if-p-eq0.true),
         asks_none b g.line g.asked.now m,
       ),
 )
@@ -103,7 +103,7 @@ returns-3 c = let l = c.before.loop-k in let g = c.before.before.args in let m =
   search rules,
   λ b s u r a.
       let (r', a', e) = l.invariant.4 b s u r a in (
-        next-none b g.line g.from l.k (omega (arith, l.invariant.0, l.invariant.1)) m r' e (names-end g.line l.k (omega arith)),
+        next-none b g.line g.from l.k (omega (arith, l.invariant.0, l.invariant.1)) m r' e (names_end g.line l.k (omega arith)),
         asks_none b g.line g.asked.now m,
       ),
 )

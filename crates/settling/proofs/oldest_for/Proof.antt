@@ -10,7 +10,7 @@ use lib.ListN.{length, get_or, drop}
 use Rattle.laws.specs.Lists.{all, first, names}
 use Rattle.rules.specs.declared.Program.{Program}
 use Rattle.rules.specs.Boards.{at, wants, is_program}
-use Rattle.lines.proofs.Laws.{names-stop, names-end, name_range, names_left}
+use Rattle.lines.proofs.Laws.{names_stop, names_end, name_range, names_left}
 use Rattle.settling.proofs.Laws.{first_names_on, first_none_left}
 use Rattle.store.specs.Store.{no_seat, board_of}
 use Rattle.store.proofs.Boards.{board-at}
@@ -37,7 +37,7 @@ loop-holds c = (search rules, c.before.requires, refl, search rules)
 returns : tie.Need-returns-then-w-eq0 invariant-loop decreases-loop
 returns c = let l = c.before.before.loop-k in let s = c.before.before.before.before in let b = s.args.rest in let d = those s in let m = l.invariant.3 in
     sym (ap (λ (x : Option ℕ). Option.get_or x 0) (l.invariant.2 ∙ first_none_left d (names (drop l.k b.waiting))
-    (names-stop b.waiting l.k (omega arith) c.if-w-eq0.true)))
+    (names_stop b.waiting l.k (omega arith) c.if-w-eq0.true)))
 
 place-of-requires : tie.Need-place_of-i-requires invariant-loop decreases-loop
 place-of-requires c κs = let l = c.before.before.loop-k in let b = c.before.before.before.before.args.rest in let m = l.invariant.3 in
@@ -72,7 +72,7 @@ loop-again c =
 returns-3 : tie.Need-returns invariant-loop decreases-loop
 returns-3 c = let l = c.before.loop-k in let s = c.before.before.before in let b = s.args.rest in let d = those s in let m = l.invariant.3 in
     sym (ap (λ (x : Option ℕ). Option.get_or x 0) (l.invariant.2 ∙ first_none_left d (names (drop l.k b.waiting))
-    (names-end b.waiting l.k (omega arith))))
+    (names_end b.waiting l.k (omega arith))))
 
 pub oldest_for_spec : {M : Type 1} → statement M
 oldest_for_spec =

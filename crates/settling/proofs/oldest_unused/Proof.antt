@@ -9,7 +9,7 @@ use lib.ListN.{length, get_or, drop}
 use Rattle.laws.specs.Lists.{first, names}
 use Rattle.rules.specs.declared.Board.{Board}
 use Rattle.rules.specs.Settling.{candidate}
-use Rattle.lines.proofs.Laws.{names-stop, names-end}
+use Rattle.lines.proofs.Laws.{names_stop, names_end}
 use Rattle.settling.specs.Writing.{Ready, unused}
 use Rattle.settling.proofs.Laws.{waiter-range, waiter-unused, ready_all, ready-left, first_names_on, first_none_left}
 use Rattle.store.specs.Store.{no_seat, seat_of, board_of}
@@ -36,7 +36,7 @@ returns : tie.Need-returns-then-line-eq0 invariant-loop decreases-loop
 unfolding candidate board_of
 returns c = let s = c.before.before in let r = s.args.rest in let m : length r.waiting ≡ 32 = search rules in
     sym (ap (λ (x : Option ℕ). Option.get_or x 0) (first_none_left (unused (board s)) (names r.waiting)
-    (names-stop r.waiting 0 (omega arith) c.if-line-eq0.true)))
+    (names_stop r.waiting 0 (omega arith) c.if-line-eq0.true)))
 
 -- ---- stations
 
@@ -58,7 +58,7 @@ loop-holds c = let s = start c in (search rules, ready_all (board s) s.requires.
 returns-2 : tie.Need-returns-then-p-eq0 invariant-loop decreases-loop
 returns-2 c = let s = c.before.before in let l = s.loop-k in let a = start s.before in let r = a.args.rest in let m = l.invariant.3 in
     sym (ap (λ (x : Option ℕ). Option.get_or x 0) (l.invariant.2 ∙ first_none_left (unused (board a)) (names (drop l.k r.waiting))
-    (names-stop r.waiting l.k (omega arith) c.if-p-eq0.true)))
+    (names_stop r.waiting l.k (omega arith) c.if-p-eq0.true)))
 
 -- the waiter is a program
 range : (i : tie.Else-p-eq0 invariant-loop decreases-loop) → let s = turn i in let p = get_or (start s.before).args.rest.waiting s.loop-k.k 0 in (1 ≤ p) × (p ≤ 32)
@@ -101,7 +101,7 @@ loop-again c =
 returns-4 : tie.Need-returns invariant-loop decreases-loop
 returns-4 c = let s = c.before in let l = s.loop-k in let a = start s.before in let r = a.args.rest in let m = l.invariant.3 in
     sym (ap (λ (x : Option ℕ). Option.get_or x 0) (l.invariant.2 ∙ first_none_left (unused (board a)) (names (drop l.k r.waiting))
-    (names-end r.waiting l.k (omega arith))))
+    (names_end r.waiting l.k (omega arith))))
 
 pub oldest_unused_spec : {M : Type 1} → statement M
 oldest_unused_spec =

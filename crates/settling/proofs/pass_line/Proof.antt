@@ -20,7 +20,7 @@ use Rattle.tables.specs.declared.ProgramSet.{ProgramSet}
 use Rattle.tables.proofs.Given.{seats_admitted}
 use Rattle.search.specs.declared.Uses.{Uses}
 use Rattle.search.specs.Gives.{uses_in}
-use Rattle.lines.proofs.Laws.{names-end}
+use Rattle.lines.proofs.Laws.{names_end}
 use Rattle.settling.specs.Writing.{Written, served_rest, NextFor}
 use Rattle.settling.proofs.Laws.{ready_all, pass-start, pass-over}
 use Rattle.settling.proofs.Giving.{At, Found, given_to, state_of, asks_all, ready_programs, next-found, give-range, give-next, served_is}
@@ -63,9 +63,9 @@ seats-length : (a : tie.Start invariant-loop decreases-loop) → length a.args.w
 seats-length a = search rules
 
 -- what is open at first
-uses-are : (s : tie.After-next_given-j invariant-loop decreases-loop) → s.before.before.uses_in-uses.result
+uses_are : (s : tie.After-next_given-j invariant-loop decreases-loop) → s.before.before.uses_in-uses.result
     ≡ uses_in (admits s).admitted_seats-admitted.result (start s).args.sets.now
-uses-are s = s.before.before.uses_in-uses.ensures
+uses_are s = s.before.before.uses_in-uses.ensures
 
 next-given-requires : tie.Need-next_given-j-requires invariant-loop decreases-loop
 unfolding board_of
@@ -82,12 +82,12 @@ loop-holds c = let a = start c in let w = a.args.w in let b = board_of a.args.se
       a.requires.4,
       next-found _ _ _ _ _ u 0 _ (record {
         passed = pass-start (state a.args.sets.now a.args.lines.now w.rest w.count) a.requires.0 a.requires.1 a.requires.2;
-        sets-are = board-sets a.args.sets.now w.rest a.requires.3;
-        uses-are = ap (λ (x : ProgramSet). uses_in x a.args.sets.now)
+        sets_are = board-sets a.args.sets.now w.rest a.requires.3;
+        uses_are = ap (λ (x : ProgramSet). uses_in x a.args.sets.now)
             ((admits c).admitted_seats-admitted.ensures ∙ seats_admitted a.args.sets.now w.rest);
         asks = asks_all a.args.sets.now w.rest (asked c).fill_asked.new.asked a.requires.0 (asked c).fill_asked.ensures;
       }) (subst (λ (x : Uses). NextFor a.args.sets.now (asked c).fill_asked.new.asked x w.rest.waiting 0 c.next_given-j.result)
-          (uses-are c) c.next_given-j.ensures.2),
+          (uses_are c) c.next_given-j.ensures.2),
     )
 
 -- ---- stations of a turn
@@ -231,7 +231,7 @@ returns : tie.Need-returns invariant-loop decreases-loop
 unfolding board_of
 returns c = let l = c.before.loop-j in let a = (start (begun c.before)).args in let m = l.invariant.0 in (
   pass-over (state a.sets.now a.lines.now a.w.rest a.w.count) (state l.sets l.lines l.c l.n) a.w.rest.waiting l.j
-      l.invariant.4.here.passed (names-end a.w.rest.waiting l.j (omega arith)),
+      l.invariant.4.here.passed (names_end a.w.rest.waiting l.j (omega arith)),
   (l.invariant.2, l.invariant.3),
 )
 

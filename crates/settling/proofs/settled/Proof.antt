@@ -2,7 +2,7 @@
 use mathlib.Core.Path.{◌≡◌}
 use native.Mathlib.Omega.{arith}
 use lib.ListN.{length}
-use Rattle.lines.proofs.Laws.{names-stop}
+use Rattle.lines.proofs.Laws.{names_stop}
 use Rattle.store.specs.Store.{board_of}
 use Rattle.settling.specs.Writing.{written_in}
 use Rattle.settling.proofs.Laws.{settle-nobody}
@@ -27,8 +27,8 @@ unfolding board_of
 returns-3 c =
     let i = c.before.before in let s = i.before.before.before in let a = s.args in let w = a.w in
     let m = waiting-length s in let n = entry_length_lem s in (
-      settle-nobody (written_in a.sets.now a.lines.now w) s.requires.0 (names-stop w.rest.waiting 0 (omega arith) i.if-waiting-ne0.false)
-          (names-stop w.rest.entry 0 (omega arith) c.if-entry-ne0.false),
+      settle-nobody (written_in a.sets.now a.lines.now w) s.requires.0 (names_stop w.rest.waiting 0 (omega arith) i.if-waiting-ne0.false)
+          (names_stop w.rest.entry 0 (omega arith) c.if-entry-ne0.false),
       (s.requires.3, s.requires.4),
     )
 

@@ -19,9 +19,9 @@ use Rattle.search.specs.Gives.{uses_in}
 use Rattle.sound.specs.Parts.{is_sound_at, stands_at, waiter_at, count_at, record_at}
 use Rattle.sound.proofs.Laws.{line_waiters as named-waiters}
 use Rattle.sound.proofs.Taken.{line-packed}
-use Rattle.sound.proofs.Seats.{counts-are}
+use Rattle.sound.proofs.Seats.{counts_are}
 use Rattle.sound.proofs.Blank.{and_assoc}
-use Rattle.sound.proofs.Records.{records-are}
+use Rattle.sound.proofs.Records.{records_are}
 use Rattle.sound.proofs.Conflicts.{ordered-apart}
 use Rattle.sound.proofs.is_sound_by.Statement.{statement}
 use Rattle.sound.proofs.is_sound_by.Tie as tie
@@ -97,22 +97,22 @@ past3 : (c : tie.Else-not-ordered) → first3 (b3 c) ≡ true
 past3 c = and_both (first2 (b3 c)) (found (carried (b3 c)))
     (and_both (all (is_sound_at (b3 c)) everyone) (no_conflict (b3 c)) (past1 c.before) (no-conflict c)) (is_found c)
 
-waiting-line : (c : tie.After-line_sound) → let b = b3 c.before.before in
+waiting_line : (c : tie.After-line_sound) → let b = b3 c.before.before in
     c.line_sound.result ≡ line_sound b.waiting (stands_at b false)
 unfolding board_of
-waiting-line c = let s = s3 c.before.before in let b = board s in c.line_sound.ensures
-    ∙ ap (λ (s : ProgramSet). line_sound b.waiting (has_program s)) s.requires.1.waiters-are
+waiting_line c = let s = s3 c.before.before in let b = board s in c.line_sound.ensures
+    ∙ ap (λ (s : ProgramSet). line_sound b.waiting (has_program s)) s.requires.1.waiters_are
     ∙ line-packed b.waiting (stands_at b false)
 
 past4 : (c : tie.Else-not-line_sound) → first4 (b4 c) ≡ true
 past4 c = and_both (first3 (b4 c)) (line_sound (b4 c).waiting (stands_at (b4 c) false)) (past3 c.before.before.before)
-    (sym (waiting-line c.before) ∙ c.if-not-line_sound.false)
+    (sym (waiting_line c.before) ∙ c.if-not-line_sound.false)
 
 entry-line : (c : tie.After-line_sound-2) → let b = b4 c.before.before in
     c.line_sound-2.result ≡ line_sound b.entry (stands_at b true)
 unfolding board_of
 entry-line c = let s = s4 c.before.before in let b = board s in c.line_sound-2.ensures
-    ∙ ap (λ (s : ProgramSet). line_sound b.entry (has_program s)) s.requires.1.held-are
+    ∙ ap (λ (s : ProgramSet). line_sound b.entry (has_program s)) s.requires.1.held_are
     ∙ line-packed b.entry (stands_at b true)
 
 past5 : (c : tie.Else-not-line_sound-2) → first5 (b5 c) ≡ true
@@ -142,7 +142,7 @@ returns-3 : tie.Need-returns-then-not-line_sound
 unfolding sound
 returns-3 c = rw (
   past3 c.before.before.before,
-  sym (waiting-line c.before) ∙ c.if-not-line_sound.true,
+  sym (waiting_line c.before) ∙ c.if-not-line_sound.true,
 )
 
 returns-4 : tie.Need-returns-then-not-line_sound-2
@@ -157,12 +157,12 @@ unfolding board_of
 line-waiters-requires c κs = let l = c.before.before.before in
     let e = l.before.before.before in let s = s3 e in (
       record {
-        in-sets = stored s;
-        in_use_lem = ap (λ (x : ProgramSet). uses_in x s.args.sets.now) s.requires.1.admitted-are;
+        in_sets = stored s;
+        in_use_lem = ap (λ (x : ProgramSet). uses_in x s.args.sets.now) s.requires.1.admitted_are;
         apart = no-conflict e;
         ordered = is_found e;
       },
-      named-waiters (b5 c) (b5 c).waiting (sym (waiting-line l.before) ∙ l.if-not-line_sound.false),
+      named-waiters (b5 c) (b5 c).waiting (sym (waiting_line l.before) ∙ l.if-not-line_sound.false),
       s.requires.2,
     )
 
@@ -177,7 +177,7 @@ favours : (c : tie.After-favour_sound) → let b = b6 c.before in
     c.favour_sound.result ≡ cond (eqb b.favoured 0) (none_favoured b) (some_favoured b)
 unfolding board_of
 favours c = let s = s6 c.before in let p = s.requires.1 in
-    c.favour_sound.ensures s.args.sets.now p.waiters-are p.held-are p.admitted-are
+    c.favour_sound.ensures s.args.sets.now p.waiters_are p.held_are p.admitted_are
 
 returns-6 : tie.Need-returns-then-not-favour_sound
 unfolding sound
@@ -187,7 +187,7 @@ returns-6 c = let f = c.before in
 -- the counts and the records, by the seats
 seats : (c : tie.Else-not-line_waiters) (r : Bool) → let s = s6 c in r ≡ (all (count_at s.args.rest) everyone && all (record_at s.args.rest) everyone)
     → r ≡ (all (count_sound (b6 c)) everyone && uses_differ (b6 c) && awaited_in_use (b6 c))
-seats c r e = let s = s6 c in e ∙ ap₂ ◌&&◌ (counts-are s.args.sets.now s.args.rest) (records-are s.args.sets.now s.args.rest)
+seats c r e = let s = s6 c in e ∙ ap₂ ◌&&◌ (counts_are s.args.sets.now s.args.rest) (records_are s.args.sets.now s.args.rest)
     ∙ sym (and_assoc (all (count_sound (b6 c)) everyone) (uses_differ (b6 c)) (awaited_in_use (b6 c)))
 
 returns-7 : tie.Need-returns

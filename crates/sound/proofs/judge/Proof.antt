@@ -11,7 +11,7 @@ use Rattle.tables.specs.Boards.{admitted_set}
 use Rattle.tables.proofs.Given.{seats_admitted}
 use Rattle.search.proofs.Laws.{has-found}
 use Rattle.search.proofs.Ordered.{order_of_lem}
-use Rattle.sound.proofs.Seats.{seats-stand}
+use Rattle.sound.proofs.Seats.{seats_stand}
 use borrow.Author.Rules.{rules}
 use Rattle.sound.proofs.judge.Statement.{statement}
 use Rattle.sound.proofs.judge.Tie as tie
@@ -33,10 +33,10 @@ is-sound-by-requires : tie.Need-is_sound_by-sound-requires
 is-sound-by-requires c κs = let h = c.before in let v = h.before in let i = v.before in let o = i.before in let s = start o in (
   s.requires,
   record {
-    admitted-are = admitted o;
+    admitted_are = admitted o;
     is-ordered = i.is_found-ordered.ensures ∙ ap (λ (z : Order). is_found z.kind) (order o) ∙ has-found (carried (board s));
-    waiters-are = v.standing_set-waiters.ensures ∙ seats-stand s.args.sets.now s.args.rest false;
-    held-are = h.standing_set-held.ensures ∙ seats-stand s.args.sets.now s.args.rest true;
+    waiters_are = v.standing_set-waiters.ensures ∙ seats_stand s.args.sets.now s.args.rest false;
+    held_are = h.standing_set-held.ensures ∙ seats_stand s.args.sets.now s.args.rest true;
   },
   o.before.before.fill_rows.ensures,
 )

@@ -6,7 +6,7 @@ use Rattle.laws.specs.Lists.{all}
 use Rattle.store.specs.Store.{board_of}
 use Rattle.tables.specs.Tables.{rows_of}
 use Rattle.search.specs.declared.Uses.{Uses}
-use Rattle.lines.proofs.Laws.{all-names-stop}
+use Rattle.lines.proofs.Laws.{all-names_stop}
 use Rattle.sound.specs.Parts.{waiter_at, Known}
 use borrow.Author.Rules.{rules}
 use Rattle.sound.proofs.line_waiters.Statement.{statement}
@@ -15,10 +15,10 @@ use Rattle.sound.proofs.line_waiters.Tie as tie
 returns : tie.Need-returns-then-line-eq0
 unfolding all
 returns c = let a = c.before.args in let m : length a.line ≡ 32 = search rules in
-    sym (all-names-stop a.line 0 (waiter_at (board_of a.sets.now a.rest)) (omega arith) c.if-line-eq0.true)
+    sym (all-names_stop a.line 0 (waiter_at (board_of a.sets.now a.rest)) (omega arith) c.if-line-eq0.true)
 
 uses-in-requires : tie.Need-uses_in-uses-requires
-uses-in-requires c κs = c.before.requires.0.in-sets.0
+uses-in-requires c κs = c.before.requires.0.in_sets.0
 
 waiters-sound-requires : tie.Need-waiters_sound-requires
 waiters-sound-requires c κs = let s = c.before.before in let a = s.args in (

@@ -10,7 +10,7 @@ use Rattle.rules.specs.Boards.{everyone}
 use Rattle.tables.proofs.Laws.{all-step, all_end}
 use Rattle.store.specs.Store.{board_of}
 use Rattle.sound.specs.Parts.{is_sound_at}
-use Rattle.sound.proofs.Seats.{sound-with}
+use Rattle.sound.proofs.Seats.{sound_with}
 use Rattle.sound.proofs.programs_sound.Statement.{statement}
 use Rattle.sound.proofs.programs_sound.Tie as tie
 
@@ -33,7 +33,7 @@ board s = board_of s.args.sets.now s.args.rest
 judged : (c : tie.After-seat_sound invariant-loop decreases-loop) → let l = c.before.before.before in
     c.seat_sound.result ≡ is_sound_at (board l.before) l.loop-p.p
 judged c = let l = c.before.before.before in let a = l.before.args in let h = c.before.before.loop-p-test.true in
-    c.seat_sound.ensures ∙ sound-with a.sets.now a.rest l.loop-p.p l.loop-p.invariant.0 (omega arith)
+    c.seat_sound.ensures ∙ sound_with a.sets.now a.rest l.loop-p.p l.loop-p.invariant.0 (omega arith)
 
 returns : tie.Need-returns-then-not-seat_sound invariant-loop decreases-loop
 returns c = let l = c.before.before.before.before.loop-p in let b = board c.before.before.before.before.before in

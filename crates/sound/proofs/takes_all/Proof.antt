@@ -9,7 +9,7 @@ use Rattle.laws.specs.Lists.{names}
 use Rattle.rules.specs.Settling.{line}
 use Rattle.tables.specs.declared.ProgramSet.{ProgramSet}
 use Rattle.sound.specs.Parts.{takes}
-use Rattle.lines.proofs.Laws.{names-stop, names-end}
+use Rattle.lines.proofs.Laws.{names_stop, names_end}
 use Rattle.sound.proofs.Taken.{takes-on, takes_none}
 use Rattle.sound.proofs.takes_all.Statement.{statement}
 use Rattle.sound.proofs.takes_all.Tie as tie
@@ -26,7 +26,7 @@ loop-holds c = (search rules, refl)
 returns : tie.Need-returns-then-p-eq0 invariant-loop decreases-loop
 returns c = let l = c.before.before.before.loop-k in let a = c.before.before.before.before.args.line in
     let m : length a ≡ 32 = search rules in
-    sym (l.invariant.1 ∙ takes_none a l.k l.left (names-stop a l.k (omega arith) c.before.if-p-eq0.true))
+    sym (l.invariant.1 ∙ takes_none a l.k l.left (names_stop a l.k (omega arith) c.before.if-p-eq0.true))
 
 returns-2 : tie.Need-returns-then-not-has invariant-loop decreases-loop
 returns-2 c = let l = c.before.before.before.before.loop-k in let a = c.before.before.before.before.before.args.line in
@@ -48,7 +48,7 @@ loop-again c = let l = c.before.before.before.before.before.loop-k in
 returns-3 : tie.Need-returns invariant-loop decreases-loop
 returns-3 c = let l = c.before.before.loop-k in let a = c.before.before.before.args.line in
     let m : length a ≡ 32 = search rules in
-    sym (l.invariant.1 ∙ takes_none a l.k l.left (names-end a l.k (omega arith)))
+    sym (l.invariant.1 ∙ takes_none a l.k l.left (names_end a l.k (omega arith)))
 
 pub takes_all_spec : {M : Type 1} → statement M
 takes_all_spec =

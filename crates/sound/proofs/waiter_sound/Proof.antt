@@ -12,7 +12,7 @@ use Rattle.rules.specs.Boards.{at, claims, has_open}
 use Rattle.rules.specs.Soundness.{waiter_sound}
 use Rattle.theory.specs.Modes.{same_mode}
 use Rattle.store.specs.Sets.{SetsOf, claim_at, open_at}
-use Rattle.store.proofs.Laws.{claim-is, open_is}
+use Rattle.store.proofs.Laws.{claim_is, open_is}
 use Rattle.search.proofs.Used.{give_by}
 use borrow.Author.Rules.{rules}
 use Rattle.sound.proofs.waiter_sound.Statement.{statement}
@@ -23,7 +23,7 @@ claimed : (h : tie.After-has_claim) (b : Board) → SetsOf b h.before.before.arg
     → h.has_claim.result ≡ claims (at b h.before.before.args.p) h.before.before.args.f
 claimed h b s = let a = h.before.before.args in let e = h.before.before.requires.0 in h.has_claim.ensures
     ∙ same_mode (λ m. member (claim_at a.sets.now a.p m) a.f) (λ m. member (claim_of m (at b a.p)) a.f)
-    (λ m. ap (λ (x : FileSet). member x a.f) (claim-is b a.sets.now s a.p e.0 e.1 m))
+    (λ m. ap (λ (x : FileSet). member x a.f) (claim_is b a.sets.now s a.p e.0 e.1 m))
 
 abbrev start : tie.After-has_open → tie.Start
 start o = o.before.before.before.before
@@ -46,26 +46,26 @@ returns c = λ b k a e. let s = c.before.args in rw (ap (λ (x : ℕ). eqb x 0) 
 returns-2 : tie.Need-returns-then-not-has_claim
 unfolding waiter_sound
 returns-2 c = λ b k a e. let h = c.before in
-    rw (no_record h.before b e, sym (claimed h b k.in-sets) ∙ c.if-not-has_claim.true)
+    rw (no_record h.before b e, sym (claimed h b k.in_sets) ∙ c.if-not-has_claim.true)
 
 returns-3 : tie.Need-returns-then-has_open
 unfolding waiter_sound
 returns-3 c = λ b k a e. let i = c.before.before in let h = i.before in rw (
   no_record h.before b e,
-  sym (claimed h b k.in-sets) ∙ i.if-not-has_claim.false,
-  sym (opened c.before b k.in-sets) ∙ c.if-has_open.true,
+  sym (claimed h b k.in_sets) ∙ i.if-not-has_claim.false,
+  sym (opened c.before b k.in_sets) ∙ c.if-has_open.true,
 )
 
 returns-4 : tie.Need-returns
 unfolding waiter_sound
 returns-4 c = λ b k a e. let j = c.before in let i = j.before.before in let h = i.before in let s = h.before.before in rw (
   no_record h.before b e,
-  sym (claimed h b k.in-sets) ∙ i.if-not-has_claim.false,
-  sym (opened j.before b k.in-sets) ∙ j.if-has_open.false,
+  sym (claimed h b k.in_sets) ∙ i.if-not-has_claim.false,
+  sym (opened j.before b k.in_sets) ∙ j.if-has_open.false,
 )
     (ap not (give_by s.args.sets.now s.args.uses s.args.p s.args.f _ s.requires.0.0 s.requires.0.1
-    c.can_give_by.ensures b k.in-sets k.in_use k.apart k.ordered a
-    (sym (opened j.before b k.in-sets) ∙ j.if-has_open.false)))
+    c.can_give_by.ensures b k.in_sets k.in_use k.apart k.ordered a
+    (sym (opened j.before b k.in_sets) ∙ j.if-has_open.false)))
 
 pub waiter_sound_spec : {M : Type 1} → statement M
 waiter_sound_spec =

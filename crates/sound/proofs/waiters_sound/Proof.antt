@@ -15,7 +15,7 @@ use Rattle.store.proofs.Boards.{board-at}
 use Rattle.tables.specs.Boards.{admits}
 use Rattle.sound.specs.Parts.{right_name, waiter_at}
 use Rattle.lines.proofs.Laws.{names_left}
-use Rattle.lines.proofs.Laws.{all-names-on, all-names-stop, all-names-end}
+use Rattle.lines.proofs.Laws.{all-names-on, all-names_stop, all-names_end}
 use Rattle.sound.proofs.Laws.{waiter_named, in_admitted}
 use borrow.Author.Rules.{rules}
 use Rattle.sound.proofs.waiters_sound.Statement.{statement}
@@ -37,7 +37,7 @@ board s = board_of s.args.sets.now s.args.rest
 
 returns : tie.Need-returns-then-p-eq0 invariant-loop decreases-loop
 returns c = let l = c.before.before.loop-k in let s = c.before.before.before in let m = l.invariant.3 in
-    sym (l.invariant.2 ∙ all-names-stop s.args.line l.k (waiter_at (board s)) (omega arith) c.if-p-eq0.true)
+    sym (l.invariant.2 ∙ all-names_stop s.args.line l.k (waiter_at (board s)) (omega arith) c.if-p-eq0.true)
 
 -- a waiter is reached
 abbrev at : tie.Else-p-eq0 invariant-loop decreases-loop → tie.At-loop-k invariant-loop decreases-loop
@@ -55,7 +55,7 @@ place-of-requires c κs = (named c).0
 
 waiter-sound-requires : tie.Need-waiter_sound-requires invariant-loop decreases-loop
 waiter-sound-requires c κs = let e = c.before.before.before in let s = start e in let k = s.requires.0 in let n = named e in
-    (n.0, k.in-sets.0, in_admitted (board s) _ s.args.sets.now _ k.in_use n.0.0 n.0.1 n.1, s.requires.2)
+    (n.0, k.in_sets.0, in_admitted (board s) _ s.args.sets.now _ k.in_use n.0.0 n.0.1 n.1, s.requires.2)
 
 abbrev reached : tie.After-waiter_sound invariant-loop decreases-loop → tie.Else-p-eq0 invariant-loop decreases-loop
 reached w = w.before.before.before.before
@@ -86,7 +86,7 @@ loop-again c = let w = c.before in let e = reached w in let l = (at e).loop-k in
 
 returns-3 : tie.Need-returns invariant-loop decreases-loop
 returns-3 c = let l = c.before.loop-k in let s = c.before.before in let m = l.invariant.3 in
-    sym (l.invariant.2 ∙ all-names-end s.args.line l.k (waiter_at (board s)) (omega arith))
+    sym (l.invariant.2 ∙ all-names_end s.args.line l.k (waiter_at (board s)) (omega arith))
 
 pub waiters_sound_spec : {M : Type 1} → statement M
 waiters_sound_spec =

@@ -7,7 +7,7 @@ use Rattle.rules.specs.Boards.{is_program}
 use Rattle.request.specs.declared.Shape.{Shape}
 use Rattle.request.specs.Verbs.{shape_of}
 use Rattle.writer.specs.declared.Writing.{Writing}
-use Rattle.writer.proofs.Laws.{WroteAs, Wrote, by_shape, out_of_range, as-entry, as-file, as-record, as-alone}
+use Rattle.writer.proofs.Laws.{WroteAs, Wrote, by_shape, out_of_range, as_entry, as_file, as_record, as_alone}
 use borrow.Author.Rules.{rules}
 use Rattle.writer.proofs.write.Statement.{statement}
 use Rattle.writer.proofs.write.Tie as tie
@@ -38,25 +38,25 @@ returns-2 : tie.Need-returns-in-Entry
 returns-2 c = let k = c.before.before.write_enter in let m = c.before.before.before.before in
     let r = m.before in let e = in_range r in let a = (start e).args in
     shaped r Shape.Entry k.result k.new.line m.in-Entry.is
-    (as-entry a.a a.label.now a.line.now k.result k.new.line (is-program e) k.ensures.0 k.ensures.1)
+    (as_entry a.a a.label.now a.line.now k.result k.new.line (is-program e) k.ensures.0 k.ensures.1)
 
 returns-3 : tie.Need-returns-in-File
 returns-3 c = let k = c.before.before.write_file in let m = c.before.before.before.before in
     let r = m.before in let e = in_range r in let a = (start e).args in
     shaped r Shape.File k.result k.new.line m.in-File.is
-    (as-file a.a a.label.now a.line.now k.result k.new.line (is-program e) k.ensures.0 k.ensures.1)
+    (as_file a.a a.label.now a.line.now k.result k.new.line (is-program e) k.ensures.0 k.ensures.1)
 
 returns-4 : tie.Need-returns-in-Record
 returns-4 c = let k = c.before.before.write_record in let m = c.before.before.before.before in
     let r = m.before in let e = in_range r in let a = (start e).args in
     shaped r Shape.Record k.result k.new.line m.in-Record.is
-    (as-record a.a a.label.now a.line.now k.result k.new.line (is-program e) k.ensures.0 k.ensures.1)
+    (as_record a.a a.label.now a.line.now k.result k.new.line (is-program e) k.ensures.0 k.ensures.1)
 
 returns-5 : tie.Need-returns-in-Alone
 returns-5 c = let k = c.before.before.write_alone in let m = c.before.before.before.before in
     let r = m.before in let e = in_range r in let a = (start e).args in
     shaped r Shape.Alone k.result k.new.line m.in-Alone.is
-    (as-alone a.a a.label.now a.line.now k.result k.new.line (is-program e) k.ensures.0 k.ensures.1)
+    (as_alone a.a a.label.now a.line.now k.result k.new.line (is-program e) k.ensures.0 k.ensures.1)
 
 pub write_spec : {M : Type 1} → statement M
 write_spec =

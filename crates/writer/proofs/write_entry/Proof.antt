@@ -50,8 +50,8 @@ returns c =
     (omega (arith, c.if-line-len.true, (with-w k).count-w.ensures, (with-r k).count-r.ensures, k.count-j.ensures))
 
 -- where the columns before the files are written, and where the line is known to fit
-abbrev with-entry : tie.After-put_claims-end → tie.After-put_entry-after_counts
-with-entry x = x.before.before.before.before
+abbrev with_entry_lem : tie.After-put_claims-end → tie.After-put_entry-after_counts
+with_entry_lem x = x.before.before.before.before
 
 abbrev fits : tie.After-put_entry-after_counts → tie.Else-line-len
 fits h = h.before.before
@@ -59,7 +59,7 @@ fits h = h.before.before
 returns-2 : tie.Need-returns
 returns-2 c =
     let x = c.before.before.put_claims-end in
-    let p = with-entry c.before.before in
+    let p = with_entry_lem c.before.before in
     let h = p.put_entry-after_counts in
     let k = (fits p).before in
     let s = start k in

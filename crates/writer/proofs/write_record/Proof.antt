@@ -8,14 +8,14 @@ use Rattle.rules.specs.Checks.{is_record}
 use Rattle.request.specs.declared.Shape.{Shape}
 use Rattle.request.specs.Verbs.{record_length}
 use Rattle.request.specs.Requests.{line_as}
-use Rattle.writer.proofs.Laws.{record_length_lem, file_put, record_put, record-file, record-refused, record-placed, placed_short, placed_all}
+use Rattle.writer.proofs.Laws.{record_length_lem, file_put, record_put, record_file, record_refused, record_placed, placed_short, placed_all}
 use borrow.Author.Rules.{rules}
 use Rattle.writer.proofs.write_record.Statement.{statement}
 use Rattle.writer.proofs.write_record.Tie as tie
 
 returns : tie.Need-returns-then-not-is_number
 returns c = let k = c.before.is_number in let a = c.before.before.before.args in
-    record-file a.a a.line.now (sym k.ensures ∙ c.if-not-is_number.true)
+    record_file a.a a.line.now (sym k.ensures ∙ c.if-not-is_number.true)
 
 -- where the file is one, and where the record is one
 abbrev start : tie.Else-not-is_number → tie.Start
@@ -32,11 +32,11 @@ is-record c = let k = c.before.is_number-2 in sym k.ensures ∙ c.if-not-is_numb
 
 returns-2 : tie.Need-returns-then-not-is_number-2
 returns-2 c = let k = c.before.is_number-2 in let e = c.before.before in let a = (start e).args in
-    record-refused a.a a.line.now (is-file e) (sym k.ensures ∙ c.if-not-is_number-2.true)
+    record_refused a.a a.line.now (is-file e) (sym k.ensures ∙ c.if-not-is_number-2.true)
 
 returns-3 : tie.Need-returns-then-line-lt-RECORD_LEN
 returns-3 c = let e = c.before in let a = (start (filed e)).args in
-    record-placed a.a a.line.now _ _ (is-file (filed e)) (is-record e)
+    record_placed a.a a.line.now _ _ (is-file (filed e)) (is-record e)
     (placed_short (line_as Shape.Record a.a []) a.line.now record_length (record_length_lem a.a) c.if-line-lt-RECORD_LEN.true)
 
 -- where the columns of the file are written, those of verb and program before them, and where the line is known to fit
@@ -63,7 +63,7 @@ returns-4 c =
     (omega (arith, i.if-line-lt-RECORD_LEN.false)) h.ensures.0 h.ensures.1 f.ensures.1 in
     let r = record_put a.a f.result a.line.now f.new.line n.new.line
     i.if-line-lt-RECORD_LEN.false (omega (arith, f.ensures.0, h.ensures.0)) m n.ensures.1 in
-    record-placed a.a a.line.now _ _ (is-file (filed e)) (is-record e)
+    record_placed a.a a.line.now _ _ (is-file (filed e)) (is-record e)
     (placed_all (line_as Shape.Record a.a []) a.line.now n.new.line record_length n.result
     (record_length_lem a.a) i.if-line-lt-RECORD_LEN.false (omega (arith, n.ensures.0, f.ensures.0, h.ensures.0)) r)
 

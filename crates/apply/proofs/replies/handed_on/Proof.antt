@@ -2,7 +2,7 @@
 use mathlib.Core.Path.{◌≡◌}
 use Rattle.rules.specs.declared.Board.{Board}
 use Rattle.store.specs.Store.{board_of}
-use Rattle.apply.proofs.Handing.{handing, handed-settles, finish-is}
+use Rattle.apply.proofs.Handing.{handing, handed_settles, finish-is}
 use Rattle.apply.proofs.Laws.{none_carries}
 use borrow.Author.Rules.{rules}
 use Rattle.apply.proofs.replies.handed_on.Statement.{statement}
@@ -18,7 +18,7 @@ hand-on-requires c κs = let o = c.before.before in let s = o.before in let a = 
 
 settled-requires : tie.Need-settled-progress-requires
 settled-requires c κs = let h = c.before.before in let o = h.before.before.before in let s = o.before in let a = s.args in
-    let k = handed-settles _ _ (board s) a.p a.f a.n c.before.before.before.before.one_line-w.ensures.0 h.hand_on-h.ensures.0 s.requires.0 in
+    let k = handed_settles _ _ (board s) a.p a.f a.n c.before.before.before.before.one_line-w.ensures.0 h.hand_on-h.ensures.0 s.requires.0 in
     (k.0, k.1, k.2, s.requires.1, h.hand_on-h.ensures.1)
 
 returns : tie.Need-returns

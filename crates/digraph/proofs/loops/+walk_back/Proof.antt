@@ -7,7 +7,7 @@ use lib.ListN.{length, drop}
 use Rattle.rules.specs.Boards.{is_program}
 use Rattle.theory.specs.Programs.{of_is}
 use borrow.Author.Rules.{rules}
-use Rattle.digraph.proofs.LoopLaws.{walk_none, walk-alone, walk-found, walk-on}
+use Rattle.digraph.proofs.LoopLaws.{walk_none, walk_alone, walk-found, walk-on}
 use Prim.Native.Nat.{ℕ, ◌<◌}
 use borrow.Fn.Kinds.{In}
 use borrow.Fn.PlainCycle.{Measures, is, falls, and}
@@ -78,7 +78,7 @@ walk-back-returns-2 : (t : ℕ) → walk-back-lts.Need-returns-2 (
   walk-back.Post,
 ) (walk-back-at t) walk-back.Post
 walk-back-returns-2 t c = let a = c.before.before.before.args in let y = c.before.lowest-holder in (
-  walk-alone a.rows.now a.set a.x (is_x t c.before.before.before) a.n (drop a.k a.at) y.result
+  walk_alone a.rows.now a.set a.x (is_x t c.before.before.before) a.n (drop a.k a.at) y.result
       c.before.before.if1.false y.ensures.0 c.if2.true,
   omega arith,
 )

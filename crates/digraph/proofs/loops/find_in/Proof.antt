@@ -5,7 +5,7 @@ use Prim.Native.Nat.{ℕ}
 use native.Mathlib.Omega.{arith}
 use borrow.Author.Rules.{rules}
 use Rattle.rules.specs.Digraph.{step, is_loop_of}
-use Rattle.digraph.proofs.LoopLaws.{found_none, found_some, found-loop}
+use Rattle.digraph.proofs.LoopLaws.{found_none, found_some, found_loop}
 use Rattle.digraph.proofs.loops.find_in.Statement.{statement}
 use Rattle.digraph.proofs.loops.find_in.Tie as tie
 
@@ -24,7 +24,7 @@ returns-2 : tie.Need-returns
 returns-2 c = let y = c.before.lowest-x in let o = c.before.before.before.before.in_own-set in let a = c.before.before.before.before.before.args in
     λ b f g. record {
       is_loop = λ u. ap (λ (L : List ℕ). is_loop_of (step b) L) c.walk_back.ensures.0
-          ∙ found-loop b a.rows.now a.matrix.now f g o.result o.ensures y.result y.ensures.1.2;
+          ∙ found_loop b a.rows.now a.matrix.now f g o.result o.ensures y.result y.ensures.1.2;
       is_none = λ u. absurd (found_some b a.rows.now a.matrix.now f g o.result o.ensures y.result y.ensures.1.2 u);
       fits = c.walk_back.ensures.1;
     }

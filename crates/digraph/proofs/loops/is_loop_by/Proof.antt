@@ -7,7 +7,7 @@ use Rattle.store.specs.Sets.{Sets, IsStore}
 use Rattle.store.specs.Store.{board_of}
 use Rattle.store.proofs.Laws.{fresh_store}
 use Rattle.store.proofs.Given.{given_store}
-use Rattle.digraph.proofs.LoopLaws.{not_in, not-claimed, loop-with, stands-as, claims-as, given-as}
+use Rattle.digraph.proofs.LoopLaws.{not_in, not_claimed, loop_with, stands_as, claims_as, given_as}
 use borrow.Author.Rules.{rules}
 use Rattle.digraph.proofs.loops.is_loop_by.Statement.{statement}
 use Rattle.digraph.proofs.loops.is_loop_by.Tie as tie
@@ -23,7 +23,7 @@ stands : (u : tie.After-is_admitted) → let a = (start u.before.before).args in
     u.is_admitted.result ≡ is_admitted (at a.b a.p).standing
 stands u = let t = u.before.before in let s = start t in let k = t.take-rest in
     u.is_admitted.ensures ∙ ap is_admitted (u.before.standing_at-s.ensures
-    ∙ stands-as s.args.b k.new.sets k.result k.ensures.0 k.ensures.1 s.args.p s.requires.0 s.requires.1)
+    ∙ stands_as s.args.b k.new.sets k.result k.ensures.0 k.ensures.1 s.args.p s.requires.0 s.requires.1)
 
 returns : tie.Need-returns-then-not-is_admitted
 returns c = let u = c.before in let a = (start u.before.before).args in
@@ -34,11 +34,11 @@ claiming : (h : tie.After-has_claim) → let a = (start h.before.before.before.b
     h.has_claim.result ≡ claims (at a.b a.p) a.f
 claiming h = let t = h.before.before.before.before.before in let s = start t in let k = t.take-rest in
     h.has_claim.ensures
-    ∙ claims-as s.args.b k.new.sets k.result k.ensures.0 k.ensures.1 s.args.p s.requires.0 s.requires.1 s.args.f
+    ∙ claims_as s.args.b k.new.sets k.result k.ensures.0 k.ensures.1 s.args.p s.requires.0 s.requires.1 s.args.f
 
 returns-2 : tie.Need-returns-then-not-has_claim
 returns-2 c = let h = c.before in let a = (start h.before.before.before.before.before).args in
-    sym (not-claimed a.b a.p a.f a.l.now (sym (claiming h) ∙ c.if-not-has_claim.true))
+    sym (not_claimed a.b a.p a.f a.l.now (sym (claiming h) ∙ c.if-not-has_claim.true))
 
 is-loop-requires : tie.Need-is_loop-requires
 is-loop-requires c κs = let g = c.before in let t = g.before.before.before.before.before.before.before.before in let s = start t in
@@ -49,8 +49,8 @@ returns-3 : tie.Need-returns
 returns-3 c = let g = c.before.before in let d = g.before.before in let h = d.before in let i = h.before.before in let u = i.before in
     let t = u.before.before in let s = start t in let a = s.args in let k = t.take-rest in
     c.is_loop.ensures ∙ ap (λ (x : Board). is_loop_of (step x) a.l.now) (ap (λ (x : Sets). board_of x k.result) g.give.ensures
-    ∙ given-as a.b k.new.sets k.result k.ensures.0 k.ensures.1 a.p s.requires.0 s.requires.1 a.f)
-    ∙ loop-with a.b a.p a.f a.l.now (record { least = s.requires.0; most = s.requires.1 })
+    ∙ given_as a.b k.new.sets k.result k.ensures.0 k.ensures.1 a.p s.requires.0 s.requires.1 a.f)
+    ∙ loop_with a.b a.p a.f a.l.now (record { least = s.requires.0; most = s.requires.1 })
     (sym (stands u) ∙ i.if-not-is_admitted.false) (sym (claiming h) ∙ d.if-not-has_claim.false)
 
 pub is_loop_by_spec : {M : Type 1} → statement M

@@ -8,7 +8,7 @@ use Rattle.tables.specs.declared.ProgramSet.{ProgramSet}
 use Rattle.rules.specs.Digraph.{is_loop_of}
 use Rattle.digraph.specs.Rows.{cell}
 use Rattle.digraph.specs.Loops.{goes}
-use Rattle.digraph.proofs.LoopLaws.{goes_is, loop_short, goes-pass, goes-fail, goes_end}
+use Rattle.digraph.proofs.LoopLaws.{goes_is, loop_short, goes-pass, goes_fail, goes_end}
 use Rattle.digraph.proofs.loops.is_loop_in.Statement.{statement}
 use Rattle.digraph.proofs.loops.is_loop_in.Tie as tie
 
@@ -30,7 +30,7 @@ start s = s.before.before.before.before
 
 returns-2 : tie.Need-returns-then-not-follows invariant-loop decreases-loop
 returns-2 c = let s = c.before.before.before.before in let l = s.loop-i in let a = (start s).args in let f = c.before.follows in
-    sym (l.invariant.1 ∙ goes-fail a.rows.now a.l.now l.i l.left l.before (omega arith)
+    sym (l.invariant.1 ∙ goes_fail a.rows.now a.l.now l.i l.left l.before (omega arith)
     (sym f.ensures ∙ c.if-not-follows.true))
 
 loop-again : tie.Need-loop-i-preserved invariant-loop decreases-loop

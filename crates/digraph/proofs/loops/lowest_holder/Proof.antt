@@ -7,7 +7,7 @@ use Rattle.theory.specs.Programs.{of_is}
 use Rattle.tables.specs.declared.ProgramSet.{ProgramSet}
 use Rattle.tables.specs.ProgramSets.{without_program, common_of}
 use Rattle.tables.specs.Tables.{row_of}
-use Rattle.digraph.proofs.LoopLaws.{holder-at, holder-no}
+use Rattle.digraph.proofs.LoopLaws.{holder_at, holder_no}
 use Rattle.digraph.proofs.loops.lowest_holder.Statement.{statement}
 use Rattle.digraph.proofs.loops.lowest_holder.Tie as tie
 
@@ -21,11 +21,11 @@ is_x s = of_is s.args.x (record { least = search rules; most = search rules })
 
 returns : tie.Need-returns-then-by-eq0
 returns c = let k = c.before.before in let a = k.before.before.before.before.args in
-    (holder-no a.rows.now a.set a.x (is_x k.before.before.before.before) k.and-by.result (by-is k) c.if-by-eq0.true, search rules)
+    (holder_no a.rows.now a.set a.x (is_x k.before.before.before.before) k.and-by.result (by-is k) c.if-by-eq0.true, search rules)
 
 returns-2 : tie.Need-returns
 returns-2 c = let k = c.before.before.before in let a = k.before.before.before.before.args in let y = c.lowest in
-    (holder-at a.rows.now a.set a.x (is_x k.before.before.before.before) k.and-by.result y.result (by-is k) y.ensures.1, y.ensures.1.1)
+    (holder_at a.rows.now a.set a.x (is_x k.before.before.before.before) k.and-by.result y.result (by-is k) y.ensures.1, y.ensures.1.1)
 
 pub lowest_holder_spec : {M : Type 1} → statement M
 lowest_holder_spec =

@@ -4,7 +4,7 @@ use mathlib.Core.Bool.{Bool, cond}
 use Prim.Native.Nat.{ℕ}
 use borrow.Author.Tests.{not-true, not-false}
 use Rattle.host.specs.Digraph.{is_loop_answer}
-use Rattle.host.proofs.Digraph.{check-refused, checked-is}
+use Rattle.host.proofs.Digraph.{check_refused, checked-is}
 use borrow.Author.Rules.{rules}
 use Rattle.host.proofs.digraphs.lock_board_is_loop.Statement.{statement}
 use Rattle.host.proofs.digraphs.lock_board_is_loop.Tie as tie
@@ -14,7 +14,7 @@ start k = k.before.before.before
 
 returns : tie.Need-returns-then-not-ok
 returns c = let k = c.before.before in let r = k.read_image-loaded in let a = (start k).args in
-    c.refusal_answer.ensures ∙ sym (check-refused a.image.now a.program a.file a.list.now r.result r.ensures
+    c.refusal_answer.ensures ∙ sym (check_refused a.image.now a.program a.file a.list.now r.result r.ensures
     (not-true r.result.ok c.before.if-not-ok.true))
 
 -- where the image is read

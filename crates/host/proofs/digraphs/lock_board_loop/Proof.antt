@@ -5,7 +5,7 @@ use native.Mathlib.Omega.{arith}
 use borrow.Author.Tests.{not-true, not-false}
 use Rattle.theory.specs.Programs.{Is}
 use Rattle.host.proofs.Laws.{image_read}
-use Rattle.host.proofs.Digraph.{loop-refused, loop-no-program, loop_short, loop-written}
+use Rattle.host.proofs.Digraph.{loop_refused, loop_no-program, loop_short, loop_written}
 use borrow.Author.Rules.{rules}
 use Rattle.host.proofs.digraphs.lock_board_loop.Statement.{statement}
 use Rattle.host.proofs.digraphs.lock_board_loop.Tie as tie
@@ -26,17 +26,17 @@ is-program j = record { least = search rules; most = search rules }
 
 returns : tie.Need-returns-then-not-ok
 returns c = let k = c.before.before in let r = k.read_image-loaded in let a = (start k).args in
-    loop-refused a.image.now a.program a.list.now r.result r.ensures c.refusal_answer.result
+    loop_refused a.image.now a.program a.list.now r.result r.ensures c.refusal_answer.result
     (not-true r.result.ok c.before.if-not-ok.true) c.refusal_answer.ensures
 
 returns-2 : tie.Need-returns-then-program-eq0
 returns-2 c = let i = c.before.before in let r = i.before.read_image-loaded in let a = (start i.before).args in
-    loop-no-program a.image.now a.program a.list.now r.result r.ensures c.refusal_answer-then-program-eq0.result
+    loop_no-program a.image.now a.program a.list.now r.result r.ensures c.refusal_answer-then-program-eq0.result
     (read i) (λ q. let l = q.least in omega (arith, c.before.if-program-eq0.true)) c.refusal_answer-then-program-eq0.ensures
 
 returns-3 : tie.Need-returns-then-program-gt32
 returns-3 c = let i = c.before.before.before in let r = i.before.read_image-loaded in let a = (start i.before).args in
-    loop-no-program a.image.now a.program a.list.now r.result r.ensures c.refusal_answer-then-program-gt32.result
+    loop_no-program a.image.now a.program a.list.now r.result r.ensures c.refusal_answer-then-program-gt32.result
     (read i) (λ q. let l = q.most in omega (arith, c.before.if-program-gt32.true)) c.refusal_answer-then-program-gt32.ensures
 
 returns-4 : tie.Need-returns-then-list-lt32
@@ -55,7 +55,7 @@ roomy p = p.before.before.before
 returns-5 : tie.Need-returns
 returns-5 c = let p = c.before.before in let e = roomy p in let j = e.before in let i = read-for j in
     let r = i.before.read_image-loaded in let a = (start i.before).args in
-    loop-written a.image.now a.program a.list.now r.result r.ensures p.put_loop.result _
+    loop_written a.image.now a.program a.list.now r.result r.ensures p.put_loop.result _
     (read i) (is-program j) e.if-list-lt32.false p.put_loop.ensures
 
 pub lock_board_loop_spec : {M : Type 1} → statement M

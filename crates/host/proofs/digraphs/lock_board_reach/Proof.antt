@@ -2,7 +2,7 @@
 use mathlib.Core.Path.{◌≡◌, sym, ◌∙◌}
 use mathlib.Core.Bool.{true}
 use borrow.Author.Tests.{not-true, not-false}
-use Rattle.host.proofs.Digraph.{reach-refused, reach-short, reach-written}
+use Rattle.host.proofs.Digraph.{reach_refused, reach_short, reach_written}
 use borrow.Author.Rules.{rules}
 use Rattle.host.proofs.digraphs.lock_board_reach.Statement.{statement}
 use Rattle.host.proofs.digraphs.lock_board_reach.Tie as tie
@@ -16,12 +16,12 @@ read i = not-false i.before.read_image-loaded.result.ok i.if-not-ok.false
 
 returns : tie.Need-returns-then-not-ok
 returns c = let k = c.before.before in let r = k.read_image-loaded in let a = (start k).args in
-    let e = reach-refused a.image.now a.rows.now r.result r.ensures (not-true r.result.ok c.before.if-not-ok.true) in
+    let e = reach_refused a.image.now a.rows.now r.result r.ensures (not-true r.result.ok c.before.if-not-ok.true) in
     (c.refusal_answer.ensures ∙ sym e.0, sym e.1)
 
 returns-2 : tie.Need-returns-then-rows-lt128
 returns-2 c = let i = c.before.before in let r = i.before.read_image-loaded in let a = (start i.before).args in
-    let e = reach-short a.image.now a.rows.now r.result r.ensures (read i) c.before.if-rows-lt128.true in
+    let e = reach_short a.image.now a.rows.now r.result r.ensures (read i) c.before.if-rows-lt128.true in
     (c.refusal_answer-then-rows-lt128.ensures ∙ sym e.0, sym e.1)
 
 -- where the matrix is known, and before it that the buffer has room
@@ -34,7 +34,7 @@ roomy m = m.before.before.before
 returns-3 : tie.Need-returns
 returns-3 c = let p = c.before.before in let m = filled p in let j = roomy m in let i = j.before in
     let r = i.before.read_image-loaded in let a = (start i.before).args in
-    reach-written a.image.now a.rows.now r.result r.ensures _ _ (read i) j.if-rows-lt128.false m.fill_matrix.ensures p.put_rows.ensures
+    reach_written a.image.now a.rows.now r.result r.ensures _ _ (read i) j.if-rows-lt128.false m.fill_matrix.ensures p.put_rows.ensures
 
 pub lock_board_reach_spec : {M : Type 1} → statement M
 lock_board_reach_spec =

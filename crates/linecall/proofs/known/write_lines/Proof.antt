@@ -15,7 +15,7 @@ use Rattle.linecall.proofs.known.write_lines.Tie as tie
 
 -- there are 32 places for lines
 places : (s : tie.Start) → length (lines_in s.args.lines.now) ≡ 32
-places s = length-lines s.args.lines.now ∙ s.requires.3.places-are
+places s = length-lines s.args.lines.now ∙ s.requires.3.places_are
 
 -- the call's reply
 abbrev answered : tie.Start → Reply

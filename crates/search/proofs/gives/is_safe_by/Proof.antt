@@ -12,7 +12,7 @@ use Rattle.store.specs.Sets.{mode_at, mode_numbered}
 use Rattle.search.specs.Gives.{holders_in}
 use Rattle.search.proofs.Closing.{more}
 use Rattle.search.proofs.Stages.{to_ask}
-use Rattle.search.proofs.Deciding.{Here, holders_in_lem, here-start, here-holders, here-unsafe, here-safe, here-next, here-fewer}
+use Rattle.search.proofs.Deciding.{Here, holders_in_lem, here-start, here_holders, here-unsafe, here-safe, here-next, here-fewer}
 use borrow.Author.Rules.{rules}
 use Rattle.search.proofs.gives.is_safe_by.Statement.{statement}
 use Rattle.search.proofs.gives.is_safe_by.Tie as tie
@@ -62,7 +62,7 @@ here s = let h = s.before.before in s.loop-found.invariant (begun s).args.admitt
 next : (h : tie.After-holders_in-holders invariant-loop decreases-loop) → let l = h.before.before.before in let s = before l in
     h.holders_in-holders.result ≡ more (begun s).args.sets.now l.lowest-q.result s.loop-found.rest
 next h = let l = h.before.before.before in let s = before l in let g = (begun s).args in h.holders_in-holders.ensures
-    ∙ here-holders g.sets.now g.admitted g.p g.f _ _ _ (here s) g.rows.now (begun s).requires.3 l.lowest-q.result l.lowest-q.ensures.1.2
+    ∙ here_holders g.sets.now g.admitted g.p g.f _ _ _ (here s) g.rows.now (begun s).requires.3 l.lowest-q.result l.lowest-q.ensures.1.2
 
 -- ---- the loop
 

@@ -7,7 +7,7 @@ use lib.ListN.{length, get_or, length-set}
 use Rattle.rules.specs.declared.Program.{Program}
 use Rattle.rules.specs.Boards.{is_waiting}
 use Rattle.store.specs.Store.{board_of}
-use Rattle.store.proofs.Boards.{board-in}
+use Rattle.store.proofs.Boards.{board_in}
 use Rattle.settling.proofs.Counting.{TalliedTo, few_here, tally_more, tally_all}
 use borrow.Author.Rules.{rules}
 use Rattle.settling.proofs.counts.tally.Statement.{statement}
@@ -34,7 +34,7 @@ loop-again c = let l = c.before.before.before.before.loop-i in let a = c.before.
       length-set l.counts l.i c.one_more.result ∙ l.invariant.1,
       tally_more b l.i l.counts c.one_more.result (omega arith) l.invariant.1 l.invariant.2
           (c.one_more.ensures ∙ sym (ap (λ (q : Program). cond (is_waiting q.standing) (get_or a.rest.passed l.i 0 + 1) 0)
-          (board-in a.sets.now a.rest l.i (omega arith)))),
+          (board_in a.sets.now a.rest l.i (omega arith)))),
     )
 
 returns : tie.Need-returns invariant-loop decreases-loop

@@ -8,13 +8,13 @@ use borrow.Author.Rules.{rules}
 use Rattle.store.proofs.sets.put.Statement.{statement}
 use Rattle.store.proofs.sets.put.Tie as tie
 
-seats-are : (t : tie.Start) → length t.args.rest.seats ≡ 32
-seats-are t = search rules
+seats_are : (t : tie.Start) → length t.args.rest.seats ≡ 32
+seats_are t = search rules
 
 returns : tie.Need-returns
 returns c = let s = c.before in let t = s.before.before in let a = t.args in (
   ap (λ (r : Rest). board_of s.put_sets.new.sets r) c.put_seat.ensures
-      ∙ put-board a.q a.p a.sets.now _ a.rest t.requires.0.0 t.requires.0.1 s.put_sets.ensures (seats-are t),
+      ∙ put-board a.q a.p a.sets.now _ a.rest t.requires.0.0 t.requires.0.1 s.put_sets.ensures (seats_are t),
   (c.put_seat.ensures, s.put_sets.ensures.is_store),
 )
 

@@ -16,5 +16,5 @@ put_sets_spec =
     (tie.spec
     (λ c κs. (omega arith, search rules))
     (λ c. search rules)
-    (λ c κs. (omega arith, c.before.before.before.before.put_three.ensures.are-store))
+    (λ c κs. (omega arith, c.before.before.before.before.put_three.ensures.are_store))
     returns)

@@ -14,13 +14,13 @@ returns : tie.Need-returns
 returns c = let t = c.before.before.before.before in let s = t.before.before in let e = t.take_sets.ensures in (
   e,
   board_is s.args.b t.take_sets.new.sets _ e (record {
-    seats-are = c.before.before.before.seats_of-seats.ensures;
-    waiting-is = refl;
+    seats_are = c.before.before.before.seats_of-seats.ensures;
+    waiting_is = refl;
     entry-is = refl;
     favoured_is = refl;
-    initial-is = refl;
-    leaves-are = refl;
-    passed-are = refl;
+    initial_is = refl;
+    leaves_are = refl;
+    passed_are = refl;
   }) (sized s),
 )
 

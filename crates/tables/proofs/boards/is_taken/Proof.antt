@@ -8,7 +8,7 @@ use Rattle.laws.specs.Lists.{any, rising}
 use Rattle.rules.specs.Boards.{everyone}
 use Rattle.store.specs.Store.{seat_at}
 use Rattle.tables.specs.Boards.{other_uses, taken_in}
-use Rattle.tables.proofs.Laws.{any_step, any-end}
+use Rattle.tables.proofs.Laws.{any_step, any_end}
 use borrow.Author.Rules.{rules}
 use Rattle.tables.proofs.boards.is_taken.Statement.{statement}
 use Rattle.tables.proofs.boards.is_taken.Tie as tie
@@ -40,7 +40,7 @@ loop-again c = let t = c.before in let l = t.before.before.before in (
 )
 
 returns-2 : tie.Need-returns invariant-loop decreases-loop
-returns-2 c = let l = c.before in sym (l.loop-i.invariant.2 ∙ any-end (test l.before) l.loop-i.i (omega arith))
+returns-2 c = let l = c.before in sym (l.loop-i.invariant.2 ∙ any_end (test l.before) l.loop-i.i (omega arith))
 
 pub is_taken_spec : {M : Type 1} → statement M
 is_taken_spec =

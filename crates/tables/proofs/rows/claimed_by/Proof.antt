@@ -2,9 +2,9 @@
 use mathlib.Core.Path.{sym}
 use Rattle.tables.specs.ProgramSets.{has_program, without_program}
 use Rattle.tables.specs.Shared.{claimed_at, SharedBy}
-use Rattle.tables.proofs.Walk.{Rest, came, rest_more, came-start, came-here, came-other, came-not, came-all, without_lt}
+use Rattle.tables.proofs.Walk.{Rest, came, rest_more, came-start, came-here, came-other, came_not, came-all, without_lt}
 use Rattle.tables.proofs.NoRow.{claimed-words}
-use Rattle.tables.proofs.Sharing.{shared-none, shared-more, shared_same}
+use Rattle.tables.proofs.Sharing.{shared_none, shared_more, shared_same}
 use borrow.Author.Rules.{rules}
 use Rattle.tables.proofs.rows.claimed_by.Statement.{statement}
 use Rattle.tables.proofs.rows.claimed_by.Tie as tie
@@ -16,7 +16,7 @@ abbrev decreases-loop : tie.decreases-loop-rest
 decreases-loop sets claimed₀ rest₀ claimed rest = rest.bits
 
 loop-holds : tie.Need-loop-rest-init invariant-loop decreases-loop
-loop-holds c = let a = c.args in (λ x e. e, shared-none (claimed_at a.sets.now) (came a.set a.set) (came-start a.set))
+loop-holds c = let a = c.args in (λ x e. e, shared_none (claimed_at a.sets.now) (came a.set a.set) (came-start a.set))
 
 lowest-requires : tie.Need-lowest-p-requires invariant-loop decreases-loop
 lowest-requires c κs = c.loop-rest-test.true
@@ -34,8 +34,8 @@ loop-again c = let l = c.before.before.before.lowest-p in let s = c.before.befor
     let r = s.loop-rest.rest in
     rw (c.but_lowest-rest.ensures, sym l.ensures.0, c.before.with-claimed.ensures, c.before.before.claims_of-files.ensures) (
       rest_more a.set r p s.loop-rest.invariant.0,
-      shared-more g (came a.set r) (came a.set (without_program r p)) p s.loop-rest.claimed
-          (claimed-words a.sets.now s.before.requires p l.ensures.1.0 l.ensures.1.1) (came-not a.set r p h)
+      shared_more g (came a.set r) (came a.set (without_program r p)) p s.loop-rest.claimed
+          (claimed-words a.sets.now s.before.requires p l.ensures.1.0 l.ensures.1.1) (came_not a.set r p h)
           (came-here a.set r p s.loop-rest.invariant.0 h) (came-other a.set r p) s.loop-rest.invariant.1,
     )
 
