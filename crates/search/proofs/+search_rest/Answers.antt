@@ -5,16 +5,16 @@ use Rattle.tables.specs.ProgramSets.{without_program, common_of}
 use Rattle.tables.specs.Tables.{row_of}
 use Rattle.search.specs.Counts.{Counted, CanLower, lowered}
 use Rattle.search.specs.Rows.{outcome}
-use Rattle.search.proofs.Laws.{lowest_left, order_done, order_stuck, order_more}
-use Rattle.search.proofs.Counting.{can_lower, lowered_right}
+use Rattle.search.proofs.Laws.{lowest-left, order-done, order-stuck, order-more}
+use Rattle.search.proofs.Counting.{can_lower, lowered-right}
 use Rattle.search.proofs.+search_rest.Goals as goal
 
 pub returns-then-n-eq0 : goal.returns-then-n-eq0
-returns-then-n-eq0 t c = let a = c.args in order_done a.rows.now a.left a.at.now a.n a.k c.if-n-eq0.true
+returns-then-n-eq0 t c = let a = c.args in order-done a.rows.now a.left a.at.now a.n a.k c.if-n-eq0.true
 
 pub returns-then-p-eq0 : goal.returns-then-p-eq0
 returns-then-p-eq0 t c = let a = c.args in
-    order_stuck a.rows.now a.counts.now a.left c.requires.2 a.at.now a.n a.k c.lowest_free-p.result c.if-n-eq0.false
+    order-stuck a.rows.now a.counts.now a.left c.requires.2 a.at.now a.n a.k c.lowest_free-p.result c.if-n-eq0.false
     c.lowest_free-p.ensures.0 c.if-p-eq0.true
 
 pub lower-requires : goal.lower-requires
@@ -22,7 +22,7 @@ lower-requires t c = let a = c.args in
     subst (λ (x : ProgramSet). CanLower x a.counts.now)
     (sym (c.and.ensures ∙ ap (common_of (row_of a.rows.now c.lowest_free-p.result)) c.without-rest.ensures))
     (can_lower a.rows.now a.counts.now a.left c.requires.2 c.lowest_free-p.result
-    (lowest_left a.rows.now a.counts.now a.left c.requires.2 c.lowest_free-p.result c.lowest_free-p.ensures.0 c.if-p-eq0.false))
+    (lowest-left a.rows.now a.counts.now a.left c.requires.2 c.lowest_free-p.result c.lowest_free-p.ensures.0 c.if-p-eq0.false))
 
 pub search_rest-requires : goal.search_rest-requires
 search_rest-requires t c = let a = c.args in let p = c.lowest_free-p.result in (
@@ -33,8 +33,8 @@ search_rest-requires t c = let a = c.args in let p = c.lowest_free-p.result in (
     subst (λ (x : ProgramSet). Counted a.rows.now x c.lower.new.counts) (sym c.without-rest.ensures)
         (subst (Counted a.rows.now (without_program a.left p)) (sym (c.lower.ensures ∙ ap (λ (x : ProgramSet). lowered x a.counts.now)
         (c.and.ensures ∙ ap (common_of (row_of a.rows.now p)) c.without-rest.ensures)))
-        (lowered_right a.rows.now a.counts.now a.left c.requires.2 p
-        (lowest_left a.rows.now a.counts.now a.left c.requires.2 p c.lowest_free-p.ensures.0 c.if-p-eq0.false))),
+        (lowered-right a.rows.now a.counts.now a.left c.requires.2 p
+        (lowest-left a.rows.now a.counts.now a.left c.requires.2 p c.lowest_free-p.ensures.0 c.if-p-eq0.false))),
   ),
 )
 
@@ -43,5 +43,5 @@ returns t c = let a = c.args in
     let l : length a.at.now ≡ 32 = search rules in
     let z : a.k + a.n ≡ a.k + 1 + (a.n - 1) = omega (arith, c.if-n-eq0.false) in
     ap (λ (m : ℕ). outcome c.search_rest.result m c.search_rest.new.at) z
-    ∙ c.search_rest.ensures ∙ rw c.without-rest.ensures (order_more a.rows.now a.counts.now a.left c.requires.2 a.at.now
+    ∙ c.search_rest.ensures ∙ rw c.without-rest.ensures (order-more a.rows.now a.counts.now a.left c.requires.2 a.at.now
     a.n a.k c.lowest_free-p.result c.if-n-eq0.false c.lowest_free-p.ensures.0 c.if-p-eq0.false (omega (arith, c.if-n-eq0.false)))
