@@ -63,7 +63,7 @@ admit-one-requires c κs =
       (omega arith, omega arith),
       one-fits _ (at l.before) v.0 (λ e. t.before.loop-p-test.true (v.1 ∙ e)) n,
       v.0.counts.counted.most,
-      (start l).requires.4,
+      (start l.before).requires.4,
       v.2,
     )
 
@@ -73,10 +73,10 @@ module _ (c : tie.After-first_held-p-in-loop-p invariant-loop decreases-loop) wh
   ran = c.before.before
 
   abbrev turn : tie.In-loop-p invariant-loop decreases-loop
-  turn = ran.before.before.before.before
+  turn = ran.before.before.before.before.before
 
   abbrev next : Written
-  next = written_in (start turn.before).args.sets.now ran.admit-one.last.1.0 ran.admit-one.result
+  next = written_in (start turn.before).args.sets.now ran.admit_one-s.last.1.0 ran.admit-one.result
 
   more : Admitting (written_in (start turn.before).args.sets.now (start turn.before).args.lines.now (start turn.before).args.w) next
       × (length (names next.board.entry) < length (names (at turn.before).board.entry))

@@ -159,7 +159,7 @@ module _ (u : tie.After-uses_in-uses-in-loop-j invariant-loop decreases-loop) wh
   first = start (begun at)
 
   abbrev waiter : ℕ
-  waiter = get_or first.args.w.rest.waiting at.loop.j 0
+  waiter = get_or first.args.w.rest.waiting at.loop-j.j 0
 
   abbrev files : List ℕ
   files = (asked (begun at)).fill_asked.new.asked
@@ -171,7 +171,7 @@ module _ (u : tie.After-uses_in-uses-in-loop-j invariant-loop decreases-loop) wh
   who = (admits (begun at)).admitted_seats-admitted.result
 
   abbrev then : Sets
-  then = given_at at.loop.sets waiter file
+  then = given_at at.loop-j.sets waiter file
 
   -- what is open then
   uses-then : u.uses_in-uses-in-loop-j.result ≡ uses_in who (gave u).give.last.0
@@ -203,7 +203,7 @@ module _ (u : tie.After-uses_in-uses-in-loop-j invariant-loop decreases-loop) wh
       (at.loop.n + 1)
 
   -- the next ones are still to be asked
-  next-at : At was first.args.w.rest.waiting files (at.loop.j + 1) is (gave u).give.last.0 (uses_in who (gave u).give.last.0)
+  next-at : At was first.args.w.rest.waiting files (at.loop-j.j + 1) is (gave u).give.last.0 (uses_in who (gave u).give.last.0)
   next-at = let l = at.loop in let t = here.loop-test.true in
       subst (λ (s : Written). At was first.args.w.rest.waiting files (at.loop.j + 1) s (gave u).give.last.0 (uses_in who (gave u).give.last.0))
       (sym next-state)

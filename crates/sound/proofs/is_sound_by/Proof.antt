@@ -87,7 +87,7 @@ past1 c = sym c.before.programs_sound.ensures ∙ c.if-not-programs_sound.false
 
 -- an order was found
 is_found : (c : tie.Else-not-ordered) → found (carried (b3 c)) ≡ true
-is_found c = let s = s3 c in sym s.requires.1.is-ordered ∙ not-false s.args.ordered c.if-not-ordered.false
+is_found c = let s = s3 c in sym s.requires.1.is-ordered ∙ c.if-not-ordered.false
 
 -- so there is no conflict
 no-conflict : (c : tie.Else-not-ordered) → no_conflict (b3 c) ≡ true
@@ -135,7 +135,7 @@ returns c = rw (sym c.before.programs_sound.ensures ∙ c.if-not-programs_sound.
 
 returns-2 : tie.Need-returns-then-not-ordered
 unfolding sound
-returns-2 c = let s = s1 c.before in let n = sym s.requires.1.is-ordered ∙ not-true s.args.ordered c.if-not-ordered.true in
+returns-2 c = let s = s1 c.before in let n = sym s.requires.1.is-ordered ∙ c.if-not-ordered.true in
     by_test (no_conflict (board s)) (λ t. rw (past1 c.before, t, n)) (λ t. rw (past1 c.before, t))
 
 returns-3 : tie.Need-returns-then-not-line_sound
@@ -158,7 +158,7 @@ line-waiters-requires c κs = let l = c.before.before.before in
     let e = l.before.before.before in let s = s3 e in (
       record {
         in_sets = stored s;
-        in_use_lem = ap (λ (x : ProgramSet). uses_in x s.args.sets.now) s.requires.1.admitted_are;
+        in_use = ap (λ (x : ProgramSet). uses_in x s.args.sets.now) s.requires.1.admitted_are;
         apart = no-conflict e;
         ordered = is_found e;
       },

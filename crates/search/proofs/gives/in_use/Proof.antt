@@ -1,4 +1,4 @@
--- `in_use_lem` meets its contract. Assumes nothing.
+-- `in_use` meets its contract. Assumes nothing.
 use mathlib.Core.Path.{◌≡◌, sym, ap, ◌∙◌}
 use mathlib.Core.Bool.{Bool, true, false, ◌&&◌}
 use Prim.Native.Nat.{ℕ}
