@@ -76,21 +76,21 @@ module _ (c : tie.After-first_held-p-in-loop-p invariant-loop decreases-loop) wh
   turn = ran.before.before.before.before.before
 
   abbrev next : Written
-  next = written_in (start turn.before).args.sets.now ran.admit_one-s.last.1.0 ran.admit-one.result
+  next = written_in (start turn.before).args.sets.now ran.admit_one-s.new.lines ran.admit_one-s.result
 
   more : Admitting (written_in (start turn.before).args.sets.now (start turn.before).args.lines.now (start turn.before).args.w) next
       × (length (names next.board.entry) < length (names (at turn.before).board.entry))
-  more = let i = ran.before.before in let o = i.before.oldest-overdue in let l = turn.before in let v = l.loop.invariant in
-      let n = overdue-none (at l).board o.result v.0.loose o.ensures i.if1.left in
-      one_more _ (at l) v.0 (λ e. turn.loop-test.true (v.1 ∙ e)) next n
-      (ran.admit-one.ensures.0 ∙ ap (λ q. after (at l) (admit_one (at l).board q)) v.1)
+  more = let i = ran.before.before in let o = i.before.oldest_overdue-overdue in let l = turn.before in let v = l.loop-p.invariant in
+      let n = overdue-none (at l).board o.result v.0.loose o.ensures i.if-overdue-ne0.false in
+      one_more _ (at l) v.0 (λ e. turn.loop-p-test.true (v.1 ∙ e)) next n
+      (ran.admit_one-s.ensures.0 ∙ ap (λ q. after (at l) (admit_one (at l).board q)) v.1)
 
 loop-less : tie.Need-loop-p-smaller invariant-loop decreases-loop
 loop-less c = (more c).1
 
 loop-again : tie.Need-loop-p-preserved invariant-loop decreases-loop
 unfolding board_of
-loop-again c = ((more c).0, c.first_held-p-in-loop-p.ensures, (ran c).admit-one.ensures.1)
+loop-again c = ((more c).0, c.first_held-p-in-loop-p.ensures, (ran c).admit_one-s.ensures.1)
 
 returns-2 : tie.Need-returns invariant-loop decreases-loop
 unfolding board_of

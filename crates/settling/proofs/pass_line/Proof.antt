@@ -109,21 +109,25 @@ abbrev gave : tie.After-uses_in-uses-in-loop-j invariant-loop decreases-loop →
 gave u = u.before
 
 -- the waiter is a program, and its line fits
+ranged : (s : tie.At-loop-j invariant-loop decreases-loop) → s.loop-j.j < 32 → let l = s.loop-j in
+    let p = get_or (start (begun s)).args.w.rest.waiting l.j 0 in (1 ≤ p) × (p ≤ 32) × (l.n < 32)
+ranged s u = let l = s.loop-j in give-range _ _ _ _ _ _ _ l.invariant.4 l.invariant.0 (omega arith)
+
 range : (i : tie.In-loop-j invariant-loop decreases-loop) → let l = i.before.loop-j in let p = get_or (start (begun i.before)).args.w.rest.waiting l.j 0 in
     (1 ≤ p) × (p ≤ 32) × (l.n < 32)
-range i = let l = i.before.loop-j in let u = i.loop-j-test.true in give-range _ _ _ _ _ _ _ l.invariant.4 l.invariant.0 (omega arith)
+range i = ranged i.before i.loop-j-test.true
 
 sub-i : tie.Need-overflow_sub-i invariant-loop decreases-loop
-sub-i c = (range c).0
+sub-i c = (ranged c.before c.loop-j-test.true).0
 
 cast-i : tie.Need-overflow_cast-i invariant-loop decreases-loop
-cast-i c = let r = range c in omega (arith, r.0, r.1)
+cast-i c = let r = ranged c.before c.loop-j-test.true in omega (arith, r.0, r.1)
 
 mul-f : tie.Need-offset_bounds-asked-i invariant-loop decreases-loop
-mul-f c = let r = range c in omega (arith, r.0, r.1)
+mul-f c = let r = ranged c.before c.loop-j-test.true in omega (arith, r.0, r.1)
 
 array-read-f : tie.Need-bounds-asked-i invariant-loop decreases-loop
-array-read-f c = let r = range c in omega (arith, r.0, r.1)
+array-read-f c = let r = ranged c.before c.loop-j-test.true in omega (arith, r.0, r.1)
 
 served-requires : tie.Need-served-c-requires invariant-loop decreases-loop
 served-requires c κs = let r = range c in (r.0, r.1)
@@ -144,7 +148,7 @@ give-requires : tie.Need-give-requires invariant-loop decreases-loop
 give-requires c κs = let i = turn c.before in let r = range i in ((r.0, r.1), i.before.loop-j.invariant.2)
 
 uses-in-requires-2 : tie.Need-uses_in-uses-requires-in-loop-j invariant-loop decreases-loop
-uses-in-requires-2 c κs = let g = c.before in let i = turn (told g) in let s = i.before in let r = range i in
+uses-in-requires-2 c κs = let g = c in let i = turn (told g) in let s = i.before in let r = range i in
     let p = get_or (start (begun s)).args.w.rest.waiting s.loop-j.j 0 in let f = get_or (asked (begun s)).fill_asked.new.asked (p - 1) 0 in
     subst IsStore (sym c.give.ensures) (given_store s.loop-j.sets p f r.0 r.1 s.loop-j.invariant.2)
 
@@ -174,21 +178,21 @@ module _ (u : tie.After-uses_in-uses-in-loop-j invariant-loop decreases-loop) wh
   then = given_at at.loop-j.sets waiter file
 
   -- what is open then
-  uses-then : u.uses_in-uses-in-loop-j.result ≡ uses_in who (gave u).give.last.0
+  uses-then : u.uses_in-uses-in-loop-j.result ≡ uses_in who (gave u).give.new.sets
   uses-then = u.uses_in-uses-in-loop-j.ensures
 
-  sets_then : (gave u).give.last.0 ≡ then
+  sets_then : (gave u).give.new.sets ≡ then
   sets_then = (gave u).give.ensures
 
-  store_then : IsStore (gave u).give.last.0
+  store_then : IsStore (gave u).give.new.sets
   store_then = let r = range here in
-      subst IsStore (sym sets_then) (given_store at.loop.sets waiter file r.0 r.1 at.loop.invariant.2)
+      subst IsStore (sym sets_then) (given_store at.loop-j.sets waiter file r.0 r.1 at.loop-j.invariant.2)
 
   -- the board with its lines, once the waiter is served
-  next-state : state (gave u).give.last.0 (set at.loop.lines at.loop.n (told (gave u)).line_of.result) (ran (told (gave u))).served-c.result
-      (at.loop.n + 1) ≡ state_of (given_to (board_of at.loop.sets at.loop.c) waiter file)
-      (set (lines_in at.loop.lines) at.loop.n (line Word.Given waiter file)) (at.loop.n + 1)
-  next-state = let r = range here in let l = at.loop in
+  next-state : state (gave u).give.new.sets (set at.loop-j.lines at.loop-j.n (told (gave u)).line_of.result) (ran (told (gave u))).served-c.result
+      (at.loop-j.n + 1) ≡ state_of (given_to (board_of at.loop-j.sets at.loop-j.c) waiter file)
+      (set (lines_in at.loop-j.lines) at.loop-j.n (line Word.Given waiter file)) (at.loop-j.n + 1)
+  next-state = let r = range here in let l = at.loop-j in
       same-written _ _ _ _ (l.n + 1)
       (ap₂ board_of sets_then (ran (told (gave u))).served-c.ensures
       ∙ served_is l.sets l.c waiter file l.invariant.2 l.invariant.1 (record { least = r.0; most = r.1 }))
@@ -199,24 +203,24 @@ module _ (u : tie.After-uses_in-uses-in-loop-j invariant-loop decreases-loop) wh
   was = state first.args.sets.now first.args.lines.now first.args.w.rest first.args.w.count
 
   abbrev is : Written
-  is = state (gave u).give.last.0 (set at.loop.lines at.loop.n (told (gave u)).line_of.result) (ran (told (gave u))).served-c.result
-      (at.loop.n + 1)
+  is = state (gave u).give.new.sets (set at.loop-j.lines at.loop-j.n (told (gave u)).line_of.result) (ran (told (gave u))).served-c.result
+      (at.loop-j.n + 1)
 
   -- the next ones are still to be asked
-  next-at : At was first.args.w.rest.waiting files (at.loop-j.j + 1) is (gave u).give.last.0 (uses_in who (gave u).give.last.0)
-  next-at = let l = at.loop in let t = here.loop-test.true in
-      subst (λ (s : Written). At was first.args.w.rest.waiting files (at.loop.j + 1) s (gave u).give.last.0 (uses_in who (gave u).give.last.0))
+  next-at : At was first.args.w.rest.waiting files (at.loop-j.j + 1) is (gave u).give.new.sets (uses_in who (gave u).give.new.sets)
+  next-at = let l = at.loop-j in let t = here.loop-j-test.true in
+      subst (λ (s : Written). At was first.args.w.rest.waiting files (at.loop-j.j + 1) s (gave u).give.new.sets (uses_in who (gave u).give.new.sets))
       (sym next-state)
-      (subst (λ (x : Sets). At was first.args.w.rest.waiting files (at.loop.j + 1) (state_of (given_to (board_of l.sets l.c) waiter file)
+      (subst (λ (x : Sets). At was first.args.w.rest.waiting files (at.loop-j.j + 1) (state_of (given_to (board_of l.sets l.c) waiter file)
       (set (lines_in l.lines) l.n (line Word.Given waiter file)) (l.n + 1)) x (uses_in who x)) (sym sets_then)
       (give-next _ _ _ _ _ _ _ l.invariant.4 l.invariant.0 (omega arith) (uses_in who then) refl))
 
 next-given-requires-2 : tie.Need-next_given-j-requires-in-loop-j invariant-loop decreases-loop
-next-given-requires-2 c κs = let u = c.before.before in let t = (here u).loop-test.true in
+next-given-requires-2 c κs = let u = c.before in let t = (here u).loop-j-test.true in
     (omega arith, ready_programs (is u).board _ (next-at u).passed.0, store_then u)
 
 loop-again : tie.Need-loop-j-preserved invariant-loop decreases-loop
-loop-again c = let u = c.before.before.before in let l = (at u).loop in (
+loop-again c = let u = c.before.before in let l = (at u).loop-j in (
   l.invariant.0,
   ap (λ (x : Rest). length x.seats) (ran (told (gave u))).served-c.ensures
       ∙ length-set l.c.seats (waiter u - 1) _ ∙ l.invariant.1,

@@ -28,7 +28,7 @@ unfolding board_of
 pass-line-requires c κs = let s = c.before.before in (s.requires.0, s.requires.1, settle-fits-pass (first s) s.requires.2, s.requires.3, s.requires.4)
 
 choose-next-requires : tie.Need-choose_next-requires
-choose-next-requires c κs = let p = c.before.before in let s = start p in (
+choose-next-requires c κs = let p = c.before in let s = start p in (
   settle-loose (first s) (passed c.before) (passed_is c.before) s.requires.0 s.requires.1,
   settle-counts (first s) (passed c.before) (passed_is c.before) s.requires.0 s.requires.1,
   settle-fits-choose (first s) (passed c.before) (passed_is c.before) s.requires.2,
@@ -37,7 +37,7 @@ choose-next-requires c κs = let p = c.before.before in let s = start p in (
 )
 
 returns : tie.Need-returns
-returns c = let p = c.before.before.before in let s = start p in (
+returns c = let p = c.before.before in let s = start p in (
   c.choose_next.ensures.0 ∙ settle_is (first s) (passed c.before.before) (passed_is c.before.before),
   (c.before.before.pass_line-s.ensures.1.0, c.choose_next.ensures.1),
 )
