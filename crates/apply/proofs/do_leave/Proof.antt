@@ -31,16 +31,16 @@ abbrev seat : tie.After-put-left → tie.After-seat_at-seat
 seat k = k.before.before
 
 counted-requires : tie.Need-counted-c-requires
-counted-requires c κs = let k = c.before in let s = (seat k).before in let a = s.args in
+counted-requires c κs = let k = c in let s = (seat k).before in let a = s.args in
     subst (λ (r : Rest). r.leaves ≤ 32) (sym c.put-left.ensures.1.0) (leaves-few a.sets.now a.rest s.requires.1)
 
 -- the board before the record is handed on
-gone : (n : tie.After-counted-c) → let k = n.before.before in let s = (seat k).before in
+gone : (n : tie.After-counted-c) → let k = n.before in let s = (seat k).before in
     board_of n.before.put-left.new.sets n.counted-c.result ≡ count_leave (set_program (board s) s.args.p no_program)
 gone n = let k = n.before.before in n.counted-c.ensures ∙ ap count_leave n.before.put-left.ensures.0
 
 handed_on-requires : tie.Need-handed_on-requires
-handed_on-requires c κs = let n = c.before.before in let k = n.before.before in let s = (seat k).before in let a = s.args in (
+handed_on-requires c κs = let n = c.before.before in let k = n.before in let s = (seat k).before in let a = s.args in (
   leave_hands (board s) _ a.p _ _ (gone n) (file (seat k)) (item (seat k)) s.requires.1 s.requires.2,
   c.before.before.before.put-left.ensures.1.1,
   s.requires.4,
@@ -48,7 +48,7 @@ handed_on-requires c κs = let n = c.before.before in let k = n.before.before in
 
 returns : tie.Need-returns
 unfolding leave
-returns c = let n = c.before.before.before in let k = n.before.before in let s = (seat k).before in let a = s.args in (
+returns c = let n = c.before.before.before in let k = n.before in let s = (seat k).before in let a = s.args in (
   c.handed_on.ensures.0 ∙ ap (λ (x : Board). finish (hand_on x (seat k).seat_at-seat.result.file (seat k).seat_at-seat.result.item) a.p 0) (gone n)
       ∙ ap₂ (λ (x y : ℕ). finish (hand_on (count_leave (set_program (board s) a.p no_program)) x y) a.p 0) (file (seat k)) (item (seat k)),
   c.handed_on.ensures.1,

@@ -56,11 +56,11 @@ same-sets : (o : tie.After-order_given-order) → o.order_given-order.new.sets �
 same-sets o = o.order_given-order.ensures.1
 
 put-waiting-requires : tie.Need-put_waiting-c-requires
-put-waiting-requires c κs = let s = start c.before.before in let a = s.args in
+put-waiting-requires c κs = let s = start c.before in let a = s.args in
     (s.requires.0, waiting_free a.sets.now a.rest a.p a.f s.requires.1 s.requires.2, s.requires.3)
 
 returns : tie.Need-returns-then-in_use
-returns c = let w = c.before.before.before in let i = w.before.before in let u = i.before in let s = start u in let a = s.args in (
+returns c = let u = c.before.before.before.before in let s = start u in let a = s.args in (
   c.answered.ensures.0 ∙ ap (λ (x : Board). reply x Answer.Wait (line Word.Wait a.p a.f ∷ [])) (c.before.before.put_waiting-c.ensures ∙ open_wait (board s) a.p a.f s.requires.1 s.requires.2)
       ∙ open_waits (board s) a.p a.f (sym (used c.before.before.before.before) ∙ c.before.before.before.if-in_use.true),
   (s.requires.3, c.answered.ensures.1.0, c.answered.ensures.1.1),
@@ -70,12 +70,12 @@ still-store : (o : tie.After-order_given-order) → IsStore o.order_given-order.
 still-store o = subst IsStore (sym (same-sets o)) (start (tested o)).requires.3
 
 put-waiting-requires-2 : tie.Need-put_waiting-c-requires-in_default
-put-waiting-requires-2 c κs = let o = c.before.before in let s = start (tested o) in let a = s.args in
+put-waiting-requires-2 c κs = let o = c.before in let s = start (tested o) in let a = s.args in
     (s.requires.0, waiting_free a.sets.now a.rest a.p a.f s.requires.1 s.requires.2, still-store c.before)
 
 returns-2 : tie.Need-returns-in_default
-returns-2 c = let w = c.before.before.before in let t = w.before in let o = t.before.before in let i = o.before.before in
-    let u = i.before in let s = start u in let a = s.args in (
+returns-2 c = let w = c.before.before.before in let t = w.before in let o = t.before.before in let i = o.before in
+    let u = i in let s = start u in let a = s.args in (
       c.answered-in_default.ensures.0 ∙ ap (λ (x : Board). reply x Answer.Unsafe (line Word.Unsafe a.p a.f ∷ []))
           (c.before.before.put_waiting-c-in_default.ensures ∙ ap (λ (x : Sets). waiting_for (board_of x a.rest) a.p a.f 0 0) (same-sets c.before.before.before.before)
           ∙ open_wait (board s) a.p a.f s.requires.1 s.requires.2)
@@ -90,7 +90,7 @@ give-requires c κs = let o = c.before.before in ((start (tested o)).requires.0,
 -- the order that was found is that of the board with the file given
 given-requires : tie.Need-given-requires
 unfolding with_given
-given-requires c κs = let g = c.before.before.before in let t = g.before in let o = t.before.before in
+given-requires c κs = let g = c.before.before.before in let t = g.before in let o = t.before in
     let s = start (tested o) in let a = s.args in
     let e = c.before.before.give.ensures ∙ ap (λ (x : Sets). given_at x a.p a.f) (same-sets c.before.before.before.before.before) in (
       s.requires.4,
@@ -102,7 +102,7 @@ given-requires c κs = let g = c.before.before.before in let t = g.before in let
 returns-3 : tie.Need-returns
 unfolding with_given
 returns-3 c = let g = c.before.before.before.before in let t = g.before in let o = t.before.before in let i = o.before.before in
-    let u = i.before in let s = start u in let a = s.args in
+    let u = i in let s = start u in let a = s.args in
     let e = c.before.before.before.give.ensures ∙ ap (λ (x : Sets). given_at x a.p a.f) (same-sets c.before.before.before.before.before.before) in (
       c.given.ensures.0 ∙ ap (λ (x : Board). reply x Answer.Given (line Word.Given a.p a.f ∷ []))
           (ap (λ (x : Sets). board_of x a.rest) e
