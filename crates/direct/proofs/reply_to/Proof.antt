@@ -47,7 +47,7 @@ tested k = k.before.before.before
 complete-requires : tie.Need-complete-requires
 complete-requires c κs = let k = c.before.before.before in let j = (tested k).before.before in let e = k.call-changed.ensures in (
   λ h. let n = sym (ap (λ (x : Reply). refused x.answer) e.0) ∙ h in
-      j.judge.ensures.1 ∙ sym (ap (λ (x : Board). as_order (carried x)) (ap (λ (x : Reply). x.board) e.0
+      j.judge-j.ensures.1 ∙ sym (ap (λ (x : Board). as_order (carried x)) (ap (λ (x : Reply). x.board) e.0
       ∙ apply-same (board j) (call_of (start j).args.a) n)),
   e.1.0,
   e.1.1,

@@ -61,7 +61,7 @@ line-requires c κs = let i = c.before.before.before in let j = i.before.before 
     (sym j.judge-j.ensures.0 ∙ not-false j.judge-j.result.sound i.if-not-j.false, j.before.before.take-rest.ensures.0.0, refl)
 
 complete-requires : tie.Need-complete-reply-requires
-complete-requires c κs = let l = c.before.before.before.before.before in let j = judged l in let a = (begin j).args in let k = l.before.line-s.ensures in (
+complete-requires c κs = let l = c.before.before.before.before.before in let j = judged l.before in let a = (begin j).args in let k = l.before.line-s.ensures in (
   λ h. let n = sym (ap (λ (x : Reply). refused x.answer) k.0) ∙ h in
       j.judge-j.ensures.1 ∙ sym (ap (λ (x : Board). as_order (carried x)) (ap (λ (x : Reply). x.board) k.0
       ∙ refused-same (board j) a.line.now a.journal.now a.place n)),
@@ -71,7 +71,7 @@ complete-requires c κs = let l = c.before.before.before.before.before in let j 
 )
 
 returns-2 : tie.Need-returns
-returns-2 c = let f = c.before in let l = f.before.before.before.before.before.before in let k = l.before.line-s.ensures in let j = judged l in
+returns-2 c = let f = c.before in let l = f.before.before.before.before.before.before in let k = l.before.line-s.ensures in let j = judged l.before in
     let s = begin j in let a = s.args in let e = same-board j in
     let q = f.complete-reply.ensures ∙ k.0 ∙ ap (λ (x : Board). (outcome x s).reply) e in (
       q,

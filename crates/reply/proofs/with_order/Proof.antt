@@ -14,15 +14,15 @@ returns c = let s = c.before in let a = s.args in
     replied-stuck _ a.answer (order-none (carried a.b) a.order s.requires c.in_default.is)
 
 cast-t10 : tie.Need-overflow_cast-result
-cast-t10 c = let k = c.before.kind in let s = c.before.before in let a = s.args in
+cast-t10 c = let k = c.before.in-Found in let s = c.before.before in let a = s.args in
     let m : length a.order.at ≡ 32 = search rules in
-    let h = order_short (carried a.b) a.order k.given.0.0 s.requires k.given.1 m in omega (arith, h)
+    let h = order_short (carried a.b) a.order k.n s.requires k.is m in omega (arith, h)
 
 returns-2 : tie.Need-returns
-returns-2 c = let k = c.before.kind in let s = c.before.before in let a = s.args in
-    replied-found _ a.answer a.order.at k.given.0.0
-    (order-at (carried a.b) a.order k.given.0.0 s.requires k.given.1)
-    (order_count (carried a.b) a.order k.given.0.0 s.requires k.given.1)
+returns-2 c = let k = c.before.in-Found in let s = c.before.before in let a = s.args in
+    replied-found _ a.answer a.order.at k.n
+    (order-at (carried a.b) a.order k.n s.requires k.is)
+    (order_count (carried a.b) a.order k.n s.requires k.is)
 
 pub with_order_spec : {M : Type 1} → statement M
 with_order_spec = tie.close (tie.spec (λ c. search rules) (λ c. search rules) returns cast-t10 returns-2)

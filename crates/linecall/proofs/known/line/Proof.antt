@@ -35,7 +35,7 @@ returns c = let i = c.before.before.before in let f = i.before in let s = start 
     (rw e c.refused-changed.ensures.0, (rw e, (rw e, (s.requires.1, subst IsEntries (sym s.requires.2) fresh_entries, c.refused-changed.ensures.1))))
 
 write-lines-requires : tie.Need-write_lines-at-requires
-write-lines-requires c κs = let p = c.before.before.before in let r = p.before.before.before in let i = roomy r in let s = start i.before in
+write-lines-requires c κs = let p = c.before.before.before in let r = p.before in let i = roomy r in let s = start i.before in
     let e : c.before.reply_to-changed.result.progress.count ≡ (reply_to (board s) c.before.before.before.before.read-q.result).count =
     ap (λ (x : Reply). x.count) c.before.reply_to-changed.ensures.0 in (
       (Laws.room (length s.args.journal.now) s.args.place (has_room i)).1,
