@@ -30,7 +30,7 @@ has_room : (i : tie.Else-is_full) → let a = (start i.before).args in journal_f
 has_room i = sym i.before.is_full.ensures ∙ i.if-is_full.false
 
 returns : tie.Need-returns-then-is_full
-returns c = let i = c.before.before.before in let f = i.before in let s = start f in let a = s.args in
+returns c = let s = start c.before.before in let a = s.args in
     let e = Laws.call_full (board s) a.line.now a.journal.now a.place s.requires.0 (sym c.before.before.is_full.ensures ∙ c.before.if-is_full.true) in
     (rw e c.refused-changed.ensures.0, (rw e, (rw e, (s.requires.1, subst IsEntries (sym s.requires.2) fresh_entries, c.refused-changed.ensures.1))))
 
