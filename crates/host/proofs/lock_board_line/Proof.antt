@@ -1,7 +1,7 @@
 -- `lock_board_line` meets its contract. Assumes nothing.
 use mathlib.Core.Path.{◌≡◌, refl, ap, sym, ◌∙◌}
 use mathlib.Core.Bool.{true}
-use borrow.Author.Tests.{eq-eqb, not-true, not-false}
+use borrow.Author.Tests.{eq-eqb}
 use Rattle.rules.specs.Soundness.{sound}
 use Rattle.image.specs.declared.Loaded.{Loaded}
 use Rattle.image.specs.Image.{image_length, loaded_of}
@@ -23,7 +23,7 @@ abbrev found : tie.After-take_image-taken → Loaded
 found k = loaded_in k.take_image-taken.new.sets k.take_image-taken.result
 
 ok : (i : tie.Else-not-ok) → i.before.take_image-taken.result.ok ≡ true
-ok i = not-false i.before.take_image-taken.result.ok i.if-not-ok.false
+ok i = i.if-not-ok.false
 
 -- the image is read
 read : (i : tie.Else-not-ok) → (found i.before ≡ loaded_of (start i).args.image.now) × (sound (found i.before).board ≡ true)
@@ -32,7 +32,7 @@ read i = Laws.image_read (start i).args.image.now (found i.before)
 
 returns : tie.Need-returns-then-not-ok
 returns c = let k = c.before.before in let a = k.before.before.before.before.before.args in
-    let n = not-true k.take_image-taken.result.ok c.before.if-not-ok.true in
+    let n = c.before.if-not-ok.true in
     let e = Laws.host_refused a.image.now a.line.now a.journal.now a.place
     (ap (λ (x : Loaded). x.ok) (sym (rw n at k.take_image-taken.ensures.0))) in
     (rw e c.answer_for.ensures, (rw e, rw e))
@@ -54,10 +54,10 @@ reply k = let l = k.line-served in replied (written_in l.new.sets l.new.lines l.
 -- the host's call, from what serving the line gave
 hosts : (n : tie.After-of_answer-n) → let l = (served n).line-served in let a = (start (read-for (served n))).args in
     Laws.Hosts a.image.now a.line.now a.journal.now a.place n.of_answer-n.result l.result.place
-    (reply (served n)) l.last.1.1.1.1.0
+    (reply (served n)) l.new.journal
 hosts n = let l = (served n).line-served in let i = read-for (served n) in let a = (start i).args in
     Laws.host_by a.image.now a.line.now a.journal.now a.place n.of_answer-n.result l.result.place
-    (reply (served n)) l.last.1.1.1.1.0 (found i.before) (read i).0 (ok i)
+    (reply (served n)) l.new.journal (found i.before) (read i).0 (ok i)
     l.ensures.0 l.ensures.1.0 l.ensures.1.1.0 n.of_answer-n.ensures
 
 put-image-of-requires : tie.Need-put_image_of-requires

@@ -2,7 +2,6 @@
 use mathlib.Core.Path.{◌≡◌, refl, ap, sym, ◌∙◌}
 use mathlib.Core.Bool.{true}
 use lib.ListN.{length}
-use borrow.Author.Tests.{not-true, not-false}
 use Rattle.laws.specs.Tests.{never}
 use Rattle.laws.specs.Lists.{found}
 use Rattle.rules.specs.Orders.{carried}
@@ -13,6 +12,7 @@ use Rattle.image.specs.Stored.{loaded_in}
 use Rattle.search.proofs.Ordered.{order-none}
 use Rattle.reply.proofs.Laws.{order_short}
 use Rattle.host.proofs.Laws
+use borrow.Author.Tests.{not-true, not-false}
 use borrow.Author.Rules.{rules}
 use Rattle.host.proofs.lock_board_order.Statement.{statement}
 use Rattle.host.proofs.lock_board_order.Tie as tie
@@ -27,7 +27,7 @@ found-board k = loaded_in k.load_in-loaded.new.sets k.load_in-loaded.result
 returns : tie.Need-returns-then-not-ok
 returns c = let k = c.before.before in let a = (start k).args in
     let e = Laws.order-refused a.image.now a.order.now (ap (λ (x : Loaded). x.ok)
-    (Laws.image_layout _ (found-board k) k.load_in-loaded.ensures.0 (not-true k.load_in-loaded.result.ok c.before.if-not-ok.true))) in
+    (Laws.image_layout _ (found-board k) k.load_in-loaded.ensures.0 (c.before.if-not-ok.true))) in
     (c.refusal_answer.ensures ∙ sym e.0, sym e.1)
 
 -- where the layout is known to be an image's, before the board is tested
@@ -46,7 +46,7 @@ says : (j : tie.After-judge-j) → let b = (found-board (loaded j)).board in
 says j = j.judge-j.ensures
 
 ok : (j : tie.After-judge-j) → (loaded j).load_in-loaded.result.ok ≡ true
-ok j = not-false (loaded j).load_in-loaded.result.ok (laid_out j).if-not-ok.false
+ok j = (laid_out j).if-not-ok.false
 
 returns-2 : tie.Need-returns-then-not-j
 returns-2 c = let t = c.before in let j = t.before.before in let k = loaded j in let a = (start k).args in
@@ -81,10 +81,10 @@ abbrev found_in : tie.After-put_order → tie.In-Found
 found_in p = p.before.before.before
 
 returns-4 : tie.Need-returns
-returns-4 c = let p = c.before.before in let k = (found_in p).kind in let t = ordered (found_in p) in
+returns-4 c = let p = c.before.before in let k = (found_in p).in-Found in let t = ordered (found_in p) in
     let j = (judged t).judge-j in let l = loaded (judged t) in let a = (start l).args in
-    let e = Laws.order-read a.image.now a.order.now j.result.order.at k.given.0.0 j.result.order (found-board l) l.load_in-loaded.ensures.0
-    (ok (judged t)) (sure t) (says (judged t)).1 k.given.1 refl in
+    let e = Laws.order-read a.image.now a.order.now j.result.order.at k.n j.result.order (found-board l) l.load_in-loaded.ensures.0
+    (ok (judged t)) (sure t) (says (judged t)).1 k.is refl in
     (p.put_order.ensures.0 ∙ sym e.0, p.put_order.ensures.1 ∙ sym e.1)
 
 pub lock_board_order_spec : {M : Type 1} → statement M

@@ -1,7 +1,6 @@
 -- `take_image` meets its contract. Assumes nothing.
 use mathlib.Core.Path.{◌≡◌, sym, ap, ◌∙◌}
 use mathlib.Core.Bool.{Bool}
-use borrow.Author.Tests.{not-true, not-false}
 use Rattle.laws.specs.Tests.{by_test}
 use Rattle.image.specs.declared.Loaded.{Loaded}
 use Rattle.image.specs.Stored.{loaded_in}
@@ -15,11 +14,11 @@ abbrev found : tie.After-load_in-loaded → Loaded
 found k = loaded_in k.load_in-loaded.new.sets k.load_in-loaded.result
 
 returns : tie.Need-returns-then-not-ok
-returns c = let k = c.before in let e = not-true k.load_in-loaded.result.ok c.if-not-ok.true in
+returns c = let k = c.before in let e = c.if-not-ok.true in
     (rw e (sym (Laws.image_layout _ (found k) k.load_in-loaded.ensures.0 e)), k.load_in-loaded.ensures.1)
 
 returns-2 : tie.Need-returns
-returns-2 c = let i = c.before.before.before in let k = i.before in let e = not-false c.before.before.before.load_in-loaded.result.ok c.before.before.if-not-ok.false in (
+returns-2 c = let i = c.before.before.before in let k = i.before in let e = c.before.before.if-not-ok.false in (
   by_test c.is_sound-sound.result
       (λ t. rw t (sym (Laws.image_sound _ (found c.before.before.before) c.before.before.before.load_in-loaded.ensures.0 e (sym c.is_sound-sound.ensures ∙ t)
       ∙ ap (λ (o : Bool). record { ok = o; board = (found c.before.before.before).board }) e)))

@@ -2,7 +2,6 @@
 use mathlib.Core.Path.{◌≡◌, ap, sym, ◌∙◌}
 use mathlib.Core.Bool.{Bool, cond}
 use Prim.Native.Nat.{ℕ}
-use borrow.Author.Tests.{not-true, not-false}
 use Rattle.host.specs.Digraph.{is_loop_answer}
 use Rattle.host.proofs.Digraph.{check_refused, checked-is}
 use borrow.Author.Rules.{rules}
@@ -15,7 +14,7 @@ start k = k.before.before.before
 returns : tie.Need-returns-then-not-ok
 returns c = let k = c.before.before in let r = k.read_image-loaded in let a = (start k).args in
     c.refusal_answer.ensures ∙ sym (check_refused a.image.now a.program a.file a.list.now r.result r.ensures
-    (not-true r.result.ok c.before.if-not-ok.true))
+    (c.before.if-not-ok.true))
 
 -- where the image is read
 abbrev read : tie.After-is_loop_with → tie.Else-not-ok
@@ -26,7 +25,7 @@ answer : (l : tie.After-is_loop_with) → let a = (start (read l).before).args i
     is_loop_answer a.image.now a.program a.file a.list.now ≡ cond l.is_loop_with.result 1 0
 answer l = let i = read l in let r = i.before.read_image-loaded in let a = (start i.before).args in
     checked-is a.image.now a.program a.file a.list.now r.result r.ensures l.is_loop_with.result
-    (not-false r.result.ok i.if-not-ok.false) l.is_loop_with.ensures
+    (i.if-not-ok.false) l.is_loop_with.ensures
 
 returns-2 : tie.Need-returns-then-is_loop_with
 returns-2 c = sym (answer c.before ∙ ap (λ (t : Bool). cond {A = ℕ} t 1 0) c.if-is_loop_with.true)

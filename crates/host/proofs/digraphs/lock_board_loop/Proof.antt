@@ -2,7 +2,6 @@
 use mathlib.Core.Path.{◌≡◌}
 use mathlib.Core.Bool.{true}
 use native.Mathlib.Omega.{arith}
-use borrow.Author.Tests.{not-true, not-false}
 use Rattle.theory.specs.Programs.{Is}
 use Rattle.host.proofs.Laws.{image_read}
 use Rattle.host.proofs.Digraph.{loop_refused, loop_no-program, loop_short, loop_written}
@@ -15,7 +14,7 @@ start k = k.before.before.before
 
 -- where the image is read
 read : (i : tie.Else-not-ok) → i.before.read_image-loaded.result.ok ≡ true
-read i = not-false i.before.read_image-loaded.result.ok i.if-not-ok.false
+read i = i.if-not-ok.false
 
 -- where the number is one of a program, too
 abbrev read-for : tie.Else-program-gt32 → tie.Else-not-ok
@@ -27,7 +26,7 @@ is-program j = record { least = search rules; most = search rules }
 returns : tie.Need-returns-then-not-ok
 returns c = let k = c.before.before in let r = k.read_image-loaded in let a = (start k).args in
     loop_refused a.image.now a.program a.list.now r.result r.ensures c.refusal_answer.result
-    (not-true r.result.ok c.before.if-not-ok.true) c.refusal_answer.ensures
+    (c.before.if-not-ok.true) c.refusal_answer.ensures
 
 returns-2 : tie.Need-returns-then-program-eq0
 returns-2 c = let i = c.before.before in let r = i.before.read_image-loaded in let a = (start i.before).args in

@@ -1,7 +1,6 @@
 -- `lock_board_reach` meets its contract. Assumes nothing.
 use mathlib.Core.Path.{◌≡◌, sym, ◌∙◌}
 use mathlib.Core.Bool.{true}
-use borrow.Author.Tests.{not-true, not-false}
 use Rattle.host.proofs.Digraph.{reach_refused, reach_short, reach_written}
 use borrow.Author.Rules.{rules}
 use Rattle.host.proofs.digraphs.lock_board_reach.Statement.{statement}
@@ -12,11 +11,11 @@ start k = k.before.before.before
 
 -- where the image is read
 read : (i : tie.Else-not-ok) → i.before.read_image-loaded.result.ok ≡ true
-read i = not-false i.before.read_image-loaded.result.ok i.if-not-ok.false
+read i = i.if-not-ok.false
 
 returns : tie.Need-returns-then-not-ok
 returns c = let k = c.before.before in let r = k.read_image-loaded in let a = (start k).args in
-    let e = reach_refused a.image.now a.rows.now r.result r.ensures (not-true r.result.ok c.before.if-not-ok.true) in
+    let e = reach_refused a.image.now a.rows.now r.result r.ensures (c.before.if-not-ok.true) in
     (c.refusal_answer.ensures ∙ sym e.0, sym e.1)
 
 returns-2 : tie.Need-returns-then-rows-lt128

@@ -60,7 +60,7 @@ returns-4 c =
     let a = (start i.before).args in
     write_done a.verb a.program a.file a.item a.claims.now a.label.now a.line.now
     k.result j.claims_in-claims.result w.result c.answer_of.result w.new.line
-    (is-verb i) (sym g.claims-good.ensures ∙ not-false g.claims-good.result l.if3.left)
+    (is-verb i) (sym g.claims_good.ensures ∙ l.if-not-claims_good.false)
     k.ensures j.claims_in-claims.ensures w.ensures.0 c.answer_of.ensures w.ensures.1
 
 pub lock_board_write_spec : {M : Type 1} → statement M
