@@ -38,8 +38,7 @@ pub fn put_rows(out: &mut [u8], rows: [u32; 32])
 
 // The matrix of the image's board, for a C host: for each program 1 to 32 four bytes, lowest first, bit i - 1 if i reaches it.
 // Answers 128; the bytes after them keep their contents. Refusals 1 and 17 write nothing.
-#[unsafe(no_mangle)]
-pub extern "C" fn lock_board_reach(image: &[u8], rows: &mut [u8]) -> u64
+pub fn lock_board_reach(image: &[u8], rows: &mut [u8]) -> u64
     ensures value { result ≡ reach_answer image.now rows.old }
     ensures rows_after { rows.new ≡ reach_rows image.now rows.old }
 {
@@ -70,8 +69,7 @@ fn put_loop(b: Board, p: u8, list: &mut [u8]) -> u64
 
 // A loop for a program that waits, with the file given that it waits for, for a C host: its program numbers from the list's start,
 // and how many they are; 0 for a program that doesn't wait, or waits for a record. The bytes after them keep their contents. Refusals 1, 8 and 17 write nothing.
-#[unsafe(no_mangle)]
-pub extern "C" fn lock_board_loop(image: &[u8], program: u64, list: &mut [u8]) -> u64
+pub fn lock_board_loop(image: &[u8], program: u64, list: &mut [u8]) -> u64
     ensures { LoopReply image.now program list.old result list.new }
 {
     let loaded = read_image(image);
@@ -94,8 +92,7 @@ pub extern "C" fn lock_board_loop(image: &[u8], program: u64, list: &mut [u8]) -
 
 // The checker, for a C host: 1 if the list is a loop of the image's board with the file given to the program, otherwise 0.
 // An image that isn't read: refusal 1.
-#[unsafe(no_mangle)]
-pub extern "C" fn lock_board_is_loop(image: &[u8], program: u64, file: u64, list: &[u8]) -> u64
+pub fn lock_board_is_loop(image: &[u8], program: u64, file: u64, list: &[u8]) -> u64
     ensures { result ≡ is_loop_answer image.now program file list.now }
 {
     let loaded = read_image(image);

@@ -16,7 +16,7 @@ use store::Rest;
 use store::sets::{PLACES, Sets};
 
 pub mod digraphs;
-mod writing;
+pub mod writing;
 
 // The board of an image, into the sets and the rest; an image that is not of its layout, or whose board is not sound, is refused.
 fn take_image(image: &[u8], sets: &mut Sets) -> LoadedRest
@@ -72,13 +72,7 @@ fn answer_for(n: u8, place: u64) -> u64
 }
 
 // The call of a C host: the image holds the board.
-#[unsafe(no_mangle)]
-pub extern "C" fn lock_board_line(
-    image: &mut [u8],
-    line: &[u8],
-    journal: &mut [u8],
-    place: u64,
-) -> u64
+pub fn lock_board_line(image: &mut [u8], line: &[u8], journal: &mut [u8], place: u64) -> u64
     ensures value { result ≡ (host_call image.old line.now journal.old place).answer }
     ensures image_after { image.new ≡ (host_call image.old line.now journal.old place).image }
     ensures journal_after { journal.new ≡ (host_call image.old line.now journal.old place).journal }
@@ -106,8 +100,7 @@ pub extern "C" fn lock_board_line(
 
 // Fills a C host's image with the empty board, so that the host need not know the layout; the answer is 0.
 // An image that hasn't 1,827 bytes stays as it was; the answer is then the largest number.
-#[unsafe(no_mangle)]
-pub extern "C" fn lock_board_empty(image: &mut [u8]) -> u64
+pub fn lock_board_empty(image: &mut [u8]) -> u64
     ensures value { result ≡ empty_answer image.old }
     ensures image_after { image.new ≡ empty_image image.old }
 {
@@ -134,8 +127,7 @@ fn put_order(at: [u8; 32], n: usize, buffer: &mut [u8]) -> u64
 
 // The carried order of the image's board, for a C host: its program numbers from the buffer's start, and how many they are.
 // The bytes after them keep their contents. Refusals 1 and 17 write nothing.
-#[unsafe(no_mangle)]
-pub extern "C" fn lock_board_order(image: &[u8], order: &mut [u8]) -> u64
+pub fn lock_board_order(image: &[u8], order: &mut [u8]) -> u64
     ensures value { result ≡ order_answer image.now order.old }
     ensures order_after { order.new ≡ order_buffer image.now order.old }
 {

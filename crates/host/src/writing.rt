@@ -58,8 +58,7 @@ fn answer_of(w: Writing) -> u64
 // Writes the line that asks for the call from the buffer's start, and answers its length. A number that is no verb's gets 3, an ENTER
 // whose claims haven't their length 8; the writer's refusals are 8, 19, 6 and 17. A refusal writes nothing, and bytes after the line keep
 // their contents.
-#[unsafe(no_mangle)]
-pub extern "C" fn lock_board_write(
+pub fn lock_board_write(
     verb: u64,
     program: u64,
     file: u64,
