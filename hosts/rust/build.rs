@@ -1,5 +1,5 @@
 //! Links the board's archive: the one in the directory that LOCK_BOARD_LIB names, else the one that
-//! `rt staticlib host` has built in this repository, else the one that hosts/install has installed.
+//! `hosts/proved` has built in this repository, else the one that hosts/install has installed.
 //! The example host also links the C functions that the hosts share (hosts/c/common builds them).
 
 use std::env;
@@ -21,7 +21,7 @@ fn main() {
     let places = places(here);
     let Some(archive) = places.iter().find_map(|place| place.canonicalize().ok()) else {
         let [first, second] = places.map(|place| place.display().to_string());
-        eprintln!("there is neither {first} nor {second}: run 'rt staticlib host', or name the archive's directory in LOCK_BOARD_LIB");
+        eprintln!("there is neither {first} nor {second}: run 'hosts/proved host', or name the archive's directory in LOCK_BOARD_LIB");
         exit(1);
     };
     println!("cargo:rerun-if-changed={}", archive.display());
