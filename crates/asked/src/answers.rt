@@ -2,9 +2,9 @@
 ghost use Rattle.std.specs.Prelude.{◌≡◌, length};
 
 use digraph::Loop;
-use libc::STDOUT_FILENO;
 use linecall::Posted;
 use rules::{Answer, Board, Line, Reply, Word};
+use std::io;
 
 // The first letter of a line's word.
 fn word_letter(w: Word) -> u8 {
@@ -77,16 +77,11 @@ fn lines_bytes(lines: [Line; 32]) -> [u8; 224] {
     bytes
 }
 
-// Bytes as they are.
-fn write(s: &[u8]) {
-    io::write_all(STDOUT_FILENO, s);
-}
-
 // The image of a board.
-pub fn write_image(b: Board) {
+pub fn write_image(rt: &impl Print, b: Board) -> io::Result<()> {
     let mut bytes = [0u8; image::IMAGE_LEN];
     image::put_image(&mut bytes, b);
-    write(&bytes);
+    rt.write_all(&bytes)
 }
 
 // A number of bytes, told by 255 if it is more than that.
@@ -120,7 +115,7 @@ fn places(l: Loop) -> [u8; 32] {
 }
 
 // The answer to a direct call, with the loop that it carries.
-pub fn call(r: Reply, l: Loop) {
+pub fn call(rt: &impl Print, r: Reply, l: Loop) -> io::Result<()> {
     let answer = r.answer;
     let head = [
         parts::refusals::of_answer(answer),
@@ -132,46 +127,45 @@ pub fn call(r: Reply, l: Loop) {
     let bytes = lines_bytes(lines);
     let order = r.order;
     let board = r.board;
-    write(&head);
-    write(&bytes);
-    write(&order);
-    write(&[short(l.count)]);
-    write(&places(l));
-    write_image(board);
+    rt.write_all(&head)?;
+    rt.write_all(&bytes)?;
+    rt.write_all(&order)?;
+    rt.write_all(&[short(l.count)])?;
+    rt.write_all(&places(l))?;
+    write_image(rt, board)
 }
 
 // The answer to a line call: that of a direct call, the new place in decimal and byte 10, the journal.
-pub fn post(p: Posted, journal: &[u8]) {
-    call(p.reply, p.carries);
-    io::print_decimal(STDOUT_FILENO, p.place);
-    write(b"\n");
-    write(journal);
+pub fn post(rt: &impl Print, p: Posted, journal: &[u8]) -> io::Result<()> {
+    call(rt, p.reply, p.carries)?;
+    rt.println(p.place)?;
+    rt.write_all(journal)
 }
 
 // 1 or 0.
-pub fn truth(yes: bool) {
+pub fn truth(rt: &impl Print, yes: bool) -> io::Result<()> {
     if yes {
-        write(&[1]);
+        rt.write_all(&[1])
     } else {
-        write(&[0]);
+        rt.write_all(&[0])
     }
 }
 
 // The answer to an image.
-pub fn load(ok: bool, b: Board) {
-    truth(ok);
-    write_image(b);
+pub fn load(rt: &impl Print, ok: bool, b: Board) -> io::Result<()> {
+    truth(rt, ok)?;
+    write_image(rt, b)
 }
 
 // The rows of a matrix, four bytes each.
-pub fn matrix(rows: [u32; 32]) {
+pub fn matrix(rt: &impl Print, rows: [u32; 32]) -> io::Result<()> {
     let mut bytes = [0u8; 128];
     host::digraphs::put_rows(&mut bytes, rows);
-    write(&bytes);
+    rt.write_all(&bytes)
 }
 
 // The answer to a line whose label is asked.
-pub fn label(part: &[u8]) {
-    write(&[short(part.len())]);
-    write(part);
+pub fn label(rt: &impl Print, part: &[u8]) -> io::Result<()> {
+    rt.write_all(&[short(part.len())])?;
+    rt.write_all(part)
 }

@@ -21,22 +21,20 @@ mod answers;
 mod lent;
 mod records;
 
-use libc::STDIN_FILENO;
 use rules::Board;
+use std::io;
 
 // A record that is not whole ends the program.
-fn main() {
+fn main(rt: HostRuntime) -> io::Result<()> {
     let mut board = Board::EMPTY;
-    let mut turns = u64::MAX;
-    while turns > 0 {
+    for _ in 0..u64::MAX {
         let mut bytes = [0u8; 49];
-        let n = io::read_full(STDIN_FILENO, &mut bytes);
+        let n = records::read_full(&rt, &mut bytes)?;
         if n < 49 {
-            return;
+            return Ok(());
         }
         let record = records::parse(&bytes);
-        let next = records::take(board, record);
-        board = next;
-        turns -= 1;
+        board = records::take(&rt, board, record)?;
     }
+    Ok(())
 }

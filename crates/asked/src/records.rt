@@ -1,12 +1,13 @@
 // What a record asks, and how it is done.
-ghost use Rattle.std.specs.Prelude.{◌≡◌, ◌≤◌, length};
+ghost use Rattle.std.specs.Prelude.{◌≡◌, ◌≤◌, length, IfOk};
 
 use crate::lent::Lent;
 use crate::{answers, lent};
 use direct::Answered;
 use files::FileSet;
-use libc::STDIN_FILENO;
 use rules::{Board, Claims};
+use std::io;
+use std::io::Read;
 
 // A record: its kind and its six numbers.
 #[derive(Clone, Copy)]
@@ -100,10 +101,26 @@ fn at_most(asked: u64, most: usize) -> usize
     most
 }
 
+// Reads until all of a buffer is filled or the input ends, and says how many bytes there were.
+pub fn read_full(rt: &impl Input, bytes: &mut [u8]) -> io::Result<usize>
+    ensures { IfOk result (λ n. n ≤ length bytes.new) }
+{
+    let mut input = rt.reader();
+    let mut done: usize = 0;
+    while done < bytes.len() {
+        let n = input.read(&mut bytes[done..])?;
+        if n == 0 {
+            break;
+        }
+        done += n;
+    }
+    Ok(done)
+}
+
 // Reads as many bytes as are asked for and have room, and says how many there were.
-fn read_text(text: &mut [u8], asked: u64) -> usize {
+fn read_text(rt: &impl Input, text: &mut [u8], asked: u64) -> io::Result<usize> {
     let n = at_most(asked, text.len());
-    io::read_full(STDIN_FILENO, &mut text[..n])
+    read_full(rt, &mut text[..n])
 }
 
 // The first n bytes of a text.
@@ -115,34 +132,37 @@ fn front(text: &[u8], n: usize) -> &[u8] {
 }
 
 // The board of the image that follows.
-fn load(asked: u64) -> Board {
+fn load(rt: &(impl Input + Print), asked: u64) -> io::Result<Board> {
     let mut text = [0u8; 4096];
-    let n = read_text(&mut text, asked);
+    let n = read_text(rt, &mut text, asked)?;
     let loaded = image::load(front(&text, n));
     let board = loaded.board;
-    answers::load(loaded.ok, board);
-    board
+    answers::load(rt, loaded.ok, board)?;
+    Ok(board)
 }
 
 // The label of the line that follows.
-fn label(asked: u64) {
+fn label(rt: &(impl Input + Print), asked: u64) -> io::Result<()> {
     let mut text = [0u8; 4096];
-    let n = read_text(&mut text, asked);
-    answers::label(request::label(front(&text, n)));
+    let n = read_text(rt, &mut text, asked)?;
+    answers::label(rt, request::label(front(&text, n)))
 }
 
 // The matrix of the board.
-fn matrix(b: Board) {
+fn matrix(rt: &impl Print, b: Board) -> io::Result<()> {
     let mut rows = [0u32; 32];
     digraph::fill_matrix(b, &mut rows);
-    answers::matrix(rows);
+    answers::matrix(rt, rows)
 }
 
 // Whether the list that follows is a loop with the file given to the program.
-fn check(b: Board, r: Record) {
+fn check(rt: &(impl Input + Print), b: Board, r: Record) -> io::Result<()> {
     let mut text = [0u8; 4096];
-    let n = read_text(&mut text, r.item);
-    answers::truth(digraph::loops::is_loop_with(b, r.program, r.file, front(&text, n)));
+    let n = read_text(rt, &mut text, r.item)?;
+    answers::truth(
+        rt,
+        digraph::loops::is_loop_with(b, r.program, r.file, front(&text, n)),
+    )
 }
 
 // The line call in place, with as much of a journal as is asked for.
@@ -152,39 +172,39 @@ fn post(b: Board, line: &[u8], journal: &mut [u8], asked: u64, place: u64) -> Le
 }
 
 // The line call in place, with the line that follows and a journal whose bytes are all 170.
-fn in_place(b: Board, r: Record) -> Board {
+fn in_place(rt: &(impl Input + Print), b: Board, r: Record) -> io::Result<Board> {
     let mut text = [0u8; 4096];
     let mut journal = [170u8; 1024];
-    let n = read_text(&mut text, r.program);
+    let n = read_text(rt, &mut text, r.program)?;
     let lent = post(b, front(&text, n), &mut journal, r.file, r.item);
     let board = lent.board;
-    answers::post(lent.posted, &journal);
-    answers::write_image(board);
-    board
+    answers::post(rt, lent.posted, &journal)?;
+    answers::write_image(rt, board)?;
+    Ok(board)
 }
 
 // Does what a record asks, and gives the board after it.
-pub fn take(b: Board, r: Record) -> Board {
+pub fn take(rt: &(impl Input + Print), b: Board, r: Record) -> io::Result<Board> {
     if r.kind == b'i' {
-        return load(r.program);
+        return load(rt, r.program);
     }
     if r.kind == b'l' {
-        label(r.program);
-        return b;
+        label(rt, r.program)?;
+        return Ok(b);
     }
     if r.kind == b'p' {
-        return in_place(b, r);
+        return in_place(rt, b, r);
     }
     if r.kind == b'm' {
-        matrix(b);
-        return b;
+        matrix(rt, b)?;
+        return Ok(b);
     }
     if r.kind == b'k' {
-        check(b, r);
-        return b;
+        check(rt, b, r)?;
+        return Ok(b);
     }
     let answered = call(b, r);
     let reply = answered.reply;
-    answers::call(reply, answered.carries);
-    reply.board
+    answers::call(rt, reply, answered.carries)?;
+    Ok(reply.board)
 }

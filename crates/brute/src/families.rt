@@ -8,11 +8,12 @@
 use super::boards::Family;
 use super::compare::Tally;
 use super::{boards, compare, report};
+use std::io;
 
 // Writes the family's line, and adds it to the total.
-fn reported(name: &[u8], total: Tally, t: Tally) -> Tally {
-    report::line(name, t);
-    compare::sum(total, t)
+fn reported(rt: &impl Print, name: &str, total: Tally, t: Tally) -> io::Result<Tally> {
+    report::line(rt, name, t)?;
+    Ok(compare::sum(total, t))
 }
 
 // Programs that all have the same files.
@@ -36,50 +37,57 @@ fn family(
 }
 
 // Up to two programs.
-pub fn small(total: Tally) -> Tally {
+pub fn small(rt: &impl Print, total: Tally) -> io::Result<Tally> {
     let one = family(1, [32, 0, 0, 0, 0, 0], 2, [1, 64, 0, 0, 0, 0], 7, 6);
     let a = reported(
-        b"program 32 in any standing, files 1 and 64",
+        rt,
+        "program 32 in any standing, files 1 and 64",
         total,
         boards::every(one, 1),
-    );
+    )?;
     let near = family(2, [1, 2, 0, 0, 0, 0], 2, [1, 2, 0, 0, 0, 0], 7, 2);
     let b = reported(
-        b"programs 1 and 2 running or waiting, files 1 and 2",
+        rt,
+        "programs 1 and 2 running or waiting, files 1 and 2",
         a,
         boards::every(near, 1),
-    );
+    )?;
     let far = family(2, [5, 32, 0, 0, 0, 0], 2, [64, 1, 0, 0, 0, 0], 7, 6);
     let c = reported(
-        b"programs 5 and 32 in any standing, files 1 and 64, each 11th",
+        rt,
+        "programs 5 and 32 in any standing, files 1 and 64, each 11th",
         b,
         boards::every(far, 11),
-    );
+    )?;
     let more = family(2, [31, 32, 0, 0, 0, 0], 3, [1, 33, 64, 0, 0, 0], 7, 1);
     let d = reported(
-        b"programs 31 and 32 running, files 1, 33 and 64, each 11th",
+        rt,
+        "programs 31 and 32 running, files 1, 33 and 64, each 11th",
         c,
         boards::every(more, 11),
-    );
+    )?;
     let any = family(2, [16, 32, 0, 0, 0, 0], 1, [64, 0, 0, 0, 0, 0], 64, 1);
     reported(
-        b"programs 16 and 32 running, file 64 in any of the sets",
+        rt,
+        "programs 16 and 32 running, file 64 in any of the sets",
         d,
         boards::every(any, 1),
     )
 }
 
 // Three programs.
-pub fn middle(total: Tally) -> Tally {
+pub fn middle(rt: &impl Print, total: Tally) -> io::Result<Tally> {
     let three = family(3, [1, 2, 3, 0, 0, 0], 2, [1, 2, 0, 0, 0, 0], 7, 1);
     let a = reported(
-        b"programs 1 to 3 running, files 1 and 2, each 11th",
+        rt,
+        "programs 1 to 3 running, files 1 and 2, each 11th",
         total,
         boards::every(three, 11),
-    );
+    )?;
     let any = family(3, [1, 16, 32, 0, 0, 0], 1, [64, 0, 0, 0, 0, 0], 64, 1);
     reported(
-        b"programs 1, 16 and 32 running, file 64 in any of the sets, each 61st",
+        rt,
+        "programs 1, 16 and 32 running, file 64 in any of the sets, each 61st",
         a,
         boards::every(any, 61),
     )
@@ -93,50 +101,57 @@ fn ring(places: usize, program: [usize; 6], ways: u64) -> Family {
 }
 
 // Rings: each program shares a file with the next one, and the last with the first.
-pub fn rings(total: Tally) -> Tally {
+pub fn rings(rt: &impl Print, total: Tally) -> io::Result<Tally> {
     let three = ring(3, [1, 2, 32, 0, 0, 0], 7);
     let a = reported(
-        b"a ring of programs 1, 2 and 32 running, each 11th",
+        rt,
+        "a ring of programs 1, 2 and 32 running, each 11th",
         total,
         boards::every(three, 11),
-    );
+    )?;
     let four = ring(4, [1, 2, 3, 4, 0, 0], 4);
     let b = reported(
-        b"a ring of programs 1 to 4 running, all files claimed, each 7th",
+        rt,
+        "a ring of programs 1 to 4 running, all files claimed, each 7th",
         a,
         boards::every(four, 7),
-    );
+    )?;
     let five = ring(5, [4, 8, 15, 16, 23, 0], 4);
     reported(
-        b"a ring of programs 4, 8, 15, 16 and 23 running, all files claimed, each 127th",
+        rt,
+        "a ring of programs 4, 8, 15, 16 and 23 running, all files claimed, each 127th",
         b,
         boards::every(five, 127),
     )
 }
 
 // Four to six programs, a part of the boards.
-pub fn large(total: Tally) -> Tally {
+pub fn large(rt: &impl Print, total: Tally) -> io::Result<Tally> {
     let four = family(4, [3, 8, 9, 32, 0, 0], 2, [1, 64, 0, 0, 0, 0], 7, 2);
     let a = reported(
-        b"programs 3, 8, 9 and 32 running or waiting, files 1 and 64, each 15013th",
+        rt,
+        "programs 3, 8, 9 and 32 running or waiting, files 1 and 64, each 15013th",
         total,
         boards::every(four, 15013),
-    );
+    )?;
     let five = family(5, [1, 2, 3, 4, 5, 0], 2, [1, 2, 0, 0, 0, 0], 7, 1);
     let b = reported(
-        b"programs 1 to 5 running, files 1 and 2, each 57793rd",
+        rt,
+        "programs 1 to 5 running, files 1 and 2, each 57793rd",
         a,
         boards::every(five, 57793),
-    );
+    )?;
     let any = family(5, [2, 9, 20, 31, 32, 0], 2, [64, 1, 0, 0, 0, 0], 7, 6);
     let c = reported(
-        b"programs 2, 9, 20, 31 and 32 in any standing, files 1 and 64, each 400000009th",
+        rt,
+        "programs 2, 9, 20, 31 and 32 in any standing, files 1 and 64, each 400000009th",
         b,
         boards::every(any, 400000009),
-    );
+    )?;
     let six = family(6, [1, 7, 12, 20, 31, 32], 3, [1, 33, 64, 0, 0, 0], 12, 2);
     reported(
-        b"programs 1, 7, 12, 20, 31 and 32 running or waiting, files 1, 33 and 64, drawn by a fixed rule",
+        rt,
+        "programs 1, 7, 12, 20, 31 and 32 running or waiting, files 1, 33 and 64, drawn by a fixed rule",
         c,
         boards::drawn(six, 2000),
     )

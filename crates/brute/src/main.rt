@@ -10,12 +10,14 @@ mod orders;
 mod paths;
 mod report;
 
-fn main() {
+use std::io;
+
+fn main(rt: HostRuntime) -> io::Result<()> {
     let hand = known::known_answers();
-    report::line(b"boards with known answers", hand);
-    let small = families::small(hand);
-    let middle = families::middle(small);
-    let rings = families::rings(middle);
-    let total = families::large(rings);
-    report::line(b"in all", total);
+    report::line(&rt, "boards with known answers", hand)?;
+    let small = families::small(&rt, hand)?;
+    let middle = families::middle(&rt, small)?;
+    let rings = families::rings(&rt, middle)?;
+    let total = families::large(&rt, rings)?;
+    report::line(&rt, "in all", total)
 }

@@ -2,6 +2,7 @@
 ghost use Rattle.std.specs.Prelude.{◌<◌};
 
 use crate::text;
+use itoa::Buffer;
 
 // The place in the expected lines, the number of lines, and the line of the first difference, 0 if there is none.
 #[derive(Clone, Copy)]
@@ -40,19 +41,15 @@ fn adler(s: &[u8]) -> u64
     b * 65536 + a
 }
 
-// Whether the first digits stand in a text at a place.
-fn digits_stand(digits: &[u8; 20], k: usize, expected: &[u8], at: usize) -> bool {
-    text::stands(digits, k, expected, at)
-}
-
 // A number in decimal, and a byte after it, at the place that was found.
 fn number_then(f: Found, n: u64, then: u8, expected: &[u8]) -> Found {
-    let mut digits = [0u8; 20];
-    let k = io::decimal(n, &mut digits);
+    let mut buffer = Buffer::new();
+    let digits = buffer.format(n).as_bytes();
+    let k = digits.len();
     let at = f.at;
     let end = text::sum(at, k);
     let last = [then];
-    if !digits_stand(&digits, k, expected, at) {
+    if !text::stands(digits, k, expected, at) {
         return Found { ok: false, at };
     }
     if !text::stands(&last, 1, expected, end) {

@@ -1,5 +1,10 @@
 // Reads a file of a set.
+ghost use Rattle.std.specs.Prelude.{◌≤◌, length, IfOk};
+
 use crate::text;
+use std::fs::{File, Files};
+use std::io;
+use std::io::Read;
 
 // A file that was read: whether all of it was, and its length.
 #[derive(Clone, Copy)]
@@ -31,23 +36,39 @@ fn joined(name: &[u8], ending: &[u8]) -> [u8; 64] {
 }
 
 // Opens a file of a set.
-fn opened(name: &[u8], ending: &[u8]) -> i32 {
+fn opened<R: Files>(rt: &R, name: &[u8], ending: &[u8]) -> Option<R::File> {
     let path = joined(name, ending);
     let n = text::sum(name.len(), ending.len());
     if 64 < n {
-        return -1;
+        return None;
     }
-    os::open_read(&path[..n])
+    let path = str::from_utf8(&path[..n]).ok()?;
+    File::open(rt, path).ok()
+}
+
+// Reads until the buffer is full or the file ends, and says how many bytes there were.
+fn read_full(file: &mut impl Read, buf: &mut [u8]) -> io::Result<usize>
+    ensures { IfOk result (λ n. n ≤ length buf.new) }
+{
+    let mut done: usize = 0;
+    while done < buf.len() {
+        let n = file.read(&mut buf[done..])?;
+        if n == 0 {
+            break;
+        }
+        done += n;
+    }
+    Ok(done)
 }
 
 // Reads a file of a set into a buffer that is longer than the file.
-pub fn load(name: &[u8], ending: &[u8], buf: &mut [u8; 32768]) -> Loaded {
-    let fd = opened(name, ending);
-    if fd < 0 {
+pub fn load(rt: &impl Files, name: &[u8], ending: &[u8], buf: &mut [u8; 32768]) -> Loaded {
+    let Some(mut file) = opened(rt, name, ending) else {
         return Loaded { ok: false, len: 0 };
-    }
-    let len = io::read_full(fd, buf);
-    libc::close(fd);
+    };
+    let Ok(len) = read_full(&mut file, buf) else {
+        return Loaded { ok: false, len: 0 };
+    };
     Loaded {
         ok: len < 32768,
         len,

@@ -8,6 +8,8 @@ mod text;
 
 use hosted::Hosted;
 use program::Replayed;
+use std::fs::Files;
+use std::io;
 
 // The sets so far, their lines, and how many sets are equal to what they expect.
 #[derive(Clone, Copy)]
@@ -18,13 +20,11 @@ struct Totals {
 }
 
 // Says that there is no difference, or at which line.
-fn write_difference(bad: u64, differs: &[u8]) {
+fn write_difference(rt: &impl Print, bad: u64, differs: &str) -> io::Result<()> {
     if bad == 0 {
-        text::write(b" equal");
-        return;
+        return rt.print(" equal");
     }
-    text::write(differs);
-    text::number(bad);
+    print!(rt; "{differs}{bad}")
 }
 
 // Whether a set came out as it expects.
@@ -39,17 +39,15 @@ fn is_equal(program: Replayed, host: Hosted) -> bool {
 }
 
 // The line of a set.
-fn write_set(program: Replayed, host: Hosted) {
-    text::write(b": ");
-    text::number(program.lines);
-    text::write(b" lines, journal");
-    write_difference(program.bad, b" differs at line ");
+fn write_set(rt: &impl Print, program: Replayed, host: Hosted) -> io::Result<()> {
+    print!(rt; ": {} lines, journal", program.lines)?;
+    write_difference(rt, program.bad, " differs at line ")?;
     if !program.order {
-        text::write(b", order differs");
+        rt.print(", order differs")?;
     }
-    text::write(b", images");
-    write_difference(host.bad, b" differ at line ");
-    text::write(b"\n");
+    rt.print(", images")?;
+    write_difference(rt, host.bad, " differ at line ")?;
+    rt.println("")
 }
 
 // The totals with one set more.
@@ -73,45 +71,51 @@ fn counted(t: Totals, lines: u64, equal: bool) -> Totals {
 }
 
 // Replays a set in both ways.
-fn replay(t: Totals, input: &[u8], output: &[u8], sums: &[u8]) -> Totals {
+fn replay(
+    rt: &impl Print,
+    t: Totals,
+    input: &[u8],
+    output: &[u8],
+    sums: &[u8],
+) -> io::Result<Totals> {
     let program = program::replay(input, output);
     let host = hosted::replay(input, sums);
-    write_set(program, host);
-    counted(t, program.lines, is_equal(program, host))
+    write_set(rt, program, host)?;
+    Ok(counted(t, program.lines, is_equal(program, host)))
 }
 
 // A set with a file that is missing or too long.
-fn unread(t: Totals) -> Totals {
-    text::write(b": a file cannot be read\n");
-    counted(t, 0, false)
+fn unread(rt: &impl Print, t: Totals) -> io::Result<Totals> {
+    rt.println(": a file cannot be read")?;
+    Ok(counted(t, 0, false))
 }
 
 // Reads the files of a set and replays it.
-fn take_set(t: Totals, name: &[u8]) -> Totals {
+fn take_set(rt: &(impl Files + Print), t: Totals, name: &[u8]) -> io::Result<Totals> {
     let mut input = [0u8; 32768];
     let mut output = [0u8; 32768];
     let mut sums = [0u8; 32768];
-    text::write(name);
-    let i = load::load(name, b".in", &mut input);
-    let o = load::load(name, b".out", &mut output);
-    let s = load::load(name, b".host", &mut sums);
+    rt.write_all(name)?;
+    let i = load::load(rt, name, b".in", &mut input);
+    let o = load::load(rt, name, b".out", &mut output);
+    let s = load::load(rt, name, b".host", &mut sums);
     if !i.ok {
-        return unread(t);
+        return unread(rt, t);
     }
     if !o.ok {
-        return unread(t);
+        return unread(rt, t);
     }
     if !s.ok {
-        return unread(t);
+        return unread(rt, t);
     }
     let asked = load::front(&input, i.len);
     let expected = load::front(&output, o.len);
     let hosted = load::front(&sums, s.len);
-    replay(t, asked, expected, hosted)
+    replay(rt, t, asked, expected, hosted)
 }
 
 // Every set that the names list.
-fn take_sets(names: &[u8]) -> Totals {
+fn take_sets(rt: &(impl Files + Print), names: &[u8]) -> io::Result<Totals> {
     let mut t = Totals {
         sets: 0,
         lines: 0,
@@ -120,20 +124,18 @@ fn take_sets(names: &[u8]) -> Totals {
     let mut from: usize = 0;
     while from < names.len() {
         let end = text::line_end(names, from);
-        t = take_set(t, &names[from..end]);
+        t = take_set(rt, t, &names[from..end])?;
         from = end + 1;
     }
-    t
+    Ok(t)
 }
 
-fn main() {
+fn main(rt: HostRuntime) -> io::Result<()> {
     let mut names = [0u8; 32768];
-    let loaded = load::load(b"names", b"", &mut names);
-    let t = take_sets(load::front(&names, loaded.len));
-    text::number(t.sets);
-    text::write(b" sets, ");
-    text::number(t.lines);
-    text::write(b" lines, ");
-    text::number(t.equal);
-    text::write(b" sets equal\n");
+    let loaded = load::load(&rt, b"names", b"", &mut names);
+    let t = take_sets(&rt, load::front(&names, loaded.len))?;
+    println!(rt;
+        "{} sets, {} lines, {} sets equal",
+        t.sets, t.lines, t.equal
+    )
 }

@@ -1,17 +1,5 @@
-// Finds lines, compares bytes and writes to standard output.
+// Finds lines and compares bytes.
 ghost use Rattle.std.specs.Prelude.{◌≤◌, length};
-
-use libc::STDOUT_FILENO;
-
-// Bytes as they are.
-pub fn write(s: &[u8]) {
-    io::write_all(STDOUT_FILENO, s);
-}
-
-// A number in decimal.
-pub fn number(n: u64) {
-    io::print_decimal(STDOUT_FILENO, n);
-}
 
 // Where a line that begins at a place ends: at byte 10, or at the end of the text.
 pub fn line_end(s: &[u8], from: usize) -> usize
