@@ -35,8 +35,8 @@ loop-again c =
       omega arith,
       omega arith,
       omega arith,
-      length-set l.auto l.n (get_or a.part.now l.i 0) ∙ l.invariant.3,
-      keep_more l.auto (take a.len a.kept.now) a.part.now l.n l.i (omega arith) (omega arith) l.invariant.4,
+      length-set l.kept l.n (get_or a.part.now l.i 0) ∙ l.invariant.3,
+      keep_more l.kept (take a.len a.kept.now) a.part.now l.n l.i (omega arith) (omega arith) l.invariant.4,
     )
 
 returns-2 : tie.Need-returns invariant-loop decreases-loop

@@ -28,8 +28,8 @@ returns c =
     let w = (worded u).copy in
     let o = u.before.before.before.carried_in-order in
     let k = u.put_programs-n in (
-      order_is o.result.at a.out.now w.last.1.0 k.new.out k.result w.ensures.1 k.ensures.0
-          (omega (arith, k.ensures.1, k.auto.out, w.kept.1.0, s.requires.0))
+      order_is o.result.at a.out.now w.new.dst k.new.out k.result w.ensures.1 k.ensures.0
+          (omega (arith, k.ensures.1, k.auto.out, w.auto.dst, s.requires.0))
           ∙ ap (λ (x : Order). order_line x.at) o.ensures,
       omega (arith, k.ensures.1),
     )
