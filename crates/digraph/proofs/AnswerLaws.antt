@@ -18,7 +18,7 @@ use Rattle.rules.specs.Digraph.{is_in, step, is_loop_of, is_loop_with, loop_for,
 use Rattle.theory.specs.Programs.{Is, of_is}
 use Rattle.theory.specs.Calls.{claims_file}
 use Rattle.theory.specs.Loose.{waiting_in}
-use Rattle.theory.specs.Digraph.{waiter_claims, waiter_unsafe, unsafe_open}
+use Rattle.theory.proofs.Digraph.{waiter_claims, waiter_unsafe, unsafe_open}
 use Rattle.digraph.specs.declared.Loop.{Loop}
 use Rattle.digraph.specs.Loops.{named, LoopOf, LoopOfWaiter, LoopWith, CarriedBy}
 

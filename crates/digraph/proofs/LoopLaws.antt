@@ -29,7 +29,8 @@ use Rattle.theory.specs.Programs.{Is, is_of, of_is, mem-everyone}
 use Rattle.theory.specs.Carried.{holds_on, carried-sound, of_order}
 use Rattle.theory.specs.Reach.{admitted-mem}
 use Rattle.theory.specs.Loops.{LeadsTo, Closes, test_two, loop_test, is_loop-same, AllHeld, walk, up_to, held_loop, round-held}
-use Rattle.theory.specs.Matrix.{step_iff, reaches_iff, itself_iff}
+use Rattle.theory.specs.Matrix.{step_iff, reaches_iff}
+use Rattle.theory.proofs.Matrix.{itself_iff}
 use Rattle.store.specs.declared.Rest.{Rest}
 use Rattle.store.specs.Sets.{Sets, SetsOf, claims_at, given_at}
 use Rattle.store.specs.Store.{standing_at, board_of}

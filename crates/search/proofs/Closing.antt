@@ -14,7 +14,8 @@ use Rattle.laws.specs.Lists.{found}
 use Rattle.rules.specs.Modes.{Mode, clashing, some_mode, claim_of, mode_of}
 use Rattle.rules.specs.Boards.{at, is_program}
 use Rattle.rules.specs.Orders.{holds_back, carried, safe}
-use Rattle.theory.specs.Reach.{is_other, ReachesOn, no_back, reaches-direct, reaches-through, given_holds, safe-by-closed, unsafe-by_reach}
+use Rattle.theory.specs.Reach.{is_other, ReachesOn, no_back, reaches-direct, reaches-through, given_holds, unsafe-by_reach}
+use Rattle.theory.proofs.Reach.{safe-by-closed}
 use Rattle.tables.specs.declared.ProgramSet.{ProgramSet}
 use Rattle.tables.specs.ProgramSets.{has_program, without_program, union_of, less_of}
 use Rattle.store.specs.Sets.{Sets, SetsOf, mode_at, holds_one, claims_at}

@@ -23,7 +23,7 @@ use Rattle.rules.specs.Digraph.{is_in, step, leads_to, closes, is_loop_of}
 use Rattle.rules.specs.Soundness.{sets_sound, standing_sound, item_sound, program_sound, no_conflict}
 use Rattle.theory.specs.Modes.{mode_each}
 use Rattle.theory.specs.Programs.{Is, of_is, mem-everyone, everyone_is, Idle, conflict_sym, conflict-holds, idle_conflict, conflict_idle}
-use Rattle.theory.specs.Digraph.{loop_exists}
+use Rattle.theory.proofs.Digraph.{loop_exists}
 use Rattle.sound.specs.Parts.{is_sound_at}
 
 empty_is : (s : FileSet) → is_empty s ≡ true → s ≡ no_files

@@ -6,12 +6,12 @@ use Rattle.std.proofs.Math.Option.{none}
 use mathlib.Core.List.Memᴰ
 use Rattle.std.proofs.lemmas.Bool.{eqb-false}
 use Rattle.laws.specs.Tests.{by_test, by_option, never, and_left, and_right, and_both, not_true, not_of}
-use Rattle.laws.specs.Lists.{any, first, with_found, without, listed, distinct}
+use Rattle.laws.specs.Lists.{first, with_found, without, listed, distinct}
 use Rattle.rules.specs.Digraph.{leads_to, closes, is_loop_of}
 use Rattle.laws.specs.Laws.{◌∈◌, Pairs, NoRepeat, by_mem, here, no_some, any_some, first_some, first-none}
 use Rattle.laws.specs.Laws.{without-mem, Pairs-without, length_without, no_longer, listed-mem, mem-listed, distinct_once, once_distinct}
-use Rattle.theory.specs.Order.{IsOrder, held_in, search, order_in}
-use Rattle.theory.specs.Reach.{Reaches, direct, through, no_order_by_round}
+use Rattle.theory.specs.Order.{held_in, search, order_in}
+use Rattle.theory.specs.Reach.{Reaches, direct, through}
 
 -- x holds back the first of L, each of L the next, and the last of them z.
 unfoldable pub LeadsTo : (ℕ → ℕ → Bool) → ℕ → ℕ → List ℕ → Type 0
@@ -137,9 +137,6 @@ loop_round h l (x ∷ (y ∷ L)) c = (
   through (c.different.0 y here) c.closed.0 (c.within y (Memᴰ.tail here)) (leads_reach h l x y L
       (λ a m. c.within a (Memᴰ.tail (Memᴰ.tail m))) (λ a m d. c.different.0 a m (sym d)) c.different.1 c.closed.1),
 )
-
-pub loop_no_order : (h : ℕ → ℕ → Bool) (l L o : List ℕ) → IsLoop h l L → IsOrder h l o → ⊥
-loop_no_order h l L o c r = let (p, m, q) = loop_round h l L c in no_order_by_round h l o p m q r
 
 -- ── Going back from holder to holder until one comes again ──
 

@@ -3,22 +3,19 @@
 -- Assumes nothing.
 use Rattle.std.specs.Prelude.{ℕ, ◌≡◌, ◌↔◌, ◌≢◌, ◌⊎◌, Bool, true, not, ◌&&◌, List, [], ◌∷◌, eqb}
 use Rattle.std.proofs.Common.{sym, ◌∙◌, ap, subst, inl, inr, ⊎_elim}
-use Rattle.std.proofs.Math.Option.{none, some}
 use mathlib.Core.List.Memᴰ
 use borrow.Author.Tests.{eqb-false, ne_eqb}
-use Rattle.laws.specs.Tests.{by_option, or_cases, or_left, or_right, and_left, and_right, and_both, not_true, true_not}
+use Rattle.laws.specs.Tests.{or_cases, or_left, or_right, and_left, and_right, and_both, not_true, true_not}
 use Rattle.laws.specs.Tests.{same_test}
 use Rattle.rules.specs.declared.Board.{Board}
-use Rattle.laws.specs.Lists.{any}
 use Rattle.rules.specs.Boards.{is_admitted, is_program, everyone, at, admitted}
 use Rattle.rules.specs.Orders.{carried}
 use Rattle.rules.specs.Digraph.{is_in, step, paths, reaches}
 use Rattle.laws.specs.Laws.{◌∈◌, NoRepeat, by_mem, here}
 use Rattle.theory.specs.Order.{order_in}
 use Rattle.theory.specs.Programs.{of_is, mem-everyone, ins_once, carried_is, admitted_is}
-use Rattle.theory.specs.Carried.{holds_on, CompletionOrder, carried-sound}
-use Rattle.theory.specs.Reach.{Reaches, direct, through, ReachesOn, mem-admitted, admitted-mem, no_order_by_round}
-use Rattle.theory.specs.Loops.{unordered_loop, loop_round}
+use Rattle.theory.specs.Carried.{holds_on, CompletionOrder}
+use Rattle.theory.specs.Reach.{Reaches, direct, through, ReachesOn, mem-admitted, admitted-mem}
 
 -- ── Over any relation ──
 
@@ -135,13 +132,3 @@ carried_in b = carried_is b ∙ ap (order_in (holds_on b)) (sym (admitted_is b))
 -- no completion order exists"
 abbrev pub ItselfIff : Type 0
 ItselfIff = (b : Board) → ((p : ℕ) × (reaches b p p ≡ true)) ↔ ((o : List ℕ) → CompletionOrder b o → ⊥)
-
-pub itself_iff : ItselfIff
-itself_iff b = (
-  λ (p, e) o c. let (m, r) = (reaches_iff b p p).0 e in no_order_by_round (holds_on b) (admitted b) o p m r.1 c,
-  λ f. by_option (carried b) (λ u. round u) (λ o u. absurd (f o (carried-sound b o u))),
-)
-  where
-    round : carried b ≡ none → (p : ℕ) × (reaches b p p ≡ true)
-    round u = let (L, c) = unordered_loop (holds_on b) (admitted b) (admitted_once b) (sym (carried_in b) ∙ u) in
-        let (p, m, r) = loop_round (holds_on b) (admitted b) L c in (p, (reaches_iff b p p).1 (m, (m, r)))

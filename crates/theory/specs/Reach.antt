@@ -1,8 +1,8 @@
 -- One program p comes to hold back more, and all else stays: does a completion order still exist?
 -- x *reaches* p if x holds back p, or holds back another one that reaches p. Where an order existed, none exists any more exactly if p
--- now holds back one that reaches it: `no_order_iff`, and on a board, where p is given a file, `unsafe_iff_reach`.
+-- now holds back one that reaches it: `no_order_iff`, and on a board, where p is given a file, `unsafe_iff_reach` (proofs/Reach).
 -- For code, each half by itself. One exists if some set has everyone that reaches p, and p now holds back nobody in it:
--- `order_by_closed`, `safe-by-closed`. None exists if p now holds back one that reaches it: `no_order_by_reach`, `unsafe-by_reach`.
+-- `order_by_closed`, `safe-by-closed` (proofs/Reach). None exists if p now holds back one that reaches it: `no_order_by_reach`, `unsafe-by_reach`.
 -- Assumes nothing.
 use Rattle.std.specs.Prelude.{ℕ, suc, ◌<◌, ◌-◌, ◌≡◌, refl, ◌↔◌, ◌≢◌, true, false, not, cond, ◌&&◌, ◌||◌, List, [], ◌∷◌, ◌++◌, eqb, leb, length}
 use Rattle.std.proofs.Common.{arith, sym, ◌∙◌, ap₂, ⊎_elim}
@@ -23,10 +23,10 @@ use Rattle.rules.specs.Orders.{holds_back, carried, with_given, safe}
 use Rattle.laws.specs.Laws.{◌∈◌, Pairs, NoRepeat, by_mem, here, any_some, some-any, found_some, keep_mem, mem_keep, keep_same}
 use Rattle.laws.specs.Laws.{Pairs_keep, without-mem, mem-without, Pairs-without, Pairs_map₂, Pairs-append, listed-mem, mem-listed}
 use Rattle.theory.specs.Order.{Clear, IsOrder, order_in, order_in_iff}
-use Rattle.theory.specs.Programs.{Is, is_of, of_is, everyone_is, ins, mem-ins, ins-mem, ins_once, carried_is, admitted_is}
+use Rattle.theory.specs.Programs.{Is, is_of, of_is, everyone_is, ins, mem-ins, ins-mem}
 use Rattle.theory.specs.Programs.{put_other, within_refl, holds_back_mono, holds_back-claims, opening_standing, opening_more}
 use Rattle.theory.specs.Modes.{touching-opened}
-use Rattle.theory.specs.Carried.{holds_on, order_of_lem, of_order}
+use Rattle.theory.specs.Carried.{holds_on, order_of_lem}
 
 -- ── Over any relation h of holding back ──
 
@@ -265,7 +265,7 @@ other-mem b p x e =
     let u = and_left (c && a) n e in
     (mem-admitted b x (and_left c a u) (and_right c a u), eqb-false x p (not_true (eqb x p) (and_right (c && a) n e)))
 
-mem-other : (b : Board) (p x : ℕ) → x ∈ admitted b → x ≢ p → is_other b p x ≡ true
+pub mem-other : (b : Board) (p x : ℕ) → x ∈ admitted b → x ≢ p → is_other b p x ≡ true
 mem-other b p x m n =
     let (c, e) = admitted-mem b x m in let a = is_admitted (at b x).standing in
     and_both (is_program x && a) (not (eqb x p)) (and_both (is_program x) a (of_is x c) e) (true_not (eqb x p) (ne_eqb x p n))
@@ -307,7 +307,7 @@ module _ (b : Board) (p f : ℕ) (c : is_program p ≡ true) (a : is_admitted (a
       standing_in q = is_admitted q.standing
 
   -- whom p holds back with f given
-  given_by : (x : ℕ) → x ∈ admitted b → x ≢ p → holds_on (with_given b p f) p x ≡ holds_back (opening (at b p) f) (at b x)
+  pub given_by : (x : ℕ) → x ∈ admitted b → x ≢ p → holds_on (with_given b p f) p x ≡ holds_back (opening (at b p) f) (at b x)
   given_by x m n = ap₂ holds_back given-same (given-other x (admitted-mem b x m).0 n)
 
   pub given_grown : Grown (holds_on b) (holds_on (with_given b p f)) (admitted b) p
@@ -320,20 +320,6 @@ module _ (b : Board) (p f : ℕ) (c : is_program p ≡ true) (a : is_admitted (a
         (opening_more (at b p) f) (within_refl (at b x)) e;
   }
 
-  -- With f given an order comes back, if p then holds back nobody that a closed test finds.
-  pub safe-by-closed : (s : ℕ → Bool) → found (carried b) ≡ true → ClosedOn b p s
-      → ((x : ℕ) → is_other b p x ≡ true → s x ≡ true → holds_back (opening (at b p) f) (at b x) ≡ false) → safe b p f ≡ true
-  unfolding safe
-  safe-by-closed s e k g =
-      let (o, u) = order_of_lem b e in
-      let (o', v) = order_by_closed (holds_on b) (holds_on (with_given b p f)) (admitted b) o p s u (mem-admitted b p c a) given_grown
-      (record {
-        base = λ x m n w. k.base x (mem-other b p x m n) w;
-        step = λ x y m m' n n' d t w. k.step x y (mem-other b p x m n) (mem-other b p y m' n') (ne_eqb x y d) t w;
-      })
-      (λ x m n w. given_by x m n ∙ g x (mem-other b p x m n) w) in
-      of_order (with_given b p f) o' (subst (λ l. IsOrder (holds_on (with_given b p f)) l o') (sym given-admitted) v)
-
   -- None comes back, if p then holds back one that reaches it.
   pub unsafe-by_reach : (x : ℕ) → ReachesOn b p x → holds_back (opening (at b p) f) (at b x) ≡ true → safe b p f ≡ false
   unfolding safe
@@ -344,22 +330,3 @@ module _ (b : Board) (p f : ℕ) (c : is_program p ≡ true) (a : is_admitted (a
       let z = ap (λ y. place y o) (eqb-true x p d) in omega arith)
       (λ d. no_order_by_reach (holds_on b) (holds_on (with_given b p f)) (admitted b) o p x i given_grown m r
       (given_by x m (eqb-false x p d) ∙ e) k))
-
-  safe-is_in : safe b p f ≡ found (order_in (holds_on (with_given b p f)) (admitted b))
-  unfolding safe
-  safe-is_in = ap found (carried_is (with_given b p f))
-      ∙ ap (λ l. found (order_in (holds_on (with_given b p f)) l)) (sym (admitted_is (with_given b p f)) ∙ given-admitted)
-
-  -- On a board that has an order, none comes back exactly then.
-  pub unsafe_iff_reach : found (carried b) ≡ true
-      → (safe b p f ≡ false) ↔ ((x : ℕ) × ReachesOn b p x × (holds_back (opening (at b p) f) (at b x) ≡ true))
-  unsafe_iff_reach e = (
-    λ t. let (o, u) = order_of_lem b e in
-        let (x, m, n, v, r) = (no_order_iff (holds_on b) (holds_on (with_given b p f)) (admitted b) o p once u (mem-admitted b p c a)
-        given_grown).0 (sym safe-is_in ∙ t) in
-        (x, (m, r), sym (given_by x m n) ∙ v),
-    λ (x, r, v). unsafe-by_reach x r v,
-  )
-    where
-      once : NoRepeat (admitted b)
-      once = subst NoRepeat (sym (admitted_is b)) (ins_once b.programs)

@@ -1,7 +1,7 @@
 -- Every list of calls from the empty board: every board is sound, and every direct call does what the rules say.
 -- Assumes nothing.
-use Rattle.std.specs.Prelude.{ℕ, ◌≤◌, ◌+◌, ◌≡◌, refl, ◌≢◌, ◌⊎◌, Bool, true, false, not, ◌&&◌, List, [], ◌∷◌, ◌++◌, eqb, length}
-use Rattle.std.proofs.Common.{arith, sym, ◌∙◌, ap, ap₂, subst, inl, inr, ⊎_elim, eqb-true}
+use Rattle.std.specs.Prelude.{ℕ, ◌≤◌, ◌≡◌, refl, ◌≢◌, ◌⊎◌, Bool, true, false, not, ◌&&◌, List, [], ◌∷◌, ◌++◌, eqb, length}
+use Rattle.std.proofs.Common.{arith, sym, ◌∙◌, ap, ap₂, subst, inl, inr, eqb-true}
 use Rattle.std.proofs.Math.Option.{some, get_or}
 use mathlib.Core.List.Memᴰ
 use Rattle.std.proofs.lemmas.Bool.{eqb-false}
@@ -16,7 +16,7 @@ use Rattle.rules.specs.declared.Answer.{Answer}
 use Rattle.rules.specs.declared.Line.{Line}
 use Rattle.rules.specs.declared.Reply.{Reply}
 use Rattle.laws.specs.Lists.{any, all, keep, first, padded, rising, listed, distinct, without, same, names}
-use Rattle.rules.specs.Boards.{is_admitted, is_absent, is_waiting, is_program, empty_board, everyone, at, admitted, claims, has_open}
+use Rattle.rules.specs.Boards.{is_absent, is_waiting, is_program, empty_board, everyone, at, admitted, claims, has_open}
 use Rattle.rules.specs.Orders.{held_back, carried_from, carried, with_given, in_use, safe, can_give, taken}
 use Rattle.rules.specs.Soundness.{sets_sound, standing_sound, program_sound, no_conflict, line_sound, waiter_sound, none_favoured, some_favoured}
 use Rattle.rules.specs.Soundness.{may_have, item_sound, uses_differ, awaited_in_use, count_sound, sound}
@@ -29,9 +29,9 @@ use Rattle.rules.specs.Settling.{overdue}
 use Rattle.rules.specs.Worked.{worked_from, worked, replies_from, direct_from}
 use Rattle.laws.specs.Laws.{◌∈◌, by_mem, here, no_longer, length-rising}
 use Rattle.theory.specs.Order.{IsOrder}
-use Rattle.theory.specs.Programs.{Is, mem-everyone, holds, ins, ins-mem, mem-ins, admitted_is, first_can}
+use Rattle.theory.specs.Programs.{Is, mem-everyone, holds, ins, ins-mem, admitted_is, first_can}
 use Rattle.theory.specs.Records.{Uses, Wants, in_use_lem}
-use Rattle.theory.specs.Loose.{stands, waits_in, waiting_file, waiting_in, Good}
+use Rattle.theory.specs.Loose.{waiting_file, Good}
 use Rattle.theory.specs.Calls.{take_padded, by_check, apply-accepted, apply-refused, apply_stepped}
 use Rattle.theory.specs.Carried.{holds_on, CompletionOrder, carried-sound, carried_complete}
 use Rattle.theory.specs.Sound.{sound_iff, good_sound, sound_good}
@@ -308,30 +308,3 @@ first_runs b p o g r = by_test (is_waiting (at b p).standing) (λ t. let (f, e) 
 
     i : Is p
     i = (ins-mem b.programs p (r'.only p here)).0
-
-two-members : (l : List ℕ) (a b : ℕ) → a ∈ l → b ∈ l → a ≢ b → 2 ≤ length l
-two-members [] a b m k n = absurd (Memᴰ.not-nil m)
-two-members (x ∷ []) a b m k n = absurd (n (Memᴰ.eq_of_singleton m ∙ sym (Memᴰ.eq_of_singleton k)))
-two-members (x ∷ y ∷ l) a b m k n = omega arith
-
--- Where a program waits, two are admitted: it, and the first of an order or the user of the record that it waits for.
-pub waiter_bound : (b : Board) (p : ℕ) → Good b → Is p → waits_in b.programs p ≡ true → 2 ≤ length (ins b.programs)
-waiter_bound b p g c w = go g.loose.base.order.0 g.loose.base.order.1
-  where
-    m : p ∈ ins b.programs
-    m = mem-ins b.programs p c (waiting_in (stands b.programs p) w)
-
-    go : (o : List ℕ) → IsOrder (holds b.programs) (ins b.programs) o → 2 ≤ length (ins b.programs)
-    go [] i = absurd (Memᴰ.not-nil (i.all p m))
-    go (q ∷ o) i =
-        let r = first_runs b q o g (subst (λ l. IsOrder (holds_on b) l (q ∷ o)) (sym (admitted_is b)) i) in
-        by_test (eqb p q)
-        (λ t. let d = eqb-true p q t in ⊎_elim (λ u. never w (ap (waits_in b.programs) d ∙ u))
-        (λ (u : AwaitsInUse b q). two-members (ins b.programs) p u.user m (mem-ins b.programs u.user u.is
-        (ap is_admitted u.used.0)) (λ e. never {t = false} (sym (ap is_waiting u.used.0) ∙ ap (waits_in b.programs) (sym e) ∙ w) refl)) r)
-        (λ t. two-members (ins b.programs) p q m (i.only q here) (eqb-false p q t))
-
--- While somebody is favoured, fewer programs have left than were admitted, by at least two.
-pub favoured_bound : (b : Board) → Good b → b.favoured ≢ 0 → b.leaves + 2 ≤ b.initial
-favoured_bound b g n = let (i, w) = g.loose.fav-waits n in let k = waiter_bound b b.favoured g i w in
-    let j = g.loose.count n in omega arith

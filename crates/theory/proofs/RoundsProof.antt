@@ -31,9 +31,9 @@ use Rattle.theory.specs.Worked.{worked_good, worked_from-append, direct-worked, 
 use Rattle.theory.specs.Sizes.{Counts32, apply_32}
 use Rattle.theory.specs.Rounds.{answered, Latest, start, after, to_open, finishing, round_with, round, rounds, answers_from, present}
 use Rattle.theory.specs.Rounds.{answered, programs_on, NoneInUse, Round, Emptied, RunsThrough, SoundEmptied}
-use Rattle.theory.specs.RoundsOpens.{Opened, opens, to_open_asked, to_open_once}
-use Rattle.theory.specs.RoundsPresent.{absent_in, in_there, mem-present, present-mem, present_once, programs_on_lem, one_gone}
-use Rattle.theory.specs.RoundsPresent.{settle_there, none_there, is_empty_lem}
+use Rattle.theory.proofs.RoundsOpens.{Opened, opens, to_open_asked, to_open_once}
+use Rattle.theory.proofs.RoundsPresent.{absent_in, in_there, in_runs, mem-present, present-mem, present_once, programs_on_lem, one_gone}
+use Rattle.theory.proofs.RoundsPresent.{settle_there, none_there, is_empty_lem}
 
 -- ── The leave ──
 
@@ -100,12 +100,6 @@ leaves b p g m n = record {
         ∙ ap (λ P. absent_in P i) l.l_programs
 
 -- ── The first program finishes ──
-
-in_runs : (s : Standing) → is_admitted s ≡ true → is_waiting s ≡ false → s ≡ Standing.Running
-in_runs Standing.Absent a w = never {t = false} a refl
-in_runs Standing.Running a w = refl
-in_runs (Standing.Waiting f) a w = never {t = true} refl w
-in_runs Standing.Held a w = never {t = false} a refl
 
 record Finished (b : Board) (p : ℕ) : Type 0 where
   good_after : Good (worked_from b (finishing b p))

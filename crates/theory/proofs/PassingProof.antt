@@ -24,9 +24,10 @@ use Rattle.theory.specs.Loose.{stands, waiting_in}
 use Rattle.theory.specs.Settling.{waiter_line, Newly}
 use Rattle.theory.specs.Calls.{gone_count, count_if, gone_by, apply-accepted, RunsMay, open_may, fetch_may}
 use Rattle.theory.specs.Waits.{Begins, waits_from}
-use Rattle.theory.specs.Worked.{worked_good, worked_snoc, passed_of, waiter_bound}
+use Rattle.theory.specs.Worked.{worked_good, worked_snoc, passed_of}
+use Rattle.theory.proofs.Worked.{waiter_bound}
 use Rattle.theory.specs.Demand3.{reply_after, Waits, AsksFor, admitted_after, accepted_leave, leaves_in}
-use Rattle.theory.specs.Demand3Proof.{step, by_end, snoc_split, leaves_in_snoc}
+use Rattle.theory.proofs.Demand3Proof.{step, by_end, snoc_split, leaves_in_snoc}
 use Rattle.theory.specs.Passing.{admissions_in, WaitsThrough, WaitingSince, FewPass, FewLeave, RecordByCount}
 
 -- ── One wait ──

@@ -198,3 +198,10 @@ is_empty_lem b g z h = empty_board_lem b.programs b.waiting b.entry b.passed b.f
   where
     nobody : b.favoured ≡ 0
     nobody = unfavoured b g (λ p c. ap is_admitted (absent_is (stands b.programs p) (h p c)))
+
+-- who is admitted and waits for nothing runs
+pub in_runs : (s : Standing) → is_admitted s ≡ true → is_waiting s ≡ false → s ≡ Standing.Running
+in_runs Standing.Absent a w = never {t = false} a refl
+in_runs Standing.Running a w = refl
+in_runs (Standing.Waiting f) a w = never {t = true} refl w
+in_runs Standing.Held a w = never {t = false} a refl

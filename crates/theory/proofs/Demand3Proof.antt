@@ -27,7 +27,8 @@ use Rattle.theory.specs.Calls.{step_of, by_check, FavourMore, EndedIn, Withdrew,
 use Rattle.theory.specs.Calls.{gone_by, cancelled_by, apply-accepted, apply_stepped, taken_by, by_taken}
 use Rattle.theory.specs.Carried.{holds_on, EveryOrderHeld, unsafe_iff}
 use Rattle.theory.specs.Worked.{worked_good, worked_snoc, direct-worked, replies_split, passed_of}
-use Rattle.theory.specs.Worked.{AwaitsInUse, order_of_reply, first_runs, favoured_bound}
+use Rattle.theory.specs.Worked.{AwaitsInUse, order_of_reply, first_runs}
+use Rattle.theory.proofs.Worked.{favoured_bound}
 use Rattle.theory.specs.Demand3.{reply_after, Accepted, Waits, ConflictingUse, admitted_after, accepted_leave, leaves_in, Favours}
 use Rattle.theory.specs.Demand3.{FavouredThrough, RecordTaken, StandsAt, LastOrder, FavouredBy, GetsIt, CancelledIn, Demand3}
 
