@@ -1,2 +1,0 @@
--- What the walks over a lent board share.
-pub mod Laws
