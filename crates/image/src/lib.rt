@@ -364,6 +364,7 @@ fn item_of(k: u8, u: u16, a: u16) -> u16
 }
 
 // Whether a running program's awaited-file byte and record in use are both there or both 0.
+#[tactic(auto, unfolding(crate::specs::Image::both_or_none))]
 fn both_or_none(f: u8, u: u16) -> bool
     ensures { result ≡ both_or_none f u }
 {

@@ -287,23 +287,23 @@ module _ (v : Verb) (l : List ℕ) where
   unfolding entry_counts
   counts-good p w r j e d c n = rw (e, d, c, eq-eqb (length l) (entry_length (w + r + j)) n)
 
-  pub entry-short : length l < files_at → entry_line v l ≡ refused Refusal.BadLength
+  pub entry_short : length l < files_at → entry_line v l ≡ refused Refusal.BadLength
   unfolding entry_line
-  entry-short h = rw (lt-ltb (length l) files_at h)
+  entry_short h = rw (lt-ltb (length l) files_at h)
 
-  pub entry-program : files_at ≤ length l → program_field l ≡ Field.Bad → entry_line v l ≡ refused Refusal.BadNumber
+  pub entry_program : files_at ≤ length l → program_field l ≡ Field.Bad → entry_line v l ≡ refused Refusal.BadNumber
   unfolding entry_line
-  entry-program h e = rw (le-ltb (length l) files_at h, e)
+  entry_program h e = rw (le-ltb (length l) files_at h, e)
 
-  pub entry-label : (p : ℕ) → files_at ≤ length l → program_field l ≡ Field.Number p → all label_byte (label_part l) ≡ false
+  pub entry_label : (p : ℕ) → files_at ≤ length l → program_field l ≡ Field.Number p → all label_byte (label_part l) ≡ false
       → entry_line v l ≡ refused Refusal.BadLabel
   unfolding entry_line
-  entry-label p h e d = rw (le-ltb (length l) files_at h, e, d)
+  entry_label p h e d = rw (le-ltb (length l) files_at h, e, d)
 
-  pub entry-good : (p : ℕ) → files_at ≤ length l → program_field l ≡ Field.Number p → all label_byte (label_part l) ≡ true
+  pub entry_good : (p : ℕ) → files_at ≤ length l → program_field l ≡ Field.Number p → all label_byte (label_part l) ≡ true
       → entry_line v l ≡ entry_counts v l p
   unfolding entry_line
-  entry-good p h e d = rw (le-ltb (length l) files_at h, e, d)
+  entry_good p h e d = rw (le-ltb (length l) files_at h, e, d)
 
   pub file_length_lem : (length l ≡ file_length → ⊥) → file_line v l ≡ refused Refusal.BadLength
   unfolding file_line

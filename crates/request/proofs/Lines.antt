@@ -32,7 +32,7 @@ use Rattle.request.specs.Requests.{read_as, verb_of, request_of, has_label, is_e
 use Rattle.request.specs.Law.{IsLabel, RangeAs, InRange, saying, label_as, TakenWith, AsksFor, LineLaw, SayingLaw, LabelLaw}
 use Rattle.request.proofs.Verbs.{AskedBack, verb_good, verb_length, ProperAs, call_good, line-begins, verb_found}
 use Rattle.request.proofs.Verbs.{program_columns, file_columns, count_columns, record_columns}
-use Rattle.request.proofs.Laws.{entry-good, counts-good, file-good, record_good_lem, alone_good}
+use Rattle.request.proofs.Laws.{entry_good, counts-good, file-good, record_good_lem, alone_good}
 use Rattle.request.proofs.Groups.{set_bits, files-files, files_rise, files-length, set_back, list_back, columns_back, files-read}
 
 -- ---- a line that asks for a call is read as this call
@@ -210,7 +210,7 @@ entry_read a label h k g =
       set_back a.claims.readable h.2.1,
       set_back a.claims.inquirable h.2.2,
     ) in
-    entry-good a.verb l a.program room np lab
+    entry_good a.verb l a.program room np lab
     ∙ counts-good a.verb l a.program (length vs) (length qs) (length js) nw nr nj m.long ∙ e
     ∙ ap₂ (λ (f n : ℕ). taken a.verb a.program f n a.claims) (sym k.0) (sym k.1)
 

@@ -384,6 +384,7 @@ fn read_counts(line: &[u8], verb: Verb, program: u64) -> Request
 }
 
 // ENTER, from left to right.
+#[tactic(auto, using(crate::proofs::Laws::entry_short, crate::proofs::Laws::entry_program, crate::proofs::Laws::entry_label, crate::proofs::Laws::entry_good), unfolding(crate::specs::Requests::label_part))]
 fn read_entry(line: &[u8], verb: Verb) -> Request
     ensures { result ≡ entry_line verb line.now }
 {
@@ -441,6 +442,7 @@ fn read_record(line: &[u8], verb: Verb) -> Request
 }
 
 // LEAVE, CANCEL and RETURN: the program alone.
+#[tactic(auto, using(crate::proofs::Laws::alone_length_lem, crate::proofs::Laws::alone_program, crate::proofs::Laws::alone_good))]
 fn read_alone(line: &[u8], verb: Verb) -> Request
     ensures { result ≡ alone_line verb line.now }
 {
