@@ -1,7 +1,7 @@
 #!/usr/bin/env python3
 """Names goals, steps, places and clauses in proofs by hand as today's Rattle does.
 
-    rt names /tmp/names; python3 tools/goal_names.py /tmp/names [CRATE..]
+    rt names NAMES; python3 tools/goal_names.py NAMES [CRATE..]
 
 For each crates/CRATE/proofs/F/Proof.antt: the old and the new names of F's goals (`tie.Need-..`), places (`tie.After-..`), steps
 (`c.before.if1`) and loops stand in names.json; results of calls whose `ensures` has several clauses are cited by the clause's name.
