@@ -1,6 +1,7 @@
 -- Sections of bytes: what each writes, what it reads, when bytes fit it, and sections one after another.
 -- Assumes nothing.
-use Rattle.std.specs.Prelude.{ℕ, zero, suc, ◌+◌, ◌*◌, ◌/◌, ◌%◌, ◌<◌, ◌^◌, ◌≡◌, List, [], ◌∷◌, ◌++◌, Bool, true, false, ◌&&◌, length, get_or, take, drop}
+use Rattle.std.specs.Prelude.{ℕ, zero, suc, ◌+◌, ◌*◌, ◌/◌, ◌%◌, ◌<◌, ◌^◌, ◌≡◌, List, [], ◌∷◌, ◌++◌, Bool, true, false, ◌&&◌, length, get_or, take}
+use Rattle.std.specs.Prelude.{drop}
 use Rattle.columns.specs.Rows.{flat}
 
 -- A section of an image, of as many bytes as its size, for the values of A that the code can hold. It reads and tests the bytes at the front of a

@@ -30,7 +30,7 @@ use Rattle.theory.specs.Sound.{sound_iff, sound_good}
 use Rattle.theory.specs.Worked.{worked_good, worked_from-append, direct-worked, order-carried, carried-order, AwaitsInUse, first_runs}
 use Rattle.theory.specs.Sizes.{Counts32, apply_32}
 use Rattle.theory.specs.Rounds.{answered, Latest, start, after, to_open, finishing, round_with, round, rounds, answers_from, present}
-use Rattle.theory.specs.Rounds.{answered, programs_on, NoneInUse, Round, Emptied, RunsThrough, SoundEmptied}
+use Rattle.theory.specs.Rounds.{programs_on, NoneInUse, Round, Emptied, RunsThrough, SoundEmptied}
 use Rattle.theory.proofs.RoundsOpens.{Opened, opens, to_open_asked, to_open_once}
 use Rattle.theory.proofs.RoundsPresent.{absent_in, in_there, in_runs, mem-present, present-mem, present_once, programs_on_lem, one_gone}
 use Rattle.theory.proofs.RoundsPresent.{settle_there, none_there, is_empty_lem}

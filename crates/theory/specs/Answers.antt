@@ -14,7 +14,8 @@ use Rattle.rules.specs.Soundness.{sound}
 use Rattle.rules.specs.Settling.{line_of, Step, still, overdue, favour, settle}
 use Rattle.rules.specs.Replies.{refused, word_of, blank, reply, refuse, refuse_unsound, lines_of, settling_lines}
 use Rattle.rules.specs.Calls.{hold, hold_for, enter, open_file, done, close_file, drop_file, leave, Call, Enter, Open, Close, Drop, Leave}
-use Rattle.rules.specs.Calls.{Cancel, Fetch, Return, withdrawn, cancel, fetch, finish, return_item, program_of, file_of, item_of, checked, accepted, direct}
+use Rattle.rules.specs.Calls.{Cancel, Fetch, Return, withdrawn, cancel, fetch, finish, return_item, program_of, file_of, item_of, checked, accepted}
+use Rattle.rules.specs.Calls.{direct}
 use Rattle.theory.specs.Calls.{take_padded, by_check, apply-accepted, apply-refused}
 
 -- ══ The statement ══

@@ -1,6 +1,7 @@
 -- One call keeps a board sound, and what its lines say.
 -- Assumes nothing.
-use Rattle.std.specs.Prelude.{ℕ, suc, ◌≤◌, ◌+◌, ◌-◌, ◌≡◌, refl, ◌≢◌, ◌⊎◌, Bool, true, false, not, cond, ◌&&◌, List, [], ◌∷◌, ◌++◌, eqb, leb, length, take, drop, replicate}
+use Rattle.std.specs.Prelude.{ℕ, suc, ◌≤◌, ◌+◌, ◌-◌, ◌≡◌, refl, ◌≢◌, ◌⊎◌, Bool, true, false, not, cond, ◌&&◌, List, [], ◌∷◌, ◌++◌, eqb, leb, length}
+use Rattle.std.specs.Prelude.{take, drop, replicate}
 use Rattle.std.proofs.Common.{arith, sym, ◌∙◌, ap, ap₂, subst, inl, inr, ⊎_elim, length-append, eqb-true, eq-eqb, ne_eqb, leb-true}
 use Rattle.std.proofs.Math.Option.{none, some}
 use mathlib.Core.List.Memᴰ
@@ -26,7 +27,8 @@ use Rattle.rules.specs.Boards.{passed_by, set_program, set_waiting, set_favour, 
 use Rattle.rules.specs.Orders.{with_given, in_use, safe, can_give, taken}
 use Rattle.rules.specs.Settling.{line, line_of, hand_on, Step, and_then, favour, overdue, settle}
 use Rattle.rules.specs.Replies.{blank, lines_of, is_admit, admits, reply, refuse}
-use Rattle.rules.specs.Checks.{refuse_if, unless_running, unless_using, unless_stopped, enter_check, open_check, close_check, leave_check, cancel_check}
+use Rattle.rules.specs.Checks.{refuse_if, unless_running, unless_using, unless_stopped, enter_check, open_check, close_check, leave_check}
+use Rattle.rules.specs.Checks.{cancel_check}
 use Rattle.rules.specs.Checks.{is_record, fetch_check, return_check}
 use Rattle.rules.specs.Calls.{newcomer, admit, hold, hold_for}
 use Rattle.rules.specs.Calls.{enter, wait, open_file, done, close_file, drop_file, count_leave, leave, Call, Enter, Open, Close, Drop}

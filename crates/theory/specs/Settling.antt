@@ -16,7 +16,8 @@ use Rattle.laws.specs.Lists.{first, without, names, padded}
 use Rattle.rules.specs.Boards.{is_held, is_waiting, is_admitted, awaited_of, awaited, passed_by, set_program, set_entry, set_favour}
 use Rattle.rules.specs.Boards.{set_standing, at, wants}
 use Rattle.rules.specs.Orders.{with_given, in_use, can_give}
-use Rattle.rules.specs.Settling.{line, line_of, hand_to, hand_on, Step, still, and_then, unfavour, resume, try_give, pass, candidate, favour, overdue, admit_held}
+use Rattle.rules.specs.Settling.{line, line_of, hand_to, hand_on, Step, still, and_then, unfavour, resume, try_give, pass, candidate, favour, overdue}
+use Rattle.rules.specs.Settling.{admit_held}
 use Rattle.rules.specs.Settling.{run_held}
 use Rattle.rules.specs.Settling.{choose, settle}
 use Rattle.rules.specs.Replies.{admits}

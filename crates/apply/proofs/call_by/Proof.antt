@@ -62,7 +62,7 @@ returns c = let t = c.before.before.before in let k = t.before in let s = start 
 )
 
 returns-2 : tie.Need-returns-in-Failed
-returns-2 c = let t = c.before.before in let d = c.before.in-Failed in let k = t.before.before in let s = start c.before.before in let a = s.args in (
+returns-2 c = let d = c.before.in-Failed in let s = start c.before.before in let a = s.args in (
   c.refused.ensures.0 ∙ apply_failed (board s) (wanted s) d.refusal (sym (told c.before.before) ∙ d.is)
       ∙ by_program (board s) a.a a.p s.requires.1,
   (s.requires.3, none_entries a.lines.now s.requires.4, c.refused.ensures.1),

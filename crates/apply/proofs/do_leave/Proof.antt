@@ -37,7 +37,7 @@ counted-requires c κs = let k = c in let s = (seat k).before in let a = s.args 
 -- the board before the record is handed on
 gone : (n : tie.After-counted-c) → let k = n.before in let s = (seat k).before in
     board_of n.before.put-left.new.sets n.counted-c.result ≡ count_leave (set_program (board s) s.args.p no_program)
-gone n = let k = n.before.before in n.counted-c.ensures ∙ ap count_leave n.before.put-left.ensures.0
+gone n = n.counted-c.ensures ∙ ap count_leave n.before.put-left.ensures.0
 
 handed_on-requires : tie.Need-handed_on-requires
 handed_on-requires c κs = let n = c.before.before in let k = n.before in let s = (seat k).before in let a = s.args in (

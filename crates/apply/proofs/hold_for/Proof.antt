@@ -13,7 +13,7 @@ put-held-requires c κs = let s = c.before in let a = s.args in
     (s.requires.0, entry_free a.sets.now a.rest a.p a.claims s.requires.1 s.requires.2, s.requires.4)
 
 favour-waiter-requires : tie.Need-favour_waiter-progress-requires
-favour-waiter-requires c κs = let o = c.before.before in
+favour-waiter-requires c κs =
     let n = ap (λ (w : Written). w.count) c.before.one_line-held.ensures.0 in ((search rules, search rules), omega arith, c.before.one_line-held.ensures.1.1)
 
 returns : tie.Need-returns

@@ -18,7 +18,7 @@ returns c = let k = c.before in let e = c.if-not-ok.true in
     (rw e (sym (Laws.image_layout _ (found k) k.load_in-loaded.ensures.0 e)), k.load_in-loaded.ensures.1)
 
 returns-2 : tie.Need-returns
-returns-2 c = let i = c.before.before.before in let k = i.before in let e = c.before.before.if-not-ok.false in (
+returns-2 c = let e = c.before.before.if-not-ok.false in (
   by_test c.is_sound-sound.result
       (λ t. rw t (sym (Laws.image_sound _ (found c.before.before.before) c.before.before.before.load_in-loaded.ensures.0 e (sym c.is_sound-sound.ensures ∙ t)
       ∙ ap (λ (o : Bool). record { ok = o; board = (found c.before.before.before).board }) e)))

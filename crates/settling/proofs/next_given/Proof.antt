@@ -40,7 +40,7 @@ returns c = let l = c.before.before.loop-k in let g = c.before.before.before.arg
 -- the waiter is a program
 range : (i : tie.Else-p-eq0 invariant-loop decreases-loop) → let l = i.before.before.loop-k in let p = get_or i.before.before.before.args.line l.k 0 in
     (1 ≤ p) × (p ≤ 32)
-range i = let l = i.before.before.loop-k in let m = l.invariant.3 in
+range i = let l = i.before.before.loop-k in
     name_range i.before.before.before.args.line l.k (omega arith) i.if-p-eq0.false l.invariant.2
 
 place-of-requires : tie.Need-place_of-i-requires invariant-loop decreases-loop
@@ -64,7 +64,7 @@ asks x = let g = (start x).args in let p = get_or g.line (known x).before.before
 
 returns-2 : tie.Need-returns-then-can_serve invariant-loop decreases-loop
 returns-2 c =
-    let x = c.before in let i = known x in let l = i.before.before.loop-k in let g = (start x).args in let m = l.invariant.3 in (
+    let x = c.before in let i = known x in let l = i.before.before.loop-k in let g = (start x).args in (
       l.invariant.1,
       l.invariant.0,
       λ b s u r a.

@@ -35,26 +35,26 @@ unfolding board_of
 loop-holds c = (search rules, c.before.requires, refl, search rules)
 
 returns : tie.Need-returns-then-w-eq0 invariant-loop decreases-loop
-returns c = let l = c.before.before.loop-k in let s = c.before.before.before.before in let b = s.args.rest in let d = those s in let m = l.invariant.3 in
+returns c = let l = c.before.before.loop-k in let s = c.before.before.before.before in let b = s.args.rest in let d = those s in
     sym (ap (λ (x : Option ℕ). Option.get_or x 0) (l.invariant.2 ∙ first_none_left d (names (drop l.k b.waiting))
     (names_stop b.waiting l.k (omega arith) c.if-w-eq0.true)))
 
 place-of-requires : tie.Need-place_of-i-requires invariant-loop decreases-loop
-place-of-requires c κs = let l = c.before.before.loop-k in let b = c.before.before.before.before.args.rest in let m = l.invariant.3 in
+place-of-requires c κs = let l = c.before.before.loop-k in let b = c.before.before.before.before.args.rest in
     name_range b.waiting l.k (omega arith) c.if-w-eq0.false l.invariant.1
 
 -- whether the waiter waits for it
 asks : (w : tie.After-waits_for invariant-loop decreases-loop) → let i = w.before.before.before in let l = i.before.before.loop-k in
     let s = i.before.before.before.before in w.waits_for.result ≡ those s (get_or s.args.rest.waiting l.k 0)
 asks w = let q = w.before.before in let i = q.before in let l = i.before.before.loop-k in let s = i.before.before.before.before in
-    let b = s.args.rest in let m = l.invariant.3 in let g = name_range b.waiting l.k (omega arith) i.if-w-eq0.false l.invariant.1 in
+    let b = s.args.rest in let g = name_range b.waiting l.k (omega arith) i.if-w-eq0.false l.invariant.1 in
     w.waits_for.ensures ∙ ap (λ (j : ℕ). seat_wants (get_or b.seats j no_seat) s.args.f s.args.n) q.place_of-i.ensures.0
     ∙ sym (ap (λ (y : Program). wants y s.args.f s.args.n) (board-at s.args.sets.now b (get_or b.waiting l.k 0) g.0 g.1))
 
 returns-2 : tie.Need-returns-then-waits_for invariant-loop decreases-loop
 returns-2 c =
     let w = c.before in let i = w.before.before.before in let l = i.before.before.loop-k in let s = i.before.before.before.before in
-    let b = s.args.rest in let d = those s in let m = l.invariant.3 in
+    let b = s.args.rest in let d = those s in
     sym (rw (sym (asks w) ∙ c.if-waits_for.true) at
     (ap (λ (x : Option ℕ). Option.get_or x 0) (l.invariant.2 ∙ first_names_on d b.waiting l.k (omega arith) i.if-w-eq0.false)))
 
@@ -70,7 +70,7 @@ loop-again c =
     )
 
 returns-3 : tie.Need-returns invariant-loop decreases-loop
-returns-3 c = let l = c.before.loop-k in let s = c.before.before.before in let b = s.args.rest in let d = those s in let m = l.invariant.3 in
+returns-3 c = let l = c.before.loop-k in let s = c.before.before.before in let b = s.args.rest in let d = those s in
     sym (ap (λ (x : Option ℕ). Option.get_or x 0) (l.invariant.2 ∙ first_none_left d (names (drop l.k b.waiting))
     (names_end b.waiting l.k (omega arith))))
 

@@ -56,13 +56,13 @@ unfolding candidate board_of
 loop-holds c = let s = start c in (search rules, ready_all (board s) s.requires.0, refl, search rules)
 
 returns-2 : tie.Need-returns-then-p-eq0 invariant-loop decreases-loop
-returns-2 c = let s = c.before.before in let l = s.loop-k in let a = start s.before in let r = a.args.rest in let m = l.invariant.3 in
+returns-2 c = let s = c.before.before in let l = s.loop-k in let a = start s.before in let r = a.args.rest in
     sym (ap (λ (x : Option ℕ). Option.get_or x 0) (l.invariant.2 ∙ first_none_left (unused (board a)) (names (drop l.k r.waiting))
     (names_stop r.waiting l.k (omega arith) c.if-p-eq0.true)))
 
 -- the waiter is a program
 range : (i : tie.Else-p-eq0 invariant-loop decreases-loop) → let s = turn i in let p = get_or (start s.before).args.rest.waiting s.loop-k.k 0 in (1 ≤ p) × (p ≤ 32)
-range i = let s = turn i in let l = s.loop-k in let a = start s.before in let m = l.invariant.3 in
+range i = let s = turn i in let l = s.loop-k in let a = start s.before in
     waiter-range (board a) a.args.rest.waiting l.k (omega arith) i.if-p-eq0.false l.invariant.1
 
 place-of-requires : tie.Need-place_of-i-requires invariant-loop decreases-loop
@@ -75,7 +75,7 @@ is-unused-requires c κs = let i = c.before.before in (range i, (start (turn i).
 free : (w : tie.After-is_unused invariant-loop decreases-loop) → let s = turn (reached w) in let a = start s.before in
     w.is_unused.result ≡ unused (board a) (get_or a.args.rest.waiting s.loop-k.k 0)
 free w = let i = reached w in let s = turn i in let u = s.before in let l = s.loop-k in let a = start u in let r = a.args.rest in
-    let sets = a.args.sets.now in let q = w.before.before in let m = l.invariant.3 in let g = range i in
+    let sets = a.args.sets.now in let q = w.before.before in let g = range i in
     waiter-unused (board a) r.waiting l.k (omega arith) i.if-p-eq0.false l.invariant.1 sets
     u.uses_in-uses.result _ w.is_unused.result (board-sets sets r a.requires.1)
     (u.uses_in-uses.ensures ∙ ap (λ (y : ProgramSet). uses_in y sets) (u.before.admitted_seats-admitted.ensures ∙ seats_admitted sets r))
@@ -84,7 +84,7 @@ free w = let i = reached w in let s = turn i in let u = s.before in let l = s.lo
 
 returns-3 : tie.Need-returns-then-is_unused invariant-loop decreases-loop
 returns-3 c =
-    let w = c.before in let i = reached w in let s = turn i in let l = s.loop-k in let a = start s.before in let r = a.args.rest in let m = l.invariant.3 in
+    let w = c.before in let i = reached w in let s = turn i in let l = s.loop-k in let a = start s.before in let r = a.args.rest in
     sym (rw (sym (free w) ∙ c.if-is_unused.true) at (ap (λ (x : Option ℕ). Option.get_or x 0) (l.invariant.2
     ∙ first_names_on (unused (board a)) r.waiting l.k (omega arith) i.if-p-eq0.false)))
 
@@ -99,7 +99,7 @@ loop-again c =
     )
 
 returns-4 : tie.Need-returns invariant-loop decreases-loop
-returns-4 c = let s = c.before in let l = s.loop-k in let a = start s.before in let r = a.args.rest in let m = l.invariant.3 in
+returns-4 c = let s = c.before in let l = s.loop-k in let a = start s.before in let r = a.args.rest in
     sym (ap (λ (x : Option ℕ). Option.get_or x 0) (l.invariant.2 ∙ first_none_left (unused (board a)) (names (drop l.k r.waiting))
     (names_end r.waiting l.k (omega arith))))
 

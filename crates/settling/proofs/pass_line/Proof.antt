@@ -208,7 +208,7 @@ module _ (u : tie.After-uses_in-uses-in-loop-j invariant-loop decreases-loop) wh
 
   -- the next ones are still to be asked
   next-at : At was first.args.w.rest.waiting files (at.loop-j.j + 1) is (gave u).give.new.sets (uses_in who (gave u).give.new.sets)
-  next-at = let l = at.loop-j in let t = here.loop-j-test.true in
+  next-at = let l = at.loop-j in
       subst (λ (s : Written). At was first.args.w.rest.waiting files (at.loop-j.j + 1) s (gave u).give.new.sets (uses_in who (gave u).give.new.sets))
       (sym next-state)
       (subst (λ (x : Sets). At was first.args.w.rest.waiting files (at.loop-j.j + 1) (state_of (given_to (board_of l.sets l.c) waiter file)
@@ -233,7 +233,7 @@ loop-again c = let u = c.before.before in let l = (at u).loop-j in (
 
 returns : tie.Need-returns invariant-loop decreases-loop
 unfolding board_of
-returns c = let l = c.before.loop-j in let a = (start (begun c.before)).args in let m = l.invariant.0 in (
+returns c = let l = c.before.loop-j in let a = (start (begun c.before)).args in (
   pass-over (state a.sets.now a.lines.now a.w.rest a.w.count) (state l.sets l.lines l.c l.n) a.w.rest.waiting l.j
       l.invariant.4.here.passed (names_end a.w.rest.waiting l.j (omega arith)),
   (l.invariant.2, l.invariant.3),

@@ -14,7 +14,7 @@ returns-2 c = let j = c.before in let i = j.before.before.before in rw (
 )
 
 returns-3 : tie.Need-returns
-returns-3 c = let e = c.before.before.before in let j = e.before in let i = j.before.before.before in rw (
+returns-3 c = rw (
   sym c.before.before.before.before.before.before.is_empty.ensures ∙ c.before.before.before.before.before.if-not-is_empty.false,
   sym c.before.before.before.is_empty-2.ensures ∙ c.before.before.if-not-is_empty-2.false,
 )

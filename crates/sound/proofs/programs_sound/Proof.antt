@@ -32,7 +32,7 @@ board s = board_of s.args.sets.now s.args.rest
 -- whether p is sound by itself
 judged : (c : tie.After-seat_sound invariant-loop decreases-loop) → let l = c.before.before.before in
     c.seat_sound.result ≡ is_sound_at (board l.before) l.loop-p.p
-judged c = let l = c.before.before.before in let a = l.before.args in let h = c.before.before.loop-p-test.true in
+judged c = let l = c.before.before.before in let a = l.before.args in
     c.seat_sound.ensures ∙ sound_with a.sets.now a.rest l.loop-p.p l.loop-p.invariant.0 (omega arith)
 
 returns : tie.Need-returns-then-not-seat_sound invariant-loop decreases-loop

@@ -36,7 +36,7 @@ abbrev board : tie.Start invariant-loop decreases-loop → Board
 board s = board_of s.args.sets.now s.args.rest
 
 returns : tie.Need-returns-then-p-eq0 invariant-loop decreases-loop
-returns c = let l = c.before.before.loop-k in let s = c.before.before.before in let m = l.invariant.3 in
+returns c = let l = c.before.before.loop-k in let s = c.before.before.before in
     sym (l.invariant.2 ∙ all-names_stop s.args.line l.k (waiter_at (board s)) (omega arith) c.if-p-eq0.true)
 
 -- a waiter is reached
@@ -85,7 +85,7 @@ loop-again c = let w = c.before in let e = reached w in let l = (at e).loop-k in
 )
 
 returns-3 : tie.Need-returns invariant-loop decreases-loop
-returns-3 c = let l = c.before.loop-k in let s = c.before.before in let m = l.invariant.3 in
+returns-3 c = let l = c.before.loop-k in let s = c.before.before in
     sym (l.invariant.2 ∙ all-names_end s.args.line l.k (waiter_at (board s)) (omega arith))
 
 pub waiters_sound_spec : {M : Type 1} → statement M

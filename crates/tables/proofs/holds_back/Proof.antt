@@ -29,12 +29,12 @@ module _ (c : tie.After-inquirable_at-j) where
 -- the rows have as many words as a set
 touches-requires : tie.Need-touches-requires
 touches-requires c κs = let r = c.before.before.before.before.before.before in
-    let s = (start r).requires.2 in let w = r in
+    let s = (start r).requires.2 in
     let n = s.words_are c.before.before.before.before.before.before.before.before.before.before.before.writing_at-w.result c.before.before.before.before.before.before.before.before.before.before.before.writing_at-w.ensures.1 in record {
-      of-r = let x = r in s.words_are c.before.before.before.before.before.before.before.before.before.before.reading_at-r.result c.before.before.before.before.before.before.before.before.before.before.reading_at-r.ensures.1 ∙ sym n;
-      of-i = let x = r in s.words_are c.before.before.before.before.before.before.before.before.before.inquiring_at-i.result c.before.before.before.before.before.before.before.before.before.inquiring_at-i.ensures.1 ∙ sym n;
-      of-v = let x = r in s.words_are c.before.before.before.before.before.before.before.before.writable_at-v.result c.before.before.before.before.before.before.before.before.writable_at-v.ensures.1 ∙ sym n;
-      of-q = let x = r in s.words_are c.before.before.before.before.before.before.before.readable_at-c.result c.before.before.before.before.before.before.before.readable_at-c.ensures.1 ∙ sym n;
+      of-r = s.words_are c.before.before.before.before.before.before.before.before.before.before.reading_at-r.result c.before.before.before.before.before.before.before.before.before.before.reading_at-r.ensures.1 ∙ sym n;
+      of-i = s.words_are c.before.before.before.before.before.before.before.before.before.inquiring_at-i.result c.before.before.before.before.before.before.before.before.before.inquiring_at-i.ensures.1 ∙ sym n;
+      of-v = s.words_are c.before.before.before.before.before.before.before.before.writable_at-v.result c.before.before.before.before.before.before.before.before.writable_at-v.ensures.1 ∙ sym n;
+      of-q = s.words_are c.before.before.before.before.before.before.before.readable_at-c.result c.before.before.before.before.before.before.before.readable_at-c.ensures.1 ∙ sym n;
       of-j = s.words_are c.before.before.before.before.before.before.inquirable_at-j.result c.before.before.before.before.before.before.inquirable_at-j.ensures.1 ∙ sym n;
     }
 

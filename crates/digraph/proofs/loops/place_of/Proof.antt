@@ -21,17 +21,17 @@ loop-holds c = (search rules, search rules, refl)
 returns : tie.Need-returns-then-z-y invariant-loop decreases-loop
 returns c = let l = c.before.before.loop-j in let a = c.before.before.before.args in
     let n : length a.at ≡ 32 = search rules in
-    let e = place_hit a.at l.j a.y (omega arith) c.if-z-y.true in let i = l.invariant.2 in omega arith
+    let e = place_hit a.at l.j a.y (omega arith) c.if-z-y.true in omega arith
 
 loop-again : tie.Need-loop-j-preserved invariant-loop decreases-loop
 loop-again c = let l = c.before.before.loop-j in let a = c.before.before.before.args in
     let n : length a.at ≡ 32 = search rules in
-    let e = place_miss a.at l.j a.y (omega arith) c.if-z-y.false in let i = l.invariant.2 in (search rules, search rules, omega arith)
+    let e = place_miss a.at l.j a.y (omega arith) c.if-z-y.false in (search rules, search rules, omega arith)
 
 returns-2 : tie.Need-returns invariant-loop decreases-loop
 returns-2 c = let l = c.before.loop-j in let a = c.before.before.args in
     let n : length a.at ≡ 32 = search rules in
-    let e = place_end a.at l.j a.y (omega arith) in let i = l.invariant.2 in omega arith
+    let e = place_end a.at l.j a.y (omega arith) in omega arith
 
 pub place_of_spec : {M : Type 1} → statement M
 place_of_spec =

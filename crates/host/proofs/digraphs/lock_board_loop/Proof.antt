@@ -31,12 +31,12 @@ returns c = let k = c.before.before in let r = k.read_image-loaded in let a = (s
 returns-2 : tie.Need-returns-then-program-eq0
 returns-2 c = let i = c.before.before in let r = i.before.read_image-loaded in let a = (start i.before).args in
     loop_no-program a.image.now a.program a.list.now r.result r.ensures c.refusal_answer-then-program-eq0.result
-    (read i) (λ q. let l = q.least in omega (arith, c.before.if-program-eq0.true)) c.refusal_answer-then-program-eq0.ensures
+    (read i) (λ q. omega (arith, c.before.if-program-eq0.true)) c.refusal_answer-then-program-eq0.ensures
 
 returns-3 : tie.Need-returns-then-program-gt32
 returns-3 c = let i = c.before.before.before in let r = i.before.read_image-loaded in let a = (start i.before).args in
     loop_no-program a.image.now a.program a.list.now r.result r.ensures c.refusal_answer-then-program-gt32.result
-    (read i) (λ q. let l = q.most in omega (arith, c.before.if-program-gt32.true)) c.refusal_answer-then-program-gt32.ensures
+    (read i) (λ q. omega (arith, c.before.if-program-gt32.true)) c.refusal_answer-then-program-gt32.ensures
 
 returns-4 : tie.Need-returns-then-list-lt32
 returns-4 c = let j = c.before.before in let i = read-for j in let r = i.before.read_image-loaded in let a = (start i.before).args in

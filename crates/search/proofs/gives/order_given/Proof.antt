@@ -30,7 +30,7 @@ put_back : (sets after : Sets) (p f w r i : ℕ) → 1 ≤ p → p ≤ 32 → af
 put_back sets after p f w r i h k e d c b = rw (e, d, c, b) (given_back sets p f h k)
 
 carried-in-requires : tie.Need-carried_in-order-requires
-carried-in-requires c κs = let g = c.before in let s = start c in let a = s.args in
+carried-in-requires c κs = let s = start c in let a = s.args in
     subst IsStore (sym c.give.ensures) (given_store a.sets.now a.p a.f s.requires.0.0 s.requires.0.1 s.requires.1)
 
 returns : tie.Need-returns

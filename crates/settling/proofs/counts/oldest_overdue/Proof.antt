@@ -35,19 +35,19 @@ unfolding overdue board_of
 loop-holds c = (search rules, c.before.requires, refl, search rules)
 
 returns : tie.Need-returns-then-p-eq0 invariant-loop decreases-loop
-returns c = let l = c.before.before.loop-k in let s = c.before.before.before.before in let b = s.args.rest in let d = dues s in let m = l.invariant.3 in
+returns c = let l = c.before.before.loop-k in let s = c.before.before.before.before in let b = s.args.rest in let d = dues s in
     sym (ap (λ (x : Option ℕ). Option.get_or x 0) (l.invariant.2 ∙ first_none_left d (names (drop l.k b.waiting))
     (names_stop b.waiting l.k (omega arith) c.if-p-eq0.true)))
 
 place-of-requires : tie.Need-place_of-i-requires invariant-loop decreases-loop
-place-of-requires c κs = let l = c.before.before.loop-k in let b = c.before.before.before.before.args.rest in let m = l.invariant.3 in
+place-of-requires c κs = let l = c.before.before.loop-k in let b = c.before.before.before.before.args.rest in
     name_range b.waiting l.k (omega arith) c.if-p-eq0.false l.invariant.1
 
 returns-2 : tie.Need-returns-then-rest-i-eq8 invariant-loop decreases-loop
 unfolding board_of
 returns-2 c =
     let i = c.before.before.before in let l = i.before.before.loop-k in let s = i.before.before.before.before in
-    let b = s.args.rest in let d = dues s in let m = l.invariant.3 in
+    let b = s.args.rest in let d = dues s in
     sym (rw (eq-eqb (get_or b.passed (get_or b.waiting l.k 0 - 1) 0) 8
     (ap (λ (j : ℕ). get_or b.passed j 0) (sym c.before.before.place_of-i.ensures.0) ∙ c.if-rest-i-eq8.true)) at
     (ap (λ (x : Option ℕ). Option.get_or x 0) (l.invariant.2 ∙ first_names_on d b.waiting l.k (omega arith) i.if-p-eq0.false)))
@@ -66,7 +66,7 @@ loop-again c =
     )
 
 returns-3 : tie.Need-returns invariant-loop decreases-loop
-returns-3 c = let l = c.before.loop-k in let s = c.before.before.before in let b = s.args.rest in let d = dues s in let m = l.invariant.3 in
+returns-3 c = let l = c.before.loop-k in let s = c.before.before.before in let b = s.args.rest in let d = dues s in
     sym (ap (λ (x : Option ℕ). Option.get_or x 0) (l.invariant.2 ∙ first_none_left d (names (drop l.k b.waiting))
     (names_end b.waiting l.k (omega arith))))
 
