@@ -79,7 +79,6 @@ ends-within : (k : tie.After-end_line-s invariant-loop decreases-loop) → (end 
 ends-within k =
     let e = (end k).line_end-end in
     let ne : e.result ≢ length (start (turn (end k))).args.part.now = k.before.before.before.before.before.if-end-part.false in
-
     omega arith
 
 -- a line was served

@@ -58,8 +58,7 @@ unfolding board_of
 admit-one-requires c κs =
     let i = c.before in let o = i.before.oldest_overdue-overdue in let t = i.before.before in let l = t.before in let v = l.before.loop-p.invariant in
     let n = overdue-none (at l.before).board o.result v.0.loose o.ensures i.if-overdue-ne0.false in
-    let r = first_range _ (at l.before) v.0 (λ e. t.before.loop-p-test.true (v.1 ∙ e)) in
-    (
+    let r = first_range _ (at l.before) v.0 (λ e. t.before.loop-p-test.true (v.1 ∙ e)) in (
       (omega arith, omega arith),
       one-fits _ (at l.before) v.0 (λ e. t.before.loop-p-test.true (v.1 ∙ e)) n,
       v.0.counts.counted.most,
