@@ -25,7 +25,7 @@ use Rattle.rules.specs.declared.Verb.{Verb}
 use Rattle.rules.specs.declared.Claims.{Claims}
 use Rattle.rules.specs.declared.Asked.{Asked}
 use Rattle.laws.specs.Lists.{found, padded, names}
-use Rattle.rules.specs.Modes.{Write, Inquiry}
+use Rattle.rules.specs.declared.Mode.TheVariants.{Write, Inquiry}
 use Rattle.rules.specs.Boards.{is_program, is_waiting, is_held, at, claims, has_open, set_program, set_item, set_waiting, uncount, closing, dropping}
 use Rattle.rules.specs.Orders.{carried, with_given, in_use, safe, taken}
 use Rattle.rules.specs.Soundness.{sound}

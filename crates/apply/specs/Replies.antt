@@ -13,7 +13,8 @@ use Rattle.rules.specs.declared.Answer.{Answer}
 use Rattle.rules.specs.declared.Line.{Line}
 use Rattle.rules.specs.declared.Reply.{Reply}
 use Rattle.laws.specs.Lists.{padded}
-use Rattle.rules.specs.Modes.{Write, Inquiry, claims_meet}
+use Rattle.rules.specs.declared.Mode.TheVariants.{Write, Inquiry}
+use Rattle.rules.specs.Modes.{claims_meet}
 use Rattle.rules.specs.Boards.{is_absent, at, set_standing, set_item}
 use Rattle.rules.specs.Checks.{refuse_if, unless_running, unless_using, unless_stopped}
 use Rattle.rules.specs.Orders.{carried}

@@ -4,7 +4,8 @@ use Rattle.std.specs.Prelude.{ℕ, ◌≡◌, List, length}
 use Rattle.std.specs.Int.Bits.{bit_and, bit_or}
 use Rattle.files.specs.declared.FileSet.{FileSet}
 use Rattle.files.specs.Words.{set_of}
-use Rattle.rules.specs.Modes.{Mode, by_mode}
+use Rattle.rules.specs.declared.Mode.{Mode}
+use Rattle.rules.specs.Modes.{by_mode}
 
 -- what three sets share with three others, in the modes that clash: by columns of the table
 abbrev pub clashes : ℕ → ℕ → ℕ → ℕ → ℕ → ℕ → ℕ

@@ -1,15 +1,11 @@
 -- The modes in which a file is claimed and opened, and the one table of those that clash: conflict and holding back are read from it.
 -- Assumes nothing.
 use Rattle.std.specs.Prelude.{ℕ, ◌≡◌, refl, Bool, true, false, cond, ◌&&◌, ◌||◌}
+use Rattle.rules.specs.declared.Mode.{Mode}
+use Rattle.rules.specs.declared.Mode.TheVariants.{Write, Read, Inquiry}
 use Rattle.files.specs.declared.FileSet.{FileSet}
 use Rattle.files.specs.Sets.{member, meets}
 use Rattle.rules.specs.declared.Program.{Program}
-
--- "Opening a file in V is for writing, in Q for reading", in J for inquiry.
-pub data Mode : Type 0 where
-  Write : Mode
-  Read : Mode
-  Inquiry : Mode
 
 -- the table: what one program has in the first mode, another cannot have in the second
 abbrev pub clashing : Mode → Mode → Bool

@@ -57,6 +57,14 @@ pub enum Verb {
     Return,
 }
 
+// How a file is opened: "in V is for writing, in Q for reading", in J for inquiry.
+#[derive(Clone, Copy, PartialEq, Eq, Debug)]
+pub enum Mode {
+    Write,
+    Read,
+    Inquiry,
+}
+
 // What a program claims: V for writing, Q for reading and J for inquiry.
 #[derive(Clone, Copy)]
 pub struct Claims {

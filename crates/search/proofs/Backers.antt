@@ -11,7 +11,7 @@ use lib.ListN.{length}
 use borrow.Author.Tests.{ltb-true, ltb-false}
 use Rattle.laws.specs.Tests.{by_test, never, and_left, and_right, and_both, or_cases, or_left, or_right, no_true}
 use Rattle.laws.specs.Lists.{any, keep, rising}
-use Rattle.rules.specs.Modes.{Mode}
+use Rattle.rules.specs.declared.Mode.{Mode}
 use Rattle.rules.specs.Boards.{everyone}
 use mathlib.Core.List.Memᴰ
 use Rattle.laws.specs.Laws.{◌∈◌, by_mem, here, any_some, some-any, mem-rising, length_keep, length-rising}

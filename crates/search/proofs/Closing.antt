@@ -11,7 +11,8 @@ use Rattle.files.specs.Sets.{member}
 use Rattle.files.proofs.Bits.{is_number_lem, has-number, least, most, without-number-same, without-number-other}
 use Rattle.rules.specs.declared.Board.{Board}
 use Rattle.laws.specs.Lists.{found}
-use Rattle.rules.specs.Modes.{Mode, clashing, some_mode, claim_of, mode_of}
+use Rattle.rules.specs.declared.Mode.{Mode}
+use Rattle.rules.specs.Modes.{clashing, some_mode, claim_of, mode_of}
 use Rattle.rules.specs.Boards.{at, is_program}
 use Rattle.rules.specs.Orders.{holds_back, carried, safe}
 use Rattle.theory.specs.Reach.{is_other, ReachesOn, no_back, reaches-direct, reaches-through, given_holds, unsafe-by_reach}

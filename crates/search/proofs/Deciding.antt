@@ -8,7 +8,7 @@ use lib.ListN.{length}
 use borrow.Author.Tests.{ne_eqb}
 use Rattle.laws.specs.Tests.{by_test, never}
 use Rattle.laws.specs.Lists.{keep}
-use Rattle.rules.specs.Modes.{Mode}
+use Rattle.rules.specs.declared.Mode.{Mode}
 use Rattle.rules.specs.Boards.{everyone}
 use Rattle.tables.specs.declared.ProgramSet.{ProgramSet}
 use Rattle.tables.specs.ProgramSets.{has_program, without_program, union_of, less_of, lowest_of}

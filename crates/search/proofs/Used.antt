@@ -8,7 +8,8 @@ use Rattle.files.specs.declared.FileSet.{FileSet}
 use Rattle.files.specs.Sets.{member}
 use Rattle.files.specs.Words.{set_of}
 use Rattle.files.proofs.Bits.{is_number_lem}
-use Rattle.rules.specs.Modes.{Mode, clashing, open_of}
+use Rattle.rules.specs.declared.Mode.{Mode}
+use Rattle.rules.specs.Modes.{clashing, open_of}
 use Rattle.rules.specs.Boards.{is_program, everyone, at}
 use Rattle.rules.specs.Orders.{can_give}
 use Rattle.laws.specs.Tests.{never, no_true}

@@ -17,7 +17,8 @@ use Rattle.files.proofs.Bits.{or_none, zero_share}
 use Rattle.rules.specs.declared.Standing.{Standing}
 use Rattle.rules.specs.declared.Program.{Program}
 use Rattle.laws.specs.Lists.{all, names, same, padded}
-use Rattle.rules.specs.Modes.{Write, Read, each_mode, claim_of, open_of}
+use Rattle.rules.specs.declared.Mode.TheVariants.{Write, Read}
+use Rattle.rules.specs.Modes.{each_mode, claim_of, open_of}
 use Rattle.rules.specs.Soundness.{sets_sound, standing_sound, line_sound}
 use Rattle.theory.specs.Modes.{each_mode_lem, mode_each}
 use Rattle.tables.specs.declared.ProgramSet.{ProgramSet}

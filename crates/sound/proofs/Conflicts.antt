@@ -16,7 +16,8 @@ use Rattle.laws.specs.Laws.{all-each, each_all}
 use Rattle.rules.specs.declared.Standing.{Standing}
 use Rattle.rules.specs.declared.Program.{Program}
 use Rattle.rules.specs.declared.Board.{Board}
-use Rattle.rules.specs.Modes.{Mode, each_mode, claim_of, open_of, claims_meet}
+use Rattle.rules.specs.declared.Mode.{Mode}
+use Rattle.rules.specs.Modes.{each_mode, claim_of, open_of, claims_meet}
 use Rattle.rules.specs.Boards.{is_admitted, is_program, everyone, at}
 use Rattle.rules.specs.Orders.{conflict, holds_back, carried}
 use Rattle.rules.specs.Digraph.{is_in, step, leads_to, closes, is_loop_of}

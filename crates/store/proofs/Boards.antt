@@ -10,7 +10,7 @@ use lib.Seq.{ext_get_or, get_or-set_same, get_or-set_other}
 use borrow.Author.Tests.{eqb-true, eqb-false}
 use Rattle.laws.specs.Tests.{by_test}
 use Rattle.rules.specs.declared.Board.{Board}
-use Rattle.rules.specs.Modes.{Write, Read, Inquiry}
+use Rattle.rules.specs.declared.Mode.TheVariants.{Write, Read, Inquiry}
 use Rattle.files.specs.Words.{bits_of}
 use Rattle.laws.specs.Lists.{padded}
 use Rattle.rules.specs.Boards.{no_program, empty_board, at, set_waiting, set_entry, set_passed}

@@ -18,7 +18,9 @@ use Rattle.files.proofs.Rows.{words-without, length_without}
 use Rattle.rules.specs.declared.Standing.{Standing}
 use Rattle.rules.specs.declared.Program.{Program}
 use Rattle.rules.specs.declared.Board.{Board}
-use Rattle.rules.specs.Modes.{Mode, Write, Read, Inquiry, is_mode, claim_of, open_of}
+use Rattle.rules.specs.declared.Mode.{Mode}
+use Rattle.rules.specs.declared.Mode.TheVariants.{Write, Read, Inquiry}
+use Rattle.rules.specs.Modes.{is_mode, claim_of, open_of}
 use Rattle.rules.specs.Boards.{no_program, at, set_program, set_standing, set_item, opening, closing, dropping}
 use Rattle.theory.specs.Modes.{closing_claim, closing_open, dropping_claim, dropping_open}
 use Rattle.theory.specs.Programs.{Is}

@@ -17,7 +17,9 @@ use Rattle.files.specs.Words.{set_of, with_file}
 use Rattle.files.proofs.Rows.{words_with, length_with}
 use Rattle.rules.specs.declared.Program.{Program}
 use Rattle.rules.specs.declared.Board.{Board}
-use Rattle.rules.specs.Modes.{Mode, Write, Read, Inquiry, is_mode, claim_of, open_of, mode_of}
+use Rattle.rules.specs.declared.Mode.{Mode}
+use Rattle.rules.specs.declared.Mode.TheVariants.{Write, Read, Inquiry}
+use Rattle.rules.specs.Modes.{is_mode, claim_of, open_of, mode_of}
 use Rattle.rules.specs.Boards.{no_program, at, opened, opening}
 use Rattle.theory.specs.Modes.{mode_is, opened_claim, opened_open, opened-same}
 use Rattle.theory.specs.Programs.{Is, Sized, SameSets}

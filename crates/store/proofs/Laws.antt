@@ -16,7 +16,9 @@ use Rattle.laws.specs.Tests.{by_test}
 use Rattle.laws.specs.Tables.{fresh-table, put_in}
 use Rattle.rules.specs.declared.Program.{Program}
 use Rattle.rules.specs.declared.Board.{Board}
-use Rattle.rules.specs.Modes.{Mode, Write, Read, Inquiry, by_mode, is_mode, clashing, some_mode, claim_of, open_of, mode_of}
+use Rattle.rules.specs.declared.Mode.{Mode}
+use Rattle.rules.specs.declared.Mode.TheVariants.{Write, Read, Inquiry}
+use Rattle.rules.specs.Modes.{by_mode, is_mode, clashing, some_mode, claim_of, open_of, mode_of}
 use Rattle.rules.specs.Boards.{at}
 use Rattle.rules.specs.Orders.{holds_back}
 use Rattle.theory.specs.Modes.{same_mode, touching-same}

@@ -8,7 +8,9 @@ use Rattle.files.specs.Sets.{member}
 use Rattle.files.specs.Words.{word_count, set_of, with_file, without_file}
 use Rattle.rules.specs.declared.Program.{Program}
 use Rattle.rules.specs.declared.Board.{Board}
-use Rattle.rules.specs.Modes.{Mode, Write, Read, Inquiry, clashing, some_mode, claim_of, open_of, touching}
+use Rattle.rules.specs.declared.Mode.{Mode}
+use Rattle.rules.specs.declared.Mode.TheVariants.{Write, Read, Inquiry}
+use Rattle.rules.specs.Modes.{clashing, some_mode, claim_of, open_of, touching}
 use Rattle.rules.specs.Boards.{no_program}
 
 abbrev pub Sets : Type 0

@@ -1,7 +1,8 @@
 // The sets of a board's programs in an array of places that is lent and not copied, a row of words in each place.
 // Which place has which set is said here alone: V of program p stands in place p - 1, and Q, J, W, R and I stand 32, 64, 96, 128 and 160 places further.
 ghost use Rattle.std.specs.Prelude.{◌≡◌, ◌-◌, ◌≤◌, ◌<◌};
-ghost use Rattle.rules.specs.Modes.{Write, Read, Inquiry, by_mode};
+ghost use Rattle.rules.specs.declared.Mode.TheVariants.{Write, Read, Inquiry};
+ghost use Rattle.rules.specs.Modes.{by_mode};
 ghost use Rattle.rules.specs.Boards.{set_program};
 ghost use Rattle.store.specs.Store.{seat_of, put_seat, board_of, SeatsTo};
 ghost use Rattle.store.specs.Sets.{place_count, IsStore, claim_place, open_place, PutAt, SetsOf, claims_at, opens_at, closed_at};

@@ -14,7 +14,8 @@ use Rattle.files.specs.Words.{word_count, set_of, wordwise}
 use Rattle.files.proofs.Bits.{share_of, of_share, without-number-same, without-number-other}
 use Rattle.files.proofs.Rows.{or_words, length-wordwise}
 use Rattle.laws.specs.Tests.{by_test, never, no_true, and_false}
-use Rattle.rules.specs.Modes.{Mode, Write, Read, Inquiry}
+use Rattle.rules.specs.declared.Mode.{Mode}
+use Rattle.rules.specs.declared.Mode.TheVariants.{Write, Read, Inquiry}
 use Rattle.store.specs.Sets.{Sets, IsStore, claim_place, open_place, row_in, claim_at, open_at, holds_one}
 use Rattle.store.proofs.Laws.{claim_place_lem, open_place_lem}
 use Rattle.theory.specs.Modes.{by-touching, some_mode_lem}

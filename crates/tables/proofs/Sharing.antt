@@ -18,7 +18,8 @@ use Rattle.files.proofs.Rows.{or_words, and_words, but_words, length-wordwise, n
 use Rattle.laws.specs.Tests.{by_test, never, no_true, not_true, true_not, same_test, and_left, and_right, and_both, or_cases, or_left, or_right}
 use Rattle.laws.specs.Lists.{any}
 use Rattle.laws.specs.Laws.{any_some, some-any}
-use Rattle.rules.specs.Modes.{Mode, Write, Read, Inquiry}
+use Rattle.rules.specs.declared.Mode.{Mode}
+use Rattle.rules.specs.declared.Mode.TheVariants.{Write, Read, Inquiry}
 use Rattle.rules.specs.Boards.{is_program, everyone}
 use Rattle.store.specs.Sets.{Sets}
 use Rattle.theory.specs.Programs.{is_of, of_is, mem-everyone, everyone_is}

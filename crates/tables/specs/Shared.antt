@@ -4,7 +4,8 @@ use Rattle.std.specs.Prelude.{ℕ, zero, suc, ◌-◌, ◌≡◌, ◌≢◌, ◌
 use Rattle.std.specs.Int.Bits.{bit_and, bit_or}
 use Rattle.files.specs.Bits.{has_bit, less_bits}
 use Rattle.files.specs.Words.{word_count, bits_of, wordwise}
-use Rattle.rules.specs.Modes.{Mode, Write, Read, Inquiry}
+use Rattle.rules.specs.declared.Mode.{Mode}
+use Rattle.rules.specs.declared.Mode.TheVariants.{Write, Read, Inquiry}
 use Rattle.store.specs.Sets.{Sets, row_in, claim_place, open_place}
 use Rattle.tables.specs.declared.shared.Shared.{Shared}
 use Rattle.tables.specs.declared.shared.OpenFiles.{OpenFiles}

@@ -14,7 +14,9 @@ use Rattle.rules.specs.declared.Board.{Board}
 use Rattle.laws.specs.Lists.{keep, listed, without, names, padded}
 use Rattle.rules.specs.Boards.{no_program, empty_board, is_absent, is_held, is_waiting, is_admitted, everyone, at, admitted, set_program}
 use Rattle.rules.specs.Boards.{set_standing, set_claims, set_open, set_item}
-use Rattle.rules.specs.Modes.{Mode, Write, Read, Inquiry, claim_of, open_of}
+use Rattle.rules.specs.declared.Mode.{Mode}
+use Rattle.rules.specs.declared.Mode.TheVariants.{Write, Read, Inquiry}
+use Rattle.rules.specs.Modes.{claim_of, open_of}
 use Rattle.rules.specs.Settling.{pass, candidate, favour, overdue, admit_held, run_held, choose, settle}
 use Rattle.laws.specs.Laws.{◌∈◌, NoRepeat, here, keep_mem, mem_keep, keep_but, Pairs_keep, Pairs-map, rising_pairs, listed-mem}
 use Rattle.laws.specs.Laws.{mem-listed}

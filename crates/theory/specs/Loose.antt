@@ -14,7 +14,9 @@ use Rattle.rules.specs.declared.Board.{Board}
 use Rattle.laws.specs.Lists.{without, names, padded}
 use Rattle.rules.specs.Boards.{no_program, is_absent, is_held, is_waiting, is_admitted, awaited_of, claims, has_open, set_standing, opening, closing}
 use Rattle.rules.specs.Boards.{dropping}
-use Rattle.rules.specs.Modes.{Mode, Write, Read, Inquiry, claim_of, open_of, claims_meet}
+use Rattle.rules.specs.declared.Mode.{Mode}
+use Rattle.rules.specs.declared.Mode.TheVariants.{Write, Read, Inquiry}
+use Rattle.rules.specs.Modes.{claim_of, open_of, claims_meet}
 use Rattle.rules.specs.Orders.{conflict, holds_back}
 use Rattle.rules.specs.Calls.{newcomer}
 use Rattle.laws.specs.Laws.{◌∈◌, NoRepeat, names_padded, without-mem, mem-without, Pairs-without, once_snoc, by_snoc, length_without}

@@ -9,7 +9,9 @@ use Rattle.files.specs.Sets.{no_files, member, meets, adding, removing}
 use Rattle.files.proofs.Laws.{◌⊑◌, member_file, meets_mono, meets_sym, meets_at, none-meets, meets-none, adding-same, adding_⊒, adding-meets}
 use Rattle.rules.specs.declared.Standing.{Standing}
 use Rattle.rules.specs.declared.Program.{Program}
-use Rattle.rules.specs.Modes.{Mode, Write, Read, Inquiry, clashing, some_mode, each_mode, claim_of, open_of, touching, touching_is, claims_meet}
+use Rattle.rules.specs.declared.Mode.{Mode}
+use Rattle.rules.specs.declared.Mode.TheVariants.{Write, Read, Inquiry}
+use Rattle.rules.specs.Modes.{clashing, some_mode, each_mode, claim_of, open_of, touching, touching_is, claims_meet}
 use Rattle.rules.specs.Modes.{mode_of, is_mode}
 use Rattle.rules.specs.Boards.{no_program, claims, set_standing, set_item, set_claims, set_open, opened, closing, dropping}
 use Rattle.rules.specs.Calls.{newcomer}

@@ -13,7 +13,8 @@ use Rattle.rules.specs.declared.Standing.{Standing}
 use Rattle.rules.specs.declared.Program.{Program}
 use Rattle.rules.specs.declared.Board.{Board}
 use Rattle.laws.specs.Lists.{any, keep, rising, without, found, first}
-use Rattle.rules.specs.Modes.{Mode, claim_of, open_of, claims_meet, mode_of}
+use Rattle.rules.specs.declared.Mode.{Mode}
+use Rattle.rules.specs.Modes.{claim_of, open_of, claims_meet, mode_of}
 use Rattle.rules.specs.Boards.{no_program, is_admitted, is_program, everyone, at, admitted, claims, set_standing, set_item, opened, opening}
 use Rattle.rules.specs.Orders.{conflict, holds_back, held_back, carried_from, carried, with_given, in_use, safe, can_give}
 use Rattle.laws.specs.Laws.{◌∈◌, Pairs, NoRepeat, by_mem, any_some, some-any, found_some, keep_mem, mem_keep, keep_same}

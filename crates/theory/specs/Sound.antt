@@ -15,7 +15,8 @@ use Rattle.rules.specs.declared.Standing.{Standing}
 use Rattle.rules.specs.declared.Program.{Program}
 use Rattle.rules.specs.declared.Board.{Board}
 use Rattle.laws.specs.Lists.{any, all, found, listed, distinct, same, names, padded}
-use Rattle.rules.specs.Modes.{Mode, each_mode, claim_of, open_of, claims_meet}
+use Rattle.rules.specs.declared.Mode.{Mode}
+use Rattle.rules.specs.Modes.{each_mode, claim_of, open_of, claims_meet}
 use Rattle.rules.specs.Boards.{is_absent, is_held, is_waiting, is_admitted, is_program, awaited_of, everyone, at, awaited, passed_by, admitted}
 use Rattle.rules.specs.Boards.{claims, has_open, uses, wants}
 use Rattle.rules.specs.Orders.{conflict, carried, can_give}

@@ -9,7 +9,8 @@ use Rattle.files.specs.Sets.{member}
 use Rattle.rules.specs.declared.Program.{Program}
 use Rattle.rules.specs.declared.Board.{Board}
 use Rattle.laws.specs.Lists.{any, all}
-use Rattle.rules.specs.Modes.{Mode, clashing, some_mode, open_of, mode_of}
+use Rattle.rules.specs.declared.Mode.{Mode}
+use Rattle.rules.specs.Modes.{clashing, some_mode, open_of, mode_of}
 use Rattle.rules.specs.Boards.{is_program, everyone, at, opening}
 use Rattle.rules.specs.Orders.{conflict, in_use}
 use Rattle.rules.specs.Soundness.{no_conflict}

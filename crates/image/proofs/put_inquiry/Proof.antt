@@ -1,7 +1,7 @@
 -- `put_inquiry` meets its contract: its sections one after another. Assumes nothing.
 use Prim.Native.Nat.{ℕ, ◌-◌}
 use mathlib.Core.Path.{refl, ◌∙◌}
-use Rattle.rules.specs.Modes.{Inquiry}
+use Rattle.rules.specs.declared.Mode.TheVariants.{Inquiry}
 use Rattle.store.specs.Sets.{claim_place, open_place, set_in}
 use Rattle.image.specs.Sections.{bytes_n}
 use Rattle.image.specs.Image.{set_section, items_section, used_by, wanted_by}

@@ -2,7 +2,7 @@
 use mathlib.Core.Path.{◌≡◌, sym, ap₂, ◌∙◌}
 use Prim.Native.Nat.{ℕ}
 use Rattle.files.specs.Sets.{meets}
-use Rattle.rules.specs.Modes.{Write, Read, Inquiry}
+use Rattle.rules.specs.declared.Mode.TheVariants.{Write, Read, Inquiry}
 use Rattle.store.specs.Sets.{set_in, claim_at}
 use borrow.Author.Rules.{rules}
 use Rattle.sound.proofs.claims_meet.Statement.{statement}

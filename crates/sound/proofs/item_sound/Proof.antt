@@ -3,7 +3,7 @@ use mathlib.Core.Path.{◌≡◌, sym, ap, ◌∙◌}
 use Prim.Native.Nat.{ℕ, ◌-◌}
 use borrow.Author.Tests.{eq-eqb, ne_eqb}
 use Rattle.files.specs.Sets.{member}
-use Rattle.rules.specs.Modes.{Inquiry}
+use Rattle.rules.specs.declared.Mode.TheVariants.{Inquiry}
 use Rattle.rules.specs.Soundness.{item_sound}
 use Rattle.store.specs.Sets.{set_in, open_at}
 use Rattle.store.specs.Store.{program_with}

@@ -2,7 +2,7 @@
 use mathlib.Core.Path.{◌≡◌, sym, ap₂, ◌∙◌}
 use Prim.Native.Nat.{ℕ}
 use Rattle.files.specs.Sets.{within}
-use Rattle.rules.specs.Modes.{Write, Read}
+use Rattle.rules.specs.declared.Mode.TheVariants.{Write, Read}
 use Rattle.store.specs.Sets.{set_in, claim_at, open_at}
 use borrow.Author.Rules.{rules}
 use Rattle.sound.proofs.opens_claimed.Statement.{statement}

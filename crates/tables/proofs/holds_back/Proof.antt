@@ -1,6 +1,8 @@
 -- `holds_back` meets its contract. Assumes nothing.
 use mathlib.Core.Path.{◌≡◌, sym, ap, ◌∙◌}
-use Rattle.rules.specs.Modes.{Mode, Write, Read, Inquiry, by_mode}
+use Rattle.rules.specs.declared.Mode.{Mode}
+use Rattle.rules.specs.declared.Mode.TheVariants.{Write, Read, Inquiry}
+use Rattle.rules.specs.Modes.{by_mode}
 use Rattle.theory.specs.Modes.{touching-same}
 use Rattle.store.specs.Sets.{set_in, claim_at, open_at}
 use borrow.Author.Rules.{rules}

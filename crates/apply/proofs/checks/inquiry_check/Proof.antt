@@ -3,7 +3,7 @@ use mathlib.Core.Path.{◌≡◌, sym, ap, ◌∙◌}
 use mathlib.Core.Bool.{Bool}
 use Prim.Native.Nat.{ℕ}
 use Rattle.files.specs.Sets.{member}
-use Rattle.rules.specs.Modes.{Inquiry}
+use Rattle.rules.specs.declared.Mode.TheVariants.{Inquiry}
 use Rattle.store.specs.Sets.{set_in, open_at}
 use borrow.Author.Rules.{rules}
 use Rattle.apply.proofs.checks.inquiry_check.Statement.{statement}

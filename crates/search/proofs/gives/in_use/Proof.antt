@@ -7,7 +7,9 @@ use borrow.Author.Tests.{ne_eqb}
 use Rattle.files.specs.Sets.{member}
 use Rattle.files.specs.Words.{set_of}
 use Rattle.laws.specs.Tests.{by_test}
-use Rattle.rules.specs.Modes.{Mode, Write, Read, Inquiry, clashing, some_mode}
+use Rattle.rules.specs.declared.Mode.{Mode}
+use Rattle.rules.specs.declared.Mode.TheVariants.{Write, Read, Inquiry}
+use Rattle.rules.specs.Modes.{clashing, some_mode}
 use Rattle.store.specs.Sets.{mode_numbered}
 use Rattle.tables.specs.Shared.{open_in}
 use Rattle.search.specs.Gives.{used_in}

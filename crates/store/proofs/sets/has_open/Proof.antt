@@ -2,7 +2,7 @@
 use mathlib.Core.Path.{◌≡◌, sym, ap, ◌∙◌}
 use Prim.Native.Nat.{ℕ}
 use Rattle.files.specs.Sets.{member}
-use Rattle.rules.specs.Modes.{Write, Read, Inquiry}
+use Rattle.rules.specs.declared.Mode.TheVariants.{Write, Read, Inquiry}
 use Rattle.store.specs.Sets.{set_in, open_at}
 use borrow.Author.Rules.{rules}
 use Rattle.store.proofs.sets.has_open.Statement.{statement}

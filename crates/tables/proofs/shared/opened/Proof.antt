@@ -6,7 +6,7 @@ use lib.Bits.{bit_or}
 use lib.ListN.{length}
 use Rattle.files.specs.Words.{word_count, wordwise}
 use Rattle.files.proofs.Rows.{same-words}
-use Rattle.rules.specs.Modes.{Write, Read, Inquiry}
+use Rattle.rules.specs.declared.Mode.TheVariants.{Write, Read, Inquiry}
 use Rattle.store.specs.Sets.{row_in}
 use Rattle.tables.specs.Shared.{shared_to, open_row}
 use Rattle.tables.proofs.Sharing.{once_more}
