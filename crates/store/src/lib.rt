@@ -31,14 +31,19 @@ pub struct Rest {
     pub passed: [u8; 32],
 }
 
+impl Seat {
+    // Of an absent program.
+    pub const NONE: Seat = Seat {
+        standing: Standing::Absent,
+        file: 0,
+        item: 0,
+    };
+}
+
 impl Rest {
     // Of the empty board.
     pub const EMPTY: Rest = Rest {
-        seats: [Seat {
-            standing: Standing::Absent,
-            file: 0,
-            item: 0,
-        }; 32],
+        seats: [Seat::NONE; 32],
         waiting: [0; 32],
         entry: [0; 32],
         favoured: 0,
@@ -53,8 +58,7 @@ pub fn seat_at(rest: Rest, p: u8) -> Seat
     requires { (1 ≤ p) × (p ≤ 32) }
     ensures { result ≡ seat_at rest p }
 {
-    let i = (p - 1) as usize;
-    rest.seats[i]
+    rest.seats[(p - 1) as usize]
 }
 
 // The rest with a seat for p.
@@ -62,9 +66,8 @@ pub fn put_seat(rest: Rest, p: u8, t: Seat) -> Rest
     requires { (1 ≤ p) × (p ≤ 32) }
     ensures { result ≡ put_seat rest p t }
 {
-    let i = (p - 1) as usize;
     let mut r = rest;
-    r.seats[i] = t;
+    r.seats[(p - 1) as usize] = t;
     r
 }
 
@@ -73,9 +76,7 @@ pub fn standing_at(rest: Rest, p: u8) -> Standing
     requires { (1 ≤ p) × (p ≤ 32) }
     ensures { result ≡ standing_at rest p }
 {
-    let i = (p - 1) as usize;
-    let seat = rest.seats[i];
-    seat.standing
+    rest.seats[(p - 1) as usize].standing
 }
 
 // The rest with p at a standing.
@@ -83,15 +84,7 @@ pub fn seated(rest: Rest, p: u8, s: Standing) -> Rest
     requires { (1 ≤ p) × (p ≤ 32) }
     ensures { result ≡ seated_at rest p s }
 {
-    let i = (p - 1) as usize;
-    let seat = rest.seats[i];
-    let f = seat.file;
-    let n = seat.item;
     let mut r = rest;
-    r.seats[i] = Seat {
-        standing: s,
-        file: f,
-        item: n,
-    };
+    r.seats[(p - 1) as usize].standing = s;
     r
 }
