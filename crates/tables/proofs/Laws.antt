@@ -184,6 +184,13 @@ module _ (t : ℕ → Bool) (p : ℕ) where
   unfolding any
   any_step h = ap (any t) (rising_step p h)
 
+  pub any_here : p ≤ 32 → t p ≡ true → any t (rising (33 - p) p) ≡ true
+  any_here h e = any_step h ∙ ap (λ (x : Bool). x || any t (rising (33 - suc p) (suc p))) e
+
+  pub any_more : p ≤ 32 → t p ≡ false → any t (rising (33 - p) p) ≡ any t (rising (33 - (p + 1)) (p + 1))
+  any_more h e = let z : p + 1 ≡ suc p = omega arith in
+      rw z (any_step h ∙ ap (λ (x : Bool). x || any t (rising (33 - suc p) (suc p))) e)
+
   pub any_end : 32 < p → any t (rising (33 - p) p) ≡ false
   unfolding any
   any_end h = ap (any t) (rising_end p h)

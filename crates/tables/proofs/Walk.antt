@@ -1,9 +1,9 @@
 -- Laws of a walk over a set of programs, the lowest first: `rest` has those that are still to come. Assumes nothing.
-use mathlib.Core.Path.{◌≡◌, sym, ap, ◌∙◌}
+use mathlib.Core.Path.{◌≡◌, sym, ap, subst, ◌∙◌}
 use mathlib.Core.Logic.{◌≢◌}
 use mathlib.Core.Bool.{Bool, true, false, not, cond, ◌&&◌}
 use mathlib.Core.List.{List}
-use Prim.Native.Nat.{ℕ, suc, ◌-◌, ◌^◌, ◌<◌}
+use Prim.Native.Nat.{ℕ, suc, ◌+◌, ◌-◌, ◌^◌, ◌≤◌, ◌<◌}
 use native.Mathlib.Nat.{zero-add}
 use native.Mathlib.Omega.{arith}
 use lib.Dec.{eqb}
@@ -81,6 +81,11 @@ module _ (s : ProgramSet) where
           ∙ sym (ap (λ (c : Bool). cond c (g i) (get_or before i 0)) (came-other rest p (suc i) (omega arith)))),
     )
 
+    -- a step of a walk, and what it writes
+    pub wrote-next : (rest next : ProgramSet) (after : List ℕ) (p k y : ℕ) → WroteTo rest after → IsLowest rest p × (next ≡ without_program rest p)
+        → k ≡ p - 1 → y ≡ g (p - 1) → WroteTo next (set after k y)
+    wrote-next rest next after p k y w (l, e) d f = rw (e, d) (wrote-more rest after p y w l f)
+
     -- the place of one that is to come is as before
     pub wrote-here : (rest : ProgramSet) (after : List ℕ) (p : ℕ) → WroteTo rest after → IsLowest rest p → get_or after (p - 1) 0 ≡ get_or before (p - 1) 0
     wrote-here rest after p (r, n, f) (a, b, h, l) = let w : suc (p - 1) ≡ p = omega arith in
@@ -92,34 +97,75 @@ module _ (s : ProgramSet) where
         (λ i h. f i (omega arith) ∙ ap (λ (c : Bool). cond c (g i) (get_or before i 0)) (came-all rest (suc i) e)
         ∙ ap (λ (x : ℕ). cond (has_program s (suc x)) (g x) (get_or before x 0)) (sym (zero-add i)) ∙ sym (places-at _ 32 0 i (omega arith)))
 
-  -- ---- those that pass a test
+  -- ---- those that pass a test, where P says what the test of each comes to
 
-  module _ (t : ℕ → Bool) where
-    -- of those that have come the ones that pass the test
-    abbrev pub JoinedTo : ProgramSet → ProgramSet → Type 0
-    JoinedTo rest u = Rest rest × ((x : ℕ) → has_program u x ≡ (came rest x && t x))
+  module _ (P : ℕ → Bool → Type 0) where
+    -- of those that have come the ones that passed
+    abbrev pub PassedTo : ProgramSet → ProgramSet → Type 0
+    PassedTo rest u = Rest rest × ((x : ℕ) → came rest x ≡ true → P x (has_program u x)) × ((x : ℕ) → came rest x ≡ false → has_program u x ≡ false)
 
-    pub joined-start : JoinedTo s no_programs
-    joined-start = (λ x e. e, λ x. none_has x ∙ sym (ap (λ (c : Bool). c && t x) (came-start x)))
+    pub passed-start : PassedTo s no_programs
+    passed-start = (λ x e. e, λ x e. never e (came-start x), λ x e. none_has x)
 
-    pub joined-more : (rest u r : ProgramSet) (p : ℕ) (y : Bool) → JoinedTo rest u → IsLowest rest p → y ≡ t p → r ≡ joined u p y
-        → JoinedTo (without_program rest p) r
-    joined-more rest u r p y (w, f) (a, b, h, l) e d = (
+    pub passed-more : (rest next u r : ProgramSet) (p : ℕ) (y : Bool) → PassedTo rest u → IsLowest rest p × (next ≡ without_program rest p)
+        → P p y → r ≡ joined u p y → PassedTo next r
+    passed-more rest next u r p y (w, f, n) ((a, b, h, l), i) e d = subst (λ (v : ProgramSet). PassedTo v r) (sym i) (
       rest_more rest p w,
-      λ x. ap (λ (v : ProgramSet). has_program v x) d ∙ by_test (eqb x p)
-          (λ q. let z : x ≡ p = eqb-true x p q in rw z (here ∙ sym (ap (λ (c : Bool). c && t p) (came-here rest p w h))))
-          (λ q. let z : x ≢ p = eqb-false x p q in there x z ∙ f x ∙ sym (ap (λ (c : Bool). c && t x) (came-other rest p x z))),
+      λ x c. subst (λ (v : ProgramSet). P x (has_program v x)) (sym d) (by_test (eqb x p)
+          (λ q. let z : x ≡ p = eqb-true x p q in rw (z, here) e)
+          (λ q. let z : x ≢ p = eqb-false x p q in rw (there x z) (f x (sym (came-other rest p x z) ∙ c)))),
+      λ x c. ap (λ (v : ProgramSet). has_program v x) d ∙ by_test (eqb x p)
+          (λ q. let z : x ≡ p = eqb-true x p q in never (came-here rest p w h) (ap (came (without_program rest p)) (sym z) ∙ c))
+          (λ q. let z : x ≢ p = eqb-false x p q in there x z ∙ n x (sym (came-other rest p x z) ∙ c)),
     )
       where
-        here : has_program (joined u p y) p ≡ t p
-        here = by_test y (λ q. rw q (with_number-same 32 u.bits p (is_number_lem 32 p a b)) ∙ sym q ∙ e)
-            (λ q. rw q (f p ∙ ap (λ (c : Bool). c && t p) (came_not rest p h)) ∙ sym q ∙ e)
+        here : has_program (joined u p y) p ≡ y
+        here = by_test y (λ q. rw q (with_number-same 32 u.bits p (is_number_lem 32 p a b)))
+            (λ q. rw q (n p (came_not rest p h)))
 
         there : (x : ℕ) → x ≢ p → has_program (joined u p y) x ≡ has_program u x
         there x z = by_test y (λ q. rw q (with_number-other 32 u.bits p x z)) (λ q. rw q)
 
-    pub joined-done : (rest u : ProgramSet) → rest.bits ≡ 0 → u.bits < 2 ^ 32 → JoinedTo rest u → u ≡ packed (λ x. has_program s x && t x) 32
-    joined-done rest u e h (w, f) = set_same u (packed (λ x. has_program s x && t x) 32) h (packed_lt _ 32 (omega arith))
-        (λ x. f x ∙ ap (λ (c : Bool). c && t x) (came-all rest x e) ∙ by_test (is_number 32 x)
-        (λ n. sym (packed-has (λ x. has_program s x && t x) 32 x (omega arith) (least 32 x n) (most 32 x n)))
-        (λ n. rw n))
+    pub passed-done : (rest u : ProgramSet) → rest.bits ≡ 0 → PassedTo rest u
+        → ((x : ℕ) → has_program s x ≡ true → P x (has_program u x)) × ((x : ℕ) → has_program s x ≡ false → has_program u x ≡ false)
+    passed-done rest u e (w, f, n) = (λ x c. f x (came-all rest x e ∙ c), λ x c. n x (came-all rest x e ∙ c))
+
+-- ---- the programs 1 to i - 1 put to a test
+
+module _ (P : ℕ → Bool → Type 0) where
+  -- of the programs below i the ones that passed
+  abbrev pub TriedTo : ℕ → ProgramSet → Type 0
+  TriedTo i u = ((x : ℕ) → 1 ≤ x → x < i → P x (has_program u x)) × ((x : ℕ) → i ≤ x → has_program u x ≡ false)
+
+  pub tried-start : TriedTo 1 no_programs
+  tried-start = (λ x h k. absurd (omega arith), λ x h. none_has x)
+
+  pub tried-more : (i : ℕ) (u r : ProgramSet) (y : Bool) → TriedTo i u → 1 ≤ i → i ≤ 32 → P i y → r ≡ joined u i y → TriedTo (i + 1) r
+  tried-more i u r y (f, n) a b e d = (
+    λ x h k. subst (λ (v : ProgramSet). P x (has_program v x)) (sym d) (by_test (eqb x i)
+        (λ q. let z : x ≡ i = eqb-true x i q in rw (z, here) e)
+        (λ q. let z : x ≢ i = eqb-false x i q in rw (there x z) (f x h (omega arith)))),
+    λ x h. let z : x ≢ i = omega arith in ap (λ (v : ProgramSet). has_program v x) d ∙ there x z ∙ n x (omega arith),
+  )
+    where
+      here : has_program (joined u i y) i ≡ y
+      here = by_test y (λ q. rw q (with_number-same 32 u.bits i (is_number_lem 32 i a b)))
+          (λ q. rw q (n i (omega arith)))
+
+      there : (x : ℕ) → x ≢ i → has_program (joined u i y) x ≡ has_program u x
+      there x z = by_test y (λ q. rw q (with_number-other 32 u.bits i x z)) (λ q. rw q)
+
+-- ---- the programs of a set that pass a test, and all programs that do
+
+pub passing : (s u : ProgramSet) (t : ℕ → Bool) → u.bits < 2 ^ 32 → ((x : ℕ) → has_program s x ≡ true → has_program u x ≡ t x)
+    → ((x : ℕ) → has_program s x ≡ false → has_program u x ≡ false) → u ≡ packed (λ x. has_program s x && t x) 32
+passing s u t h f n = set_same u (packed (λ x. has_program s x && t x) 32) h (packed_lt _ 32 (omega arith))
+    (λ x. by_test (has_program s x) (λ c. f x c ∙ ap (λ (y : Bool). y && t x) (sym c)) (λ c. n x c ∙ ap (λ (y : Bool). y && t x) (sym c))
+    ∙ by_test (is_number 32 x)
+    (λ d. sym (packed-has (λ x. has_program s x && t x) 32 x (omega arith) (least 32 x d) (most 32 x d)))
+    (λ d. rw d))
+
+pub all-passing : (u : ProgramSet) (t : ℕ → Bool) → u.bits < 2 ^ 32 → ((x : ℕ) → 1 ≤ x → x ≤ 32 → has_program u x ≡ t x) → u ≡ packed t 32
+all-passing u t h f = set_same u (packed t 32) h (packed_lt t 32 (omega arith)) (λ x. by_test (is_number 32 x)
+    (λ d. let l = least 32 x d in let m = most 32 x d in f x l m ∙ sym (packed-has t 32 x (omega arith) l m))
+    (λ d. rw d))

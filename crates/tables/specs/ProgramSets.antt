@@ -1,12 +1,14 @@
 -- Sets of programs, as sets of the numbers 1 to 32.
 -- Assumes nothing.
-use Rattle.std.specs.Prelude.{ℕ, ◌≤◌, ◌<◌, ◌≡◌, Bool, true, false}
+use Rattle.std.specs.Iterator.{Count, at_most}
+use Rattle.std.specs.Prelude.{ℕ, ◌≤◌, ◌<◌, ◌≡◌, Bool, true, false, Option, MatchOption}
 use Rattle.std.proofs.Math.Option.{get_or}
 use Rattle.std.specs.Int.Bits.{bit_and, bit_or}
 use Rattle.files.specs.Bits.{has_number, with_number, without_number, share, less_bits}
 use Rattle.laws.specs.Lists.{first}
 use Rattle.rules.specs.Boards.{everyone}
 use Rattle.tables.specs.declared.ProgramSet.{ProgramSet}
+use Rattle.tables.specs.declared.Members.{Members}
 
 abbrev pub no_programs : ProgramSet
 no_programs = record { bits = 0 }
@@ -46,3 +48,11 @@ lowest_of s = get_or (first (has_program s) everyone) 0
 -- p is the lowest program of s: it is in s, and none below it is
 abbrev pub IsLowest : ProgramSet → ℕ → Type 0
 IsLowest s p = (1 ≤ p) × (p ≤ 32) × (has_program s p ≡ true) × ((q : ℕ) → q < p → has_program s q ≡ false)
+
+-- a step of a walk gave r, and left t of what was left, s: its lowest, and the others; or nothing where nothing was left
+abbrev pub GivesLowest : Members → Option ℕ → Members → Type 0
+GivesLowest s r t = MatchOption r (s.left.bits ≡ 0) (λ p. IsLowest s.left p × (t.left ≡ without_program s.left p))
+
+-- a walk ends: each step takes the number of the set down
+abbrev pub programs_left : Members → Count
+programs_left s = at_most s.left.bits

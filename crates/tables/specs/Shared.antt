@@ -1,6 +1,6 @@
 -- The files that some of several programs have, and those that two of them have, as words.
 -- Assumes nothing.
-use Rattle.std.specs.Prelude.{ℕ, zero, suc, ◌-◌, ◌≡◌, ◌≢◌, ◌↔◌, Bool, true, List, length, replicate}
+use Rattle.std.specs.Prelude.{ℕ, zero, suc, ◌-◌, ◌≤◌, ◌≡◌, ◌≢◌, ◌↔◌, Bool, true, List, length, replicate}
 use Rattle.std.specs.Int.Bits.{bit_and, bit_or}
 use Rattle.files.specs.Bits.{has_bit, less_bits}
 use Rattle.files.specs.Words.{word_count, bits_of, wordwise}
@@ -36,6 +36,10 @@ open_in Inquiry o = o.inquiring
 -- by the sets: what p has open in a mode
 abbrev pub open_row : Sets → Mode → ℕ → List ℕ
 open_row sets m p = row_in sets (open_place m (p - 1))
+
+-- what comes of each program is the place of what it has open in a mode
+abbrev pub PlacesOf : Mode → (ℕ → ℕ → Type 0) → Type 0
+PlacesOf m comes = (p k : ℕ) → 1 ≤ p → p ≤ 32 → comes p k → k ≡ open_place m (p - 1)
 
 -- what all programs have open
 abbrev pub opened_in : Sets → OpenFiles

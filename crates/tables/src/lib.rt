@@ -21,6 +21,12 @@ pub struct ProgramSet {
     pub bits: u32,
 }
 
+// A walk over a set of programs, the lowest first: those that are still to come.
+#[derive(Clone, Copy)]
+pub struct Members {
+    pub left: ProgramSet,
+}
+
 // The set, and p where the test passed.
 pub fn join(s: ProgramSet, p: u8, yes: bool) -> ProgramSet
     ensures { result ≡ joined s p yes }
@@ -50,13 +56,5 @@ pub fn holders_of(sets: &Sets, p: u8, set: ProgramSet) -> ProgramSet
     requires { ((1 ≤ p) × (p ≤ 32)) × IsStore sets.now }
     ensures { result ≡ packed (holders_of sets.now p set) 32 }
 {
-    let mut holders = ProgramSet::EMPTY;
-    let mut rest = set;
-    while rest.bits != 0 {
-        let q = rest.lowest();
-        let yes = holds_back(sets, q, p);
-        holders = join(holders, q, yes);
-        rest = rest.but_lowest();
-    }
-    holders
+    set.filter(|q| holds_back(sets, q, p))
 }

@@ -1,10 +1,18 @@
-// Sets of programs, by value.
-ghost use Rattle.std.specs.Prelude.{◌≡◌, ◌≢◌, ◌≤◌, length};
+// Sets of programs, by value, and a walk over one: `for p in set`, the lowest first.
+ghost use Rattle.std.specs.Prelude.{◌≡◌, ◌≢◌, true, false, ◌≤◌, length};
+ghost use Rattle.files.specs.Bits.{is_number};
 ghost use Rattle.laws.specs.Lists.{keep};
 ghost use Rattle.rules.specs.Boards.{everyone};
-ghost use Rattle.tables.specs.ProgramSets.{has_program, with_program, without_program, programs_meet, union_of, common_of, less_of, lowest_of, IsLowest};
+ghost use Rattle.tables.specs.ProgramSets.{has_program, with_program, without_program, programs_meet, union_of, common_of, less_of, lowest_of, IsLowest, GivesLowest, programs_left};
 
-use crate::ProgramSet;
+use crate::{Members, ProgramSet};
+
+// Whether p is the number of a program.
+fn is_program(p: u8) -> bool
+    ensures { result ≡ is_number 32 p }
+{
+    (1..=32).contains(&p)
+}
 
 impl ProgramSet {
     // No program.
@@ -14,23 +22,14 @@ impl ProgramSet {
     pub fn has(self, p: u8) -> bool
         ensures { result ≡ has_program self p }
     {
-        if p == 0 {
-            return false;
-        }
-        if 32 < p {
-            return false;
-        }
-        (self.bits >> (p - 1)) % 2 == 1
+        is_program(p) && (self.bits >> (p - 1)) % 2 == 1
     }
 
     // The set and p; the set itself if p is no program.
     pub fn with(self, p: u8) -> ProgramSet
         ensures { result ≡ with_program self p }
     {
-        if p == 0 {
-            return self;
-        }
-        if 32 < p {
+        if !is_program(p) {
             return self;
         }
         ProgramSet {
@@ -42,10 +41,7 @@ impl ProgramSet {
     pub fn without(self, p: u8) -> ProgramSet
         ensures { result ≡ without_program self p }
     {
-        if p == 0 {
-            return self;
-        }
-        if 32 < p {
+        if !is_program(p) {
             return self;
         }
         let m = 1u32 << (p - 1);
@@ -106,10 +102,64 @@ impl ProgramSet {
         }
     }
 
+    // The programs of the set that pass a test, which each of them is put to once.
+    pub fn filter<F: Fn(u8) -> bool>(self, test: F) -> ProgramSet
+        requires { (p : _) → 1 ≤ p → p ≤ 32 → F.pre test p }
+        ensures tested { (p : _) → has_program self p ≡ true → F.post test p (has_program result p) }
+        ensures no_others { (p : _) → has_program self p ≡ false → has_program result p ≡ false }
+    {
+        let mut passed = ProgramSet::EMPTY;
+        for p in self {
+            passed = crate::join(passed, p, test(p));
+        }
+        passed
+    }
+
+    // The programs that pass a test, which each is put to once.
+    pub fn those<F: Fn(u8) -> bool>(test: F) -> ProgramSet
+        requires { (p : _) → 1 ≤ p → p ≤ 32 → F.pre test p }
+        ensures { (p : _) → 1 ≤ p → p ≤ 32 → F.post test p (has_program result p) }
+    {
+        let mut passed = ProgramSet::EMPTY;
+        for p in 1..=32 {
+            passed = crate::join(passed, p, test(p));
+        }
+        passed
+    }
+
     // How many programs the set has.
     pub fn count(self) -> u8
         ensures { (result ≡ length (keep (has_program self) everyone)) × (result ≤ 32) }
     {
         u32::count_ones(self.bits) as u8
+    }
+}
+
+impl Iterator for Members {
+    type Item = u8;
+
+    ghost next_gives = { GivesLowest };
+
+    ghost remaining = { programs_left };
+
+    fn next(&mut self) -> Option<u8> {
+        let left = self.left;
+        if left.bits == 0 {
+            return None;
+        }
+        self.left = left.but_lowest();
+        Some(left.lowest())
+    }
+}
+
+impl IntoIterator for ProgramSet {
+    type Item = u8;
+
+    type IntoIter = Members;
+
+    ghost into_iter_gives = { λ set walk. walk.left ≡ set };
+
+    fn into_iter(self) -> Members {
+        Members { left: self }
     }
 }

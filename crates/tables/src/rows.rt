@@ -1,28 +1,40 @@
 // Which admitted program holds back which: in the row of a program stand the others that it holds back.
-ghost use Rattle.std.specs.Prelude.{◌≡◌, true, ◌≤◌, replicate};
-ghost use Rattle.store.specs.Sets.{IsStore};
+ghost use Rattle.std.specs.Prelude.{◌≡◌, true, ◌≤◌, ◌<◌, replicate, bit_or};
+ghost use Rattle.files.specs.Words.{wordwise};
+ghost use Rattle.store.specs.Sets.{IsStore, place_count, row_in};
 ghost use Rattle.tables.specs.ProgramSets.{has_program, without_program};
 ghost use Rattle.tables.specs.Tables.{held_by, rows_of, packed};
 ghost use Rattle.tables.specs.Shared.{claimed_at, opened_at, SharedBy};
 
 use crate::ProgramSet;
+use crate::boards::place_of;
 use crate::shared::Shared;
 use files::{WORDS, words};
 use store::sets;
 use store::sets::Sets;
+
+// What stands in some of three rows.
+fn in_any(sets: &Sets, a: usize, b: usize, c: usize) -> [u64; WORDS]
+    requires { (a < place_count) × (b < place_count) × (c < place_count) × IsStore sets.now }
+    ensures { result ≡ wordwise bit_or (wordwise bit_or (row_in sets.now a) (row_in sets.now b)) (row_in sets.now c) }
+{
+    let mut files = sets[a];
+    words::join(&mut files, &sets[b]);
+    words::join(&mut files, &sets[c]);
+    files
+}
 
 // What p claims.
 fn claims_of(sets: &Sets, p: u8) -> [u64; WORDS]
     requires { ((1 ≤ p) × (p ≤ 32)) × IsStore sets.now }
     ensures { result ≡ claimed_at sets.now p }
 {
-    let v = sets::writable_at(p);
-    let q = sets::readable_at(p);
-    let j = sets::inquirable_at(p);
-    let mut files = sets[v];
-    words::join(&mut files, &sets[q]);
-    words::join(&mut files, &sets[j]);
-    files
+    in_any(
+        sets,
+        sets::writable_at(p),
+        sets::readable_at(p),
+        sets::inquirable_at(p),
+    )
 }
 
 // What p has open.
@@ -30,13 +42,12 @@ fn opens_of(sets: &Sets, p: u8) -> [u64; WORDS]
     requires { ((1 ≤ p) × (p ≤ 32)) × IsStore sets.now }
     ensures { result ≡ opened_at sets.now p }
 {
-    let w = sets::writing_at(p);
-    let r = sets::reading_at(p);
-    let i = sets::inquiring_at(p);
-    let mut files = sets[w];
-    words::join(&mut files, &sets[r]);
-    words::join(&mut files, &sets[i]);
-    files
+    in_any(
+        sets,
+        sets::writing_at(p),
+        sets::reading_at(p),
+        sets::inquiring_at(p),
+    )
 }
 
 // What the programs of a set claim.
@@ -45,12 +56,8 @@ fn claimed_by(sets: &Sets, set: ProgramSet) -> Shared
     ensures { SharedBy (claimed_at sets.now) (has_program set) result }
 {
     let mut claimed = Shared::NONE;
-    let mut rest = set;
-    while rest.bits != 0 {
-        let p = rest.lowest();
-        let files = claims_of(sets, p);
-        claimed = claimed.with(files);
-        rest = rest.but_lowest();
+    for p in set {
+        claimed = claimed.with(claims_of(sets, p));
     }
     claimed
 }
@@ -60,15 +67,7 @@ fn held_by(sets: &Sets, p: u8, set: ProgramSet) -> ProgramSet
     requires { ((1 ≤ p) × (p ≤ 32)) × IsStore sets.now }
     ensures { result ≡ packed (held_by sets.now p set) 32 }
 {
-    let mut held = ProgramSet::EMPTY;
-    let mut rest = set;
-    while rest.bits != 0 {
-        let q = rest.lowest();
-        let yes = crate::holds_back(sets, p, q);
-        held = crate::join(held, q, yes);
-        rest = rest.but_lowest();
-    }
-    held
+    set.filter(|q| crate::holds_back(sets, p, q))
 }
 
 // The row of p, one of the admitted: the others of them that it holds back. Nobody is tested if none of them claims a file that p has open.
@@ -92,11 +91,7 @@ pub fn fill_rows(sets: &Sets, admitted: ProgramSet, rows: &mut [u32; 32])
     ensures { rows.new ≡ rows_of sets.now admitted }
 {
     let claimed = claimed_by(sets, admitted);
-    let mut rest = admitted;
-    while rest.bits != 0 {
-        let p = rest.lowest();
-        let row = row_of(sets, admitted, claimed, p);
-        rows[(p - 1) as usize] = row.bits;
-        rest = rest.but_lowest();
+    for p in admitted {
+        rows[place_of(p)] = row_of(sets, admitted, claimed, p).bits;
     }
 }

@@ -1,10 +1,12 @@
 // The files that some of several programs have, and those that two of them have: what the others have than one of them; and what all
 // programs have open.
-ghost use Rattle.std.specs.Prelude.{◌≡◌};
-ghost use Rattle.store.specs.Sets.{IsStore};
-ghost use Rattle.tables.specs.Shared.{sharing, others_of, opened_in};
+ghost use Rattle.std.specs.Prelude.{◌≡◌, ◌≤◌, ◌<◌};
+ghost use Rattle.rules.specs.Modes.{Mode};
+ghost use Rattle.store.specs.Sets.{IsStore, place_count};
+ghost use Rattle.tables.specs.Shared.{PlacesOf, sharing, shared_to, open_row, others_of, opened_in};
 
 use files::{WORDS, words};
+use store::sets;
 use store::sets::Sets;
 
 #[derive(Clone, Copy)]
@@ -53,27 +55,28 @@ impl Shared {
     }
 }
 
+// What all programs have in a mode: in the row at each one's place.
+fn of_all<F: Fn(u8) -> usize>(sets: &Sets, place: F) -> [u64; WORDS]
+    requires can { (p : _) → 1 ≤ p → p ≤ 32 → F.pre place p }
+    requires in_store { (p : _) (k : _) → 1 ≤ p → p ≤ 32 → F.post place p k → k < place_count }
+    requires store { IsStore sets.now }
+    ensures { (m : Mode) → PlacesOf m (F.post place) → result ≡ (shared_to (open_row sets.now m) 32).once }
+{
+    let mut files = [0u64; WORDS];
+    for p in 1..=32 {
+        words::join(&mut files, &sets[place(p)]);
+    }
+    files
+}
+
 // What all programs have open.
 pub fn opened(sets: &Sets) -> OpenFiles
     requires { IsStore sets.now }
     ensures { result ≡ opened_in sets.now }
 {
-    let mut writing = [0u64; WORDS];
-    let mut reading = [0u64; WORDS];
-    let mut inquiring = [0u64; WORDS];
-    let mut p: u8 = 1;
-    while p <= 32 {
-        let w = store::sets::writing_at(p);
-        words::join(&mut writing, &sets[w]);
-        let r = store::sets::reading_at(p);
-        words::join(&mut reading, &sets[r]);
-        let i = store::sets::inquiring_at(p);
-        words::join(&mut inquiring, &sets[i]);
-        p += 1;
-    }
     OpenFiles {
-        writing,
-        reading,
-        inquiring,
+        writing: of_all(sets, sets::writing_at),
+        reading: of_all(sets, sets::reading_at),
+        inquiring: of_all(sets, sets::inquiring_at),
     }
 }
