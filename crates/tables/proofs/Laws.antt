@@ -194,7 +194,3 @@ module _ (t : ℕ → Bool) (p : ℕ) where
   pub any_end : 32 < p → any t (rising (33 - p) p) ≡ false
   unfolding any
   any_end h = ap (any t) (rising_end p h)
-
-  pub keep_more : p ≤ 32 → t p ≡ true → length (keep t (rising (33 - p) p)) ≡ suc (length (keep t (rising (33 - suc p) (suc p))))
-  unfolding keep
-  keep_more h e = rw (rising_step p h, e)

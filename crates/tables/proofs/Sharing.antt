@@ -167,14 +167,6 @@ module _ (g : ℕ → List ℕ) where
         (λ c. or_left (in_words k.twice x) _ ((s.twice-is x).1 (q, p, n, a, e, b, c)))
         (λ c. or_right (in_words k.twice x) _ (less x ∙ rw ((s.once_is x).1 (q, a, b), c)))
 
-    pub others-of : (x : ℕ) → in_words (others_of k (g p)) x ≡ true → (q : ℕ) × (t q ≡ true) × (q ≢ p) × (has q x ≡ true)
-    others-of x d = or_cases (in_words k.twice x) (in_words rest x) (sym (theirs_or x) ∙ d)
-        (λ a. let (q, r, n, b, c, u, v) = (s.twice-is x).0 a in by_test (eqb q p)
-        (λ z. (r, c, λ y. n (eqb-true q p z ∙ sym y), v)) (λ z. (q, b, eqb-false q p z, u)))
-        (λ a. let v = sym (less x) ∙ a in
-        let (q, b, c) = (s.once_is x).0 (and_left (in_words k.once x) (not (has p x)) v) in
-        (q, b, λ y. never (ap (λ (z : ℕ). has z x) (sym y) ∙ c) (not_true (has p x) (and_right (in_words k.once x) (not (has p x)) v)), c))
-
   -- ---- of all programs
 
   module _ (p : ℕ) (c : is_program p ≡ true) (w : (q : ℕ) → 1 ≤ q → q ≤ 32 → length (g q) ≡ word_count) where

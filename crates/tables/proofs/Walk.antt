@@ -15,7 +15,7 @@ use Rattle.laws.specs.Tests.{by_test, never, and_true}
 use Rattle.files.specs.Bits.{is_number, has_number}
 use Rattle.files.proofs.Bits.{is_number_lem, least, most, has-number, has-bit, with_number-same, with_number-other, without-number-same, without-number-other}
 use Rattle.tables.specs.declared.ProgramSet.{ProgramSet}
-use Rattle.tables.specs.ProgramSets.{no_programs, has_program, without_program, IsLowest}
+use Rattle.tables.specs.ProgramSets.{has_program, without_program, IsLowest}
 use Rattle.tables.specs.Tables.{places, joined, packed}
 use Rattle.tables.proofs.Laws.{places-length, places-at, packed-has, packed_lt, none_has, set_same}
 
@@ -104,9 +104,6 @@ module _ (s : ProgramSet) where
     abbrev pub PassedTo : ProgramSet → ProgramSet → Type 0
     PassedTo rest u = Rest rest × ((x : ℕ) → came rest x ≡ true → P x (has_program u x)) × ((x : ℕ) → came rest x ≡ false → has_program u x ≡ false)
 
-    pub passed-start : PassedTo s no_programs
-    passed-start = (λ x e. e, λ x e. never e (came-start x), λ x e. none_has x)
-
     pub passed-more : (rest next u r : ProgramSet) (p : ℕ) (y : Bool) → PassedTo rest u → IsLowest rest p × (next ≡ without_program rest p)
         → P p y → r ≡ joined u p y → PassedTo next r
     passed-more rest next u r p y (w, f, n) ((a, b, h, l), i) e d = subst (λ (v : ProgramSet). PassedTo v r) (sym i) (
@@ -126,19 +123,12 @@ module _ (s : ProgramSet) where
         there : (x : ℕ) → x ≢ p → has_program (joined u p y) x ≡ has_program u x
         there x z = by_test y (λ q. rw q (with_number-other 32 u.bits p x z)) (λ q. rw q)
 
-    pub passed-done : (rest u : ProgramSet) → rest.bits ≡ 0 → PassedTo rest u
-        → ((x : ℕ) → has_program s x ≡ true → P x (has_program u x)) × ((x : ℕ) → has_program s x ≡ false → has_program u x ≡ false)
-    passed-done rest u e (w, f, n) = (λ x c. f x (came-all rest x e ∙ c), λ x c. n x (came-all rest x e ∙ c))
-
 -- ---- the programs 1 to i - 1 put to a test
 
 module _ (P : ℕ → Bool → Type 0) where
   -- of the programs below i the ones that passed
   abbrev pub TriedTo : ℕ → ProgramSet → Type 0
   TriedTo i u = ((x : ℕ) → 1 ≤ x → x < i → P x (has_program u x)) × ((x : ℕ) → i ≤ x → has_program u x ≡ false)
-
-  pub tried-start : TriedTo 1 no_programs
-  tried-start = (λ x h k. absurd (omega arith), λ x h. none_has x)
 
   pub tried-more : (i : ℕ) (u r : ProgramSet) (y : Bool) → TriedTo i u → 1 ≤ i → i ≤ 32 → P i y → r ≡ joined u i y → TriedTo (i + 1) r
   tried-more i u r y (f, n) a b e d = (
