@@ -7,7 +7,7 @@ ghost use Rattle.rules.specs.Boards.{set_program};
 ghost use Rattle.files.specs.Sets.{member};
 ghost use Rattle.files.specs.Words.{word_count, set_of, words_for};
 ghost use Rattle.store.specs.Store.{seat_of, put_seat, board_of, SeatsTo};
-ghost use Rattle.store.specs.Sets.{place_count, IsStore, claim_place, open_place, PutAt, SetsOf, claims_at, opens_at, closed_at};
+ghost use Rattle.store.specs.Sets.{place_count, row_in, IsStore, claim_place, open_place, PutAt, SetsOf, claims_at, opens_at, closed_at};
 ghost use Rattle.store.specs.Sets.{PutsFrom, claim_at, open_at, mode_at, left_in, dropped_at, given_at};
 
 use crate::{Rest, Seat};
@@ -27,6 +27,15 @@ pub fn sized(sets: &Sets)
     for k in 0..PLACES {
         let _n = words_in(&sets[k]);
     }
+}
+
+// The words in place k.
+pub fn row(sets: &Sets, k: usize) -> &[u64]
+    requires { k < place_count }
+    ensures words { result.now ≡ row_in sets.now k }
+    ensures length { length result.now ≡ word_count }
+{
+    &sets[k]
 }
 
 // How many words a row has.

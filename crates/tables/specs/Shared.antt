@@ -37,10 +37,6 @@ open_in Inquiry o = o.inquiring
 abbrev pub open_row : Sets → Mode → ℕ → List ℕ
 open_row sets m p = row_in sets (open_place m (p - 1))
 
--- what comes of each program is the place of what it has open in a mode
-abbrev pub PlacesOf : Mode → (ℕ → ℕ → Type 0) → Type 0
-PlacesOf m comes = (p k : ℕ) → 1 ≤ p → p ≤ 32 → comes p k → k ≡ open_place m (p - 1)
-
 -- what all programs have open
 abbrev pub opened_in : Sets → OpenFiles
 opened_in sets =

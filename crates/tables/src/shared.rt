@@ -1,11 +1,10 @@
 // The files that some of several programs have, and those that two of them have: what the others have than one of them; and what all
 // programs have open.
-ghost use Rattle.std.specs.Prelude.{◌≡◌, ◌≤◌, ◌<◌};
-ghost use Rattle.rules.specs.Modes.{Mode};
-ghost use Rattle.store.specs.Sets.{IsStore, place_count};
-ghost use Rattle.tables.specs.Shared.{PlacesOf, sharing, shared_to, open_row, others_of, opened_in};
+ghost use Rattle.std.specs.Prelude.{◌≡◌};
+ghost use Rattle.tables.specs.Shared.{sharing, shared_to, open_row, others_of, opened_in};
 
 use files::{WORDS, words};
+use rules::Mode;
 use store::sets;
 use store::sets::Sets;
 
@@ -55,28 +54,24 @@ impl Shared {
     }
 }
 
-// What all programs have in a mode: in the row at each one's place.
-fn of_all<F: Fn(u8) -> usize>(sets: &Sets, place: F) -> [u64; WORDS]
-    requires can { (p : _) → 1 ≤ p → p ≤ 32 → F.pre place p }
-    requires in_store { (p : _) (k : _) → 1 ≤ p → p ≤ 32 → F.post place p k → k < place_count }
-    requires store { IsStore sets.now }
-    ensures { (m : Mode) → PlacesOf m (F.post place) → result ≡ (shared_to (open_row sets.now m) 32).once }
+// What all programs have open in a mode.
+fn of_all(sets: &Sets, mode: Mode) -> [u64; WORDS]
+    ensures { result ≡ (shared_to (open_row sets.now mode) 32).once }
 {
     let mut files = [0u64; WORDS];
     for p in 1..=32 {
-        words::join(&mut files, &sets[place(p)]);
+        words::join(&mut files, &sets[sets::open_at(mode, p)]);
     }
     files
 }
 
 // What all programs have open.
 pub fn opened(sets: &Sets) -> OpenFiles
-    requires { IsStore sets.now }
     ensures { result ≡ opened_in sets.now }
 {
     OpenFiles {
-        writing: of_all(sets, sets::writing_at),
-        reading: of_all(sets, sets::reading_at),
-        inquiring: of_all(sets, sets::inquiring_at),
+        writing: of_all(sets, Mode::Write),
+        reading: of_all(sets, Mode::Read),
+        inquiring: of_all(sets, Mode::Inquiry),
     }
 }

@@ -1,8 +1,8 @@
 -- `claimed_by` meets its contract. Assumes nothing.
+use Rattle.std.proofs.Common.{rules}
 use Rattle.tables.specs.ProgramSets.{has_program, without_program}
 use Rattle.tables.specs.Shared.{claimed_at}
 use Rattle.tables.proofs.Walk.{came, rest_more, came-start, came-here, came-other, came_not, came-all}
-use Rattle.tables.proofs.NoRow.{claimed-words}
 use Rattle.tables.proofs.Sharing.{shared_none, shared_more, shared_same}
 use Rattle.tables.proofs.rows.claimed_by.Goals as goal
 
@@ -16,7 +16,7 @@ loop-p-preserved c =
     let (l, e) = c.in-Some.ensures.steps in let i = c.loop-p.invariant in
     rw (e, c.with-claimed.ensures, c.claims_of.ensures) (
       rest_more a r p i.0,
-      shared_more (claimed_at s) (came a r) (came a (without_program r p)) p c.loop-p.claimed (claimed-words s c.requires p l.0 l.1)
+      shared_more (claimed_at s) (came a r) (came a (without_program r p)) p c.loop-p.claimed (search rules)
           (came_not a r p l.2) (came-here a r p i.0 l.2) (came-other a r p) i.1,
     )
 

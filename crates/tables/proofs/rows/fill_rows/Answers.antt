@@ -15,5 +15,5 @@ loop-p-preserved c =
     c.in-Some.ensures.steps c.place_of.ensures.0 (ap (λ (r : ProgramSet). r.bits) c.row_of.ensures ∙ ap (λ n. (packed (held_by a.sets.now n (without_program a.admitted n)) 32).bits) (sym z))
 
 pub returns : goal.returns
-returns c = rows_written c.args.sets.now c.args.admitted c.args.rows.now c.loop-p.rows c.loop-p.p-iterator.left c.requires.0
+returns c = rows_written c.args.sets.now c.args.admitted c.args.rows.now c.loop-p.rows c.loop-p.p-iterator.left c.requires
     c.in-None.ensures.steps c.loop-p.invariant
