@@ -3,6 +3,7 @@ use mathlib.Core.Path.{◌≡◌, refl}
 use mathlib.Core.Bool.{true, false}
 use mathlib.Core.List.{List, [], ◌∷◌, ◌++◌, map}
 use mathlib.Core.Option.{some, none}
+use Rattle.std.specs.Prelude.{None}
 use Prim.Native.Nat.{ℕ}
 use lib.ListN.{replicate}
 use Rattle.rules.specs.Modes.{touching}
@@ -59,7 +60,7 @@ unfolding order_from first keep everyone rising
 order = refl
 
 -- 1 held back by 3 too: none has the count 0, and there is no order
-stuck : (order_from 3 (2 ∷ 4 ∷ 1 ∷ replicate 29 0) (set 7) ≡ none) × (lowest (1 ∷ 1 ∷ 1 ∷ replicate 29 0) (set 7) ≡ 0)
+stuck : (order_from 3 (2 ∷ 4 ∷ 1 ∷ replicate 29 0) (set 7) ≡ none) × (lowest (1 ∷ 1 ∷ 1 ∷ replicate 29 0) (set 7) ≡ None)
 unfolding order_from lowest first keep everyone rising
 stuck = (refl, refl)
 

@@ -1,17 +1,19 @@
 -- The loop that decides whether giving is safe, whether those that hold back are found by the sets or by the rows. Assumes nothing.
 use mathlib.Core.Path.{◌≡◌, sym, ap, ap₂, ◌∙◌}
 use mathlib.Core.Logic.{◌≢◌}
-use mathlib.Core.Bool.{Bool, true, false, not, ◌&&◌}
+use mathlib.Core.Bool.{Bool, true, false, ◌&&◌}
 use mathlib.Core.List.{List}
 use Prim.Native.Nat.{ℕ, suc, ◌≤◌, ◌<◌}
 use lib.ListN.{length}
-use borrow.Author.Tests.{ne_eqb}
-use Rattle.laws.specs.Tests.{by_test, never}
+use lib.Dec.{eqb}
+use borrow.Author.Tests.{ne_eqb, eqb-true, eqb-false}
+use Rattle.files.proofs.Bits.{has-number, is_number_lem, with_number-same, with_number-other, without-number-same, without-number-other}
+use Rattle.laws.specs.Tests.{by_test, never, no_true}
 use Rattle.laws.specs.Lists.{keep}
 use Rattle.rules.specs.declared.Mode.{Mode}
 use Rattle.rules.specs.Boards.{everyone}
 use Rattle.tables.specs.declared.ProgramSet.{ProgramSet}
-use Rattle.tables.specs.ProgramSets.{has_program, without_program, union_of, less_of, lowest_of}
+use Rattle.tables.specs.ProgramSets.{has_program, with_program, without_program, union_of, less_of, lowest_of}
 use Rattle.tables.specs.Tables.{packed, holders_of, rows_of}
 use Rattle.store.specs.Sets.{Sets, mode_at, claims_at}
 use Rattle.tables.proofs.Given.{packed-same}
@@ -19,11 +21,23 @@ use Rattle.tables.proofs.Walk.{none_left, rest_more}
 use Rattle.tables.proofs.Whole.{row_has}
 use Rattle.search.specs.Gives.{holders_in, safe_in}
 use Rattle.search.specs.Counts.{Among}
-use Rattle.search.specs.Stages.{asked, stage}
+use Rattle.search.specs.Stages.{asked, stage, TellsHolders}
 use Rattle.search.proofs.Laws.{low, high}
 use Rattle.search.proofs.Closing.{Closing, more, closing-start, closing-next, closing-done}
 use Rattle.search.proofs.Backers.{unsafe_in_lem, safe_in_lem}
 use Rattle.search.proofs.Stages.{to_ask, fewer_to_ask, stage-first, stage-next}
+
+-- ---- p and those of a
+
+with_more : (a : ProgramSet) (p q : ℕ) → has_program a q ≡ true → has_program (with_program a p) q ≡ true
+with_more a p q e = by_test (eqb q p)
+    (λ t. let z : q ≡ p = eqb-true q p t in ap (has_program (with_program a p)) z
+    ∙ with_number-same 32 a.bits p (has-number 32 a.bits p (ap (has_program a) (sym z) ∙ e)))
+    (λ t. with_number-other 32 a.bits p q (eqb-false q p t) ∙ e)
+
+with_less : (a : ProgramSet) (p q : ℕ) → has_program a p ≡ true → has_program (with_program a p) q ≡ true → has_program a q ≡ true
+with_less a p q e d = by_test (eqb q p) (λ t. ap (has_program a) (eqb-true q p t) ∙ e)
+    (λ t. sym (with_number-other 32 a.bits p q (eqb-false q p t)) ∙ d)
 
 -- ---- those that hold back, by the rows
 
@@ -35,6 +49,13 @@ holders_in_lem sets rows a q s e m w n = rw e (packed-same (holders_in (rows_of 
     (λ t. let d : x ≢ q = λ z. never (ap (has_program s) (sym z) ∙ t) n in
     ap (λ (y : Bool). has_program s x && y) (row_has sets a x q h k (low a q m) (high a q m) ∙ rw (w x t, m, ne_eqb x q d)))
     (λ t. rw t)))
+
+-- so they tell it
+pub rows_tell : (sets : Sets) (rows : List ℕ) (a : ProgramSet) (p : ℕ) → rows ≡ rows_of sets a → has_program a p ≡ true
+    → TellsHolders sets a p (λ q s r. r ≡ packed (holders_in rows q s) 32)
+rows_tell sets rows a p e m q s r w n c = c ∙ holders_in_lem sets rows a q s e (with_less a p q m w)
+    (λ x u. rest_more a a q (λ y v. v) x (n x u))
+    (no_true (has_program s q) (λ u. never (n q u) (without-number-same 32 a.bits q)))
 
 -- ---- one loop
 
@@ -56,15 +77,24 @@ module _ (sets : Sets) (a : ProgramSet) (p f : ℕ) where
     is-rest = d ∙ ap (less_of (without_program a p)) e ∙ sym r;
   }
 
+  -- those that hold back p
+  pub told_first : 1 ≤ p → p ≤ 32 → (comes : ℕ → ProgramSet → ProgramSet → Type 0) → TellsHolders sets a p comes → (s r : ProgramSet)
+      → s ≡ without_program a p → comes p s r → r ≡ more sets p (without_program a p)
+  told_first h k comes t s r e c = t p s r (with_number-same 32 a.bits p (is_number_lem 32 p h k)) (λ x u. ap (λ (y : ProgramSet). has_program y x) (sym e) ∙ u) c
+      ∙ ap (more sets p) e
+
   module _ (mode : Mode) (found rest : ProgramSet) (k : Here sets a p f mode found rest) where
     -- whoever is found is admitted
     pub here-admitted : (q : ℕ) → has_program found q ≡ true → has_program a q ≡ true
     here-admitted q e = rest_more a a p (λ x t. t) q (k.closing.inside q e).0
 
-    -- by the rows: those of the rest that hold back q, which is found
-    pub here_holders : (rows : List ℕ) → rows ≡ rows_of sets a → (q : ℕ) → has_program found q ≡ true → packed (holders_in rows q rest) 32 ≡ more sets q rest
-    here_holders rows e q t = holders_in_lem sets rows a q rest e (here-admitted q t)
-        (λ x u. rest_more a a p (λ y v. v) x (k.closing.within x u)) (k.closing.inside q t).1
+    -- those of the rest that hold back q, which is found
+    pub told_next : (comes : ℕ → ProgramSet → ProgramSet → Type 0) → TellsHolders sets a p comes → (q : ℕ) (r : ProgramSet)
+        → has_program found q ≡ true → comes q rest r → r ≡ more sets q rest
+    told_next comes t q r e c = let m = here-admitted q e in t q rest r
+        (with_more a p q m)
+        (λ x u. let d : x ≢ q = λ z. never (ap (has_program rest) (sym z) ∙ u) (k.closing.inside q e).1 in
+        without-number-other 32 a.bits q x d ∙ rest_more a a p (λ y v. v) x (k.closing.within x u)) c
 
     -- one that is found claims f
     pub here-unsafe : mode ≡ mode_at sets p f → (q : ℕ) → has_program found q ≡ true → claims_at sets f mode q ≡ true → safe_in sets a p f ≡ false

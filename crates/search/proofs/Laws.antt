@@ -3,6 +3,7 @@ use mathlib.Core.Path.{◌≡◌, refl, sym, ap, subst, ◌∙◌}
 use mathlib.Core.Bool.{Bool, true, not, ◌&&◌}
 use mathlib.Core.List.{List, [], ◌∷◌}
 use mathlib.Core.Option.{Option, none, some}
+use Rattle.std.specs.Prelude.{None, Some}
 use Prim.Native.Nat.{ℕ, zero, suc, ◌+◌, ◌-◌, ◌≤◌, ◌<◌}
 use native.Mathlib.Numerals.{add-one, sub-one}
 use native.Mathlib.Omega.{arith}
@@ -126,25 +127,24 @@ module _ (rows counts : List ℕ) (l : ProgramSet) (c : Counted rows l counts) w
   firsts = first-same (at_zero counts l) (free rows l) (rising 32 1) (λ p m. by_test (has_program l p)
       (λ e. ap (λ (n : ℕ). has_program l p && eqb n 0) (c.1 p e)) (λ e. rw e))
 
-  lowest-none : lowest counts l ≡ 0 → first (free rows l) everyone ≡ none
+  lowest-none : None ≡ lowest counts l → first (free rows l) everyone ≡ none
   unfolding lowest everyone
   lowest-none e = sym firsts ∙
-      by_option (first (at_zero counts l) (rising 32 1)) (λ z. z)
-      (λ p z. let a = (rising-mem 32 1 p (first_some (at_zero counts l) (rising 32 1) p z).0).0 in let w : p ≡ 0 = rw z at e in absurd (omega arith))
+      by_option (first (at_zero counts l) (rising 32 1)) (λ z. z) (λ p z. let w : None ≡ Some p = rw z at e in cc)
 
-  found-lowest : (p : ℕ) → p ≡ lowest counts l → p ≢ 0 → first (at_zero counts l) everyone ≡ some p
+  found-lowest : (p : ℕ) → Some p ≡ lowest counts l → first (at_zero counts l) everyone ≡ some p
   unfolding lowest everyone
-  found-lowest p e n =
+  found-lowest p e =
       by_option (first (at_zero counts l) (rising 32 1))
-      (λ z. let w : p ≡ 0 = rw z at e in absurd (n w))
-      (λ q z. let w : p ≡ q = rw z at e in z ∙ ap some (sym w))
+      (λ z. let w : Some p ≡ None = rw z at e in cc)
+      (λ q z. let w : Some p ≡ Some q = rw z at e in let d : p ≡ q = cc in z ∙ ap some (sym d))
 
-  lowest-some : (p : ℕ) → p ≡ lowest counts l → p ≢ 0 → first (free rows l) everyone ≡ some p
-  lowest-some p e n = sym firsts ∙ found-lowest p e n
+  lowest-some : (p : ℕ) → Some p ≡ lowest counts l → first (free rows l) everyone ≡ some p
+  lowest-some p e = sym firsts ∙ found-lowest p e
 
-  pub lowest-left : (p : ℕ) → p ≡ lowest counts l → p ≢ 0 → has_program l p ≡ true
+  pub lowest-left : (p : ℕ) → Some p ≡ lowest counts l → has_program l p ≡ true
   unfolding everyone
-  lowest-left p e n = and_left (has_program l p) (eqb (count_of counts p) 0) (first_some (at_zero counts l) (rising 32 1) p (found-lowest p e n)).1
+  lowest-left p e = and_left (has_program l p) (eqb (count_of counts p) 0) (first_some (at_zero counts l) (rising 32 1) p (found-lowest p e)).1
 
 -- ---- the order's places
 
@@ -179,18 +179,18 @@ module _ (rows : List ℕ) (l : ProgramSet) (at : List ℕ) where
   order-done n k e = rw (e, add-zero k, take-append-drop k at)
 
 module _ (rows counts : List ℕ) (l : ProgramSet) (c : Counted rows l counts) (at : List ℕ) where
-  pub order-stuck : (n k p : ℕ) → n ≢ 0 → p ≡ lowest counts l → p ≡ 0
+  pub order-stuck : (n k : ℕ) → n ≢ 0 → None ≡ lowest counts l
       → ◌≡◌ {A = Order} (record { kind = Search.Stuck; at = replicate 32 0 }) (placed at k (order_from n rows l))
   unfolding order_from
-  order-stuck zero k p ne e z = absurd (ne refl)
-  order-stuck (suc n) k p ne e z = rw (lowest-none rows counts l c (sym e ∙ z))
+  order-stuck zero k ne e = absurd (ne refl)
+  order-stuck (suc n) k ne e = rw (lowest-none rows counts l c e)
 
-  pub order-more : (n k p : ℕ) → n ≢ 0 → p ≡ lowest counts l → p ≢ 0 → k < length at
+  pub order-more : (n k p : ℕ) → n ≢ 0 → Some p ≡ lowest counts l → k < length at
       → placed (set at k p) (k + 1) (order_from (n - 1) rows (without_program l p)) ≡ placed at k (order_from n rows l)
   unfolding order_from
-  order-more zero k p ne e z h = absurd (ne refl)
-  order-more (suc n) k p ne e z h =
-      rw (lowest-some rows counts l c p e z, sub-one (suc n)) (placed_more at k p (order_from n rows (without_program l p)) h)
+  order-more zero k p ne e h = absurd (ne refl)
+  order-more (suc n) k p ne e h =
+      rw (lowest-some rows counts l c p e, sub-one (suc n)) (placed_more at k p (order_from n rows (without_program l p)) h)
 
 -- ---- the whole search
 

@@ -3,7 +3,8 @@ use mathlib.Core.Path.{◌≡◌, sym, ap, ◌∙◌}
 use mathlib.Core.Logic.{◌≢◌}
 use mathlib.Core.Bool.{true, false}
 use mathlib.Core.List.{List}
-use mathlib.Core.Option.{Option, get_or}
+use mathlib.Core.Option.{Option}
+use Rattle.std.specs.Prelude.{None, Some}
 use Prim.Native.Nat.{ℕ, ◌-◌}
 use native.Mathlib.Omega.{arith}
 use lib.Dec.{eqb}
@@ -11,6 +12,7 @@ use borrow.Author.Tests.{eqb-true, eqb-false}
 use Rattle.laws.specs.Tests.{by_test, never, no_true, and_left, and_right, and_both}
 use Rattle.files.specs.Bits.{has_bit}
 use Rattle.files.proofs.Bits.{zero_has, has-bit, without-number-same, without-number-other}
+use Rattle.laws.specs.Lists.{with_found}
 use Rattle.rules.specs.Boards.{everyone}
 use Rattle.tables.specs.declared.ProgramSet.{ProgramSet}
 use Rattle.tables.specs.ProgramSets.{has_program, without_program, IsLowest}
@@ -38,14 +40,14 @@ module _ (counts : List ℕ) (left : ProgramSet) where
   )
 
   -- the lowest that is not tried yet, if its count is 0
-  pub lowest-at : (rest : ProgramSet) (p : ℕ) → Untried rest → IsLowest rest p → eqb (count_of counts p) 0 ≡ true → p ≡ lowest counts left
+  pub lowest-at : (rest : ProgramSet) (p : ℕ) → Untried rest → IsLowest rest p → eqb (count_of counts p) 0 ≡ true → Some p ≡ lowest counts left
   unfolding lowest everyone
-  lowest-at rest p (f, g) (a, b, h, l) n = sym (ap (λ (x : Option ℕ). get_or x 0) (first_at (at_zero counts left) 32 1 p a (omega arith)
+  lowest-at rest p (f, g) (a, b, h, l) n = sym (ap (λ (x : Option ℕ). with_found x None Some) (first_at (at_zero counts left) 32 1 p a (omega arith)
       (and_both (has_program left p) (eqb (count_of counts p) 0) (g p h) n)
       (λ q k m. no_true (at_zero counts left q) (λ e. never (f q e) (l q m)))))
 
   -- all are tried
-  pub lowest-no : (rest : ProgramSet) → Untried rest → rest.bits ≡ 0 → 0 ≡ lowest counts left
+  pub lowest-no : (rest : ProgramSet) → Untried rest → rest.bits ≡ 0 → None ≡ lowest counts left
   unfolding lowest everyone
-  lowest-no rest (f, g) z = sym (ap (λ (x : Option ℕ). get_or x 0) (first_no (at_zero counts left) 32 1
+  lowest-no rest (f, g) z = sym (ap (λ (x : Option ℕ). with_found x None Some) (first_no (at_zero counts left) 32 1
       (λ q. no_true (at_zero counts left q) (λ e. never (has-bit 32 rest.bits q (f q e)) (ap (λ (m : ℕ). has_bit m (q - 1)) z ∙ zero_has (q - 1))))))

@@ -1,9 +1,8 @@
 -- 02, CR 3: "count for each program how many remaining ones hold it back, and lower these counts as programs are taken."
 -- Assumes nothing.
-use Rattle.std.specs.Prelude.{ℕ, suc, ◌+◌, ◌-◌, ◌≤◌, ◌<◌, ◌≡◌, Bool, true, not, cond, ◌&&◌, List, eqb, length, get_or}
-use Rattle.std.proofs.Math.Option
+use Rattle.std.specs.Prelude.{ℕ, suc, ◌+◌, ◌-◌, ◌≤◌, ◌<◌, ◌≡◌, Bool, true, not, cond, ◌&&◌, List, eqb, length, get_or, Option, None, Some}
 use Rattle.rules.specs.declared.Board.{Board}
-use Rattle.laws.specs.Lists.{keep, first}
+use Rattle.laws.specs.Lists.{keep, first, with_found}
 use Rattle.rules.specs.Boards.{everyone, at}
 use Rattle.rules.specs.Orders.{holds_back}
 use Rattle.tables.specs.declared.ProgramSet.{ProgramSet}
@@ -68,6 +67,6 @@ CanLower s counts = (length counts ≡ 32) × ((p : ℕ) → has_program s p ≡
 abbrev pub at_zero : List ℕ → ProgramSet → ℕ → Bool
 at_zero counts left p = has_program left p && eqb (count_of counts p) 0
 
--- the lowest program left whose count is 0, or 0
-unfoldable pub lowest : List ℕ → ProgramSet → ℕ
-lowest counts left = Option.get_or (first (at_zero counts left) everyone) 0
+-- the lowest program left whose count is 0
+unfoldable pub lowest : List ℕ → ProgramSet → Option ℕ
+lowest counts left = with_found (first (at_zero counts left) everyone) None Some

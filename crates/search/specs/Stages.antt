@@ -5,6 +5,7 @@ use Rattle.store.specs.Sets.{Sets}
 use Rattle.tables.specs.declared.ProgramSet.{ProgramSet}
 use Rattle.tables.specs.ProgramSets.{no_programs, has_program, with_program, without_program, union_of, less_of, lowest_of}
 use Rattle.tables.specs.Tables.{packed, holders_of}
+use Rattle.search.specs.Counts.{Among}
 
 -- how far the decision is: those found of whom it has not asked yet who holds them back, and the rest, not found
 pub record Stage : Type 0 where
@@ -15,6 +16,11 @@ pub record Stage : Type 0 where
 abbrev pub asked : Sets → ℕ → Stage → Stage
 asked sets q s = let more = packed (holders_of sets q s.rest) 32 in
     record { found = union_of (without_program s.found q) more; rest = less_of s.rest more }
+
+-- what comes of a program and a set is who of the set holds the program back: for p and each of a, and sets of other ones of a
+abbrev pub TellsHolders : Sets → ProgramSet → ℕ → (ℕ → ProgramSet → ProgramSet → Type 0) → Type 0
+TellsHolders sets a p comes = (q : ℕ) (s r : ProgramSet) → has_program (with_program a p) q ≡ true → Among s (without_program a q)
+    → comes q s r → r ≡ packed (holders_of sets q s) 32
 
 -- after k askings, each of the lowest found; first of p itself, with all other admitted ones not found
 unfoldable pub stage : Sets → ProgramSet → ℕ → ℕ → Stage

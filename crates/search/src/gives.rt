@@ -7,6 +7,7 @@ ghost use Rattle.files.specs.Words.{set_of};
 ghost use Rattle.store.specs.Sets.{IsStore};
 ghost use Rattle.store.specs.Store.{board_of};
 ghost use Rattle.search.specs.Rows.{as_order};
+ghost use Rattle.search.specs.Stages.{TellsHolders};
 ghost use Rattle.tables.specs.ProgramSets.{has_program};
 ghost use Rattle.tables.specs.Tables.{packed, rows_of};
 
@@ -38,47 +39,58 @@ pub fn in_use(sets: &Sets, u: Uses, p: u8, f: u16) -> bool
     requires { ((1 ≤ p) × (p ≤ 32)) × IsStore sets.now }
     ensures { result ≡ used_in sets.now u p f }
 {
-    let mode = sets::mode_at(sets, p, f);
-    let written = u.files.writing;
-    if is_among(written, f) {
-        return true;
+    let open = u.files;
+    match sets::mode_at(sets, p, f) {
+        0 => is_among(open.writing, f) || is_among(open.reading, f) || is_among(open.inquiring, f),
+        1 => is_among(open.writing, f) || is_among(open.inquiring, f),
+        _ => is_among(open.writing, f) || is_among(open.reading, f),
     }
-    let inquired = u.files.inquiring;
-    if mode == 1 {
-        return is_among(inquired, f);
-    }
-    let read = u.files.reading;
-    if is_among(read, f) {
-        return true;
-    }
-    if mode != 0 {
-        return false;
-    }
-    is_among(inquired, f)
 }
 
-// Whether giving f to p is safe: on a board that has an order, whether one comes back. Those that hold p back, directly or through
-// others, are found one after another, until one claims f so that p would hold it back, or there are no more. Who is found is
-// tested no more: each ordered pair is tested at most once.
-pub fn is_safe(sets: &Sets, admitted: ProgramSet, p: u8, f: u16) -> bool
-    requires { ((1 ≤ p) × (p ≤ 32)) × IsStore sets.now }
+// Whether giving f to p is safe, where `holders` tells who of a set holds a program back: whether an order comes back, on a board that
+// has one. Those that hold p back, directly or through others, are found one after another, until one claims f so that p would hold it
+// back, or there are no more. Who is found is asked for no more: each ordered pair is asked for at most once.
+fn is_safe_from<F: Fn(u8, ProgramSet) -> ProgramSet>(
+    sets: &Sets,
+    admitted: ProgramSet,
+    p: u8,
+    f: u16,
+    holders: F,
+) -> bool
+    requires store { ((1 ≤ p) × (p ≤ 32)) × IsStore sets.now }
+    requires can { (q : _) (set : _) → 1 ≤ q → q ≤ 32 → F.pre holders q set }
+    requires tells { TellsHolders sets.now admitted p (F.post holders) }
     ensures { result ≡ safe_in sets.now admitted p f }
 {
     let mode = sets::mode_at(sets, p, f);
     let others = admitted.without(p);
-    let mut found = tables::holders_of(sets, p, others);
+    let mut found = holders(p, others);
     let mut rest = others.less(found);
+    // No `for`: more come to the set while it is walked.
     while found.bits != 0 {
         let q = found.lowest();
         if sets::has_claim(sets, q, f, mode) {
             return false;
         }
-        let more = tables::holders_of(sets, q, rest);
+        let more = holders(q, rest);
         rest = rest.less(more);
-        let left = found.but_lowest();
-        found = left.or(more);
+        found = found.but_lowest().or(more);
     }
     true
+}
+
+// Whether giving f to p is safe: who holds back whom is tested, each ordered pair at most once.
+pub fn is_safe(sets: &Sets, admitted: ProgramSet, p: u8, f: u16) -> bool
+    requires { ((1 ≤ p) × (p ≤ 32)) × IsStore sets.now }
+    ensures { result ≡ safe_in sets.now admitted p f }
+{
+    is_safe_from(
+        sets,
+        admitted,
+        p,
+        f,
+        |q, set| tables::holders_of(sets, q, set),
+    )
 }
 
 // Whether f can be given to p: on a sound board, where p has not f open, whether an open would give it.
@@ -86,11 +98,7 @@ pub fn can_give(sets: &Sets, u: Uses, p: u8, f: u16) -> bool
     requires { ((1 ≤ p) × (p ≤ 32)) × IsStore sets.now }
     ensures { result ≡ give_in sets.now u p f }
 {
-    if in_use(sets, u, p, f) {
-        return false;
-    }
-    let admitted = u.admitted;
-    is_safe(sets, admitted, p, f)
+    !in_use(sets, u, p, f) && is_safe(sets, u.admitted, p, f)
 }
 
 // Those of a set that hold p back, by the rows: one bit is read for each of them, and no pair is tested.
@@ -98,18 +106,7 @@ fn holders_in(rows: &[u32; 32], p: u8, set: ProgramSet) -> ProgramSet
     requires { (1 ≤ p) × (p ≤ 32) }
     ensures { result ≡ packed (holders_in rows.now p set) 32 }
 {
-    let mut holders = ProgramSet::EMPTY;
-    let mut rest = set;
-    while rest.bits != 0 {
-        let q = rest.lowest();
-        let row = ProgramSet {
-            bits: rows[(q - 1) as usize],
-        };
-        let yes = row.has(p);
-        holders = tables::join(holders, q, yes);
-        rest = rest.but_lowest();
-    }
-    holders
+    set.filter(|q| crate::row_of(rows, q).has(p))
 }
 
 // The same as `is_safe`, of an admitted program, where the rows of the admitted are filled: who holds back whom is read from them.
@@ -117,21 +114,7 @@ pub fn is_safe_by(sets: &Sets, rows: &[u32; 32], admitted: ProgramSet, p: u8, f:
     requires { ((1 ≤ p) × (p ≤ 32)) × IsStore sets.now × (has_program admitted p ≡ true) × (rows.now ≡ rows_of sets.now admitted) }
     ensures { result ≡ safe_in sets.now admitted p f }
 {
-    let mode = sets::mode_at(sets, p, f);
-    let others = admitted.without(p);
-    let mut found = holders_in(rows, p, others);
-    let mut rest = others.less(found);
-    while found.bits != 0 {
-        let q = found.lowest();
-        if sets::has_claim(sets, q, f, mode) {
-            return false;
-        }
-        let holders = holders_in(rows, q, rest);
-        rest = rest.less(holders);
-        let left = found.but_lowest();
-        found = left.or(holders);
-    }
-    true
+    is_safe_from(sets, admitted, p, f, |q, set| holders_in(rows, q, set))
 }
 
 // The same as `can_give`, of an admitted program, by the rows.
@@ -139,11 +122,7 @@ pub fn can_give_by(sets: &Sets, rows: &[u32; 32], u: Uses, p: u8, f: u16) -> boo
     requires { ((1 ≤ p) × (p ≤ 32)) × IsStore sets.now × (has_program u.admitted p ≡ true) × (rows.now ≡ rows_of sets.now u.admitted) }
     ensures { result ≡ give_in sets.now u p f }
 {
-    if in_use(sets, u, p, f) {
-        return false;
-    }
-    let admitted = u.admitted;
-    is_safe_by(sets, rows, admitted, p, f)
+    !in_use(sets, u, p, f) && is_safe_by(sets, rows, u.admitted, p, f)
 }
 
 // The order with f given to p; the sets are then as they were.

@@ -1,16 +1,18 @@
 #![tactic(auto)]
 
 // The carried order of a board, by its sets and the rest, and whether a file can be given (`gives`).
-ghost use Rattle.std.specs.Prelude.{◌≡◌, ◌+◌, ◌≤◌, length, replicate};
+ghost use Rattle.std.specs.Prelude.{◌≡◌, ◌+◌, ◌≤◌, length, replicate, IfSome};
 ghost use Rattle.rules.specs.Orders.{carried};
 ghost use Rattle.store.specs.Sets.{IsStore};
 ghost use Rattle.store.specs.Store.{board_of};
+ghost use Rattle.tables.specs.Tables.{row_of};
 ghost use Rattle.search.specs.Counts.{counts_of, Counted, CanRaise, CanLower, raised, lowered, lowest};
 ghost use Rattle.search.specs.Rows.{order_from, placed, outcome, as_order, order_in, is_found};
 
 use store::Rest;
 use store::sets::Sets;
 use tables::ProgramSet;
+use tables::boards::place_of;
 use tables::shared::OpenFiles;
 
 pub mod gives;
@@ -44,17 +46,23 @@ impl Order {
     };
 }
 
+// The row of p.
+fn row_of(rows: &[u32; 32], p: u8) -> ProgramSet
+    requires { (1 ≤ p) × (p ≤ 32) }
+    ensures { result ≡ row_of rows.now p }
+{
+    ProgramSet {
+        bits: rows[place_of(p)],
+    }
+}
+
 // One more for each program of a set.
 fn raise(set: ProgramSet, counts: &mut [u8; 32])
     requires { CanRaise set counts.old }
     ensures { counts.new ≡ raised set counts.old }
 {
-    let mut rest = set;
-    while rest.bits != 0 {
-        let p = rest.lowest();
-        let i = (p - 1) as usize;
-        counts[i] += 1;
-        rest = rest.but_lowest();
+    for p in set {
+        counts[place_of(p)] += 1;
     }
 }
 
@@ -63,12 +71,8 @@ fn lower(set: ProgramSet, counts: &mut [u8; 32])
     requires { CanLower set counts.old }
     ensures { counts.new ≡ lowered set counts.old }
 {
-    let mut rest = set;
-    while rest.bits != 0 {
-        let p = rest.lowest();
-        let i = (p - 1) as usize;
-        counts[i] -= 1;
-        rest = rest.but_lowest();
+    for p in set {
+        counts[place_of(p)] -= 1;
     }
 }
 
@@ -77,31 +81,22 @@ fn count_all(rows: &[u32; 32], left: ProgramSet, counts: &mut [u8; 32])
     requires { counts.old ≡ replicate 32 0 }
     ensures { counts.new ≡ counts_of rows.now left }
 {
-    let mut rest = left;
-    while rest.bits != 0 {
-        let p = rest.lowest();
-        let row = ProgramSet {
-            bits: rows[(p - 1) as usize],
-        };
-        raise(row.and(left), counts);
-        rest = rest.but_lowest();
+    for p in left {
+        raise(row_of(rows, p).and(left), counts);
     }
 }
 
-// The lowest-numbered program left whose count is 0, or 0.
-fn lowest_free(counts: &[u8; 32], left: ProgramSet) -> u8
-    ensures { (result ≡ lowest counts.now left) × (result ≤ 32) }
+// The lowest-numbered program left whose count is 0.
+fn lowest_free(counts: &[u8; 32], left: ProgramSet) -> Option<u8>
+    ensures value { result ≡ lowest counts.now left }
+    ensures in_range { IfSome result (λ p. (1 ≤ p) × (p ≤ 32)) }
 {
-    let mut rest = left;
-    while rest.bits != 0 {
-        let p = rest.lowest();
-        let i = (p - 1) as usize;
-        if counts[i] == 0 {
-            return p;
+    for p in left {
+        if counts[place_of(p)] == 0 {
+            return Some(p);
         }
-        rest = rest.but_lowest();
     }
-    0
+    None
 }
 
 // The order of the n programs left, from place k of `at` on: one is taken, then the same for the rest. Whether all were taken.
@@ -120,15 +115,11 @@ fn search_rest(
     if n == 0 {
         return true;
     }
-    let p = lowest_free(counts, left);
-    if p == 0 {
+    let Some(p) = lowest_free(counts, left) else {
         return false;
-    }
-    let rest = left.without(p);
-    let row = ProgramSet {
-        bits: rows[(p - 1) as usize],
     };
-    lower(row.and(rest), counts);
+    let rest = left.without(p);
+    lower(row_of(rows, p).and(rest), counts);
     at[k] = p;
     search_rest(rows, rest, n - 1, counts, at, k + 1)
 }
@@ -146,7 +137,7 @@ pub fn order_in(rows: &[u32; 32], left: ProgramSet) -> Order
     }
     Order {
         kind: Search::Found(n),
-        at: at,
+        at,
     }
 }
 
@@ -165,9 +156,5 @@ pub fn carried_in(sets: &Sets, rest: Rest) -> Order
 pub fn is_found(order: Order) -> bool
     ensures { result ≡ is_found order.kind }
 {
-    let kind = order.kind;
-    let Search::Found(_) = kind else {
-        return false;
-    };
-    true
+    matches!(order.kind, Search::Found(_))
 }
