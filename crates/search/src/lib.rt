@@ -3,14 +3,13 @@
 // The carried order of a board, by its sets and the rest, and whether a file can be given (`gives`).
 ghost use Rattle.std.specs.Prelude.{◌≡◌, ◌+◌, ◌≤◌, length, replicate, IfSome};
 ghost use Rattle.rules.specs.Orders.{carried};
-ghost use Rattle.store.specs.Sets.{IsStore};
 ghost use Rattle.store.specs.Store.{board_of};
 ghost use Rattle.tables.specs.Tables.{row_of};
 ghost use Rattle.search.specs.Counts.{counts_of, Counted, CanRaise, CanLower, raised, lowered, lowest};
 ghost use Rattle.search.specs.Rows.{order_from, placed, outcome, as_order, order_in, is_found};
 
-use store::Rest;
 use store::sets::Sets;
+use store::{Rest, sets};
 use tables::ProgramSet;
 use tables::boards::place_of;
 use tables::shared::OpenFiles;
@@ -143,9 +142,9 @@ pub fn order_in(rows: &[u32; 32], left: ProgramSet) -> Order
 
 // The carried order of the board's admitted programs.
 pub fn carried_in(sets: &Sets, rest: Rest) -> Order
-    requires { IsStore sets.now }
     ensures { result ≡ as_order (carried (board_of sets.now rest)) }
 {
+    sets::sized(sets);
     let mut rows = [0u32; 32];
     let left = tables::boards::admitted_seats(rest);
     tables::rows::fill_rows(sets, left, &mut rows);

@@ -9,4 +9,4 @@ use Rattle.search.proofs.carried_in.Goals as goal
 pub returns : goal.returns
 returns c = let x = c.args.sets.now in let r = c.args.rest in
     c.order_in.ensures
-    ∙ order_of_lem (board_of x r) _ _ _ (board-sets x r c.requires) c.fill_rows.ensures (c.admitted_seats-left.ensures ∙ seats_admitted x r)
+    ∙ order_of_lem (board_of x r) _ _ _ (board-sets x r c.sized.ensures) c.fill_rows.ensures (c.admitted_seats-left.ensures ∙ seats_admitted x r)

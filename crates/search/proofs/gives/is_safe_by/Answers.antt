@@ -8,4 +8,4 @@ use Rattle.search.proofs.gives.is_safe_by.Goals as goal
 pub is_safe_from-requires-clause-tells : goal.is_safe_from-requires-clause-tells
 is_safe_from-requires-clause-tells c q s r w n e =
     let a = c.args in let d : r ≡ packed (holders_in a.rows.now q s) 32 = search (rules, e) in
-    rows_tell a.sets.now a.rows.now a.admitted a.p c.requires.3 c.requires.2 q s r w n d
+    rows_tell a.sets.now a.rows.now a.admitted a.p c.requires.2 c.requires.1 q s r w n d

@@ -1,7 +1,7 @@
 -- `order_given` meets its contract. Assumes nothing.
 use Rattle.std.proofs.Common.{◌≡◌, ℕ, ◌-◌, ◌≤◌, set, ap, ◌∙◌}
 use Rattle.rules.specs.declared.Board.{Board}
-use Rattle.rules.specs.Modes.{Write, Read, Inquiry}
+use Rattle.rules.specs.declared.Mode.TheVariants.{Write, Read, Inquiry}
 use Rattle.rules.specs.Orders.{carried, with_given}
 use Rattle.store.specs.Sets.{Sets, open_place, row_in, given_at}
 use Rattle.store.specs.Store.{board_of}
@@ -19,9 +19,9 @@ pub returns-clause-value : goal.returns-clause-value
 unfolding with_given
 returns-clause-value c = let a = c.args in
     c.carried_in-order.ensures ∙ ap (λ (b : Board). as_order (carried b)) (ap (λ (l : Sets). board_of l a.rest) c.give.ensures
-    ∙ given-board a.sets.now a.rest a.p a.f c.requires.0.0 c.requires.0.1 c.requires.1)
+    ∙ given-board a.sets.now a.rest a.p a.f c.requires.0 c.requires.1 c.sized.ensures)
 
 pub returns-clause-sets_unchanged : goal.returns-clause-sets_unchanged
 returns-clause-sets_unchanged c =
-    put_back c.args.sets.now _ c.args.p c.args.f _ _ _ c.requires.0.0 c.requires.0.1 c.give.ensures
-    c.writing_at-w.ensures.0 c.reading_at-r.ensures.0 c.inquiring_at-i.ensures.0
+    put_back c.args.sets.now _ c.args.p c.args.f _ _ _ c.requires.0 c.requires.1 c.give.ensures
+    c.open_at-w.ensures.0 c.open_at-r.ensures.0 c.open_at-i.ensures.0
