@@ -9,7 +9,7 @@ use mathlib.Core.Logic.{◌≢◌, ◌↔◌}
 use mathlib.Core.Bool.{Bool, true, false, not, ◌&&◌, ◌||◌}
 use lib.Dec.{eqb, leb, ltb}
 use lib.Pow.{pow-lt, pow-add, pow_pos, shr-shr}
-use lib.Bits.{bit_and, bit_or, bit_xor, differ, and_step, or_step, xor_step, and_high, or_add_and, xor_add_and, and_le_l, and_comm, xor_self}
+use lib.Bits.{bit_and, bit_or, bit_xor, differ, and_step, or_step, xor_step, and_high, or_add_and, xor_add_and, and_le_l, and_comm, xor_self, and_lt, or_lt, xor_lt}
 use borrow.Author.Tests.{eq-eqb, ne_eqb, eqb-true, eqb-false, leb-true, le-leb, ltb-true, ltb-false}
 use Rattle.files.specs.Bits.{has_bit, with_bit, without_bit, share, covers, is_number, has_number, with_number, without_number}
 use Rattle.laws.specs.Tests.{by_test, never, or_cases, and_left, and_right, and_both, no_true, same_test}
@@ -284,6 +284,10 @@ less_has a b i = let c = bit_xor_lem a (bit_and a b) i in let d = bit_and_lem a 
     zero_of : (m j : ℕ) → bit m j ≡ 0 → has_bit m j ≡ false
     zero_of m j z = ne_eqb _ 1 (λ e. let k = sym (bit_is m j) ∙ e in omega arith)
 
+-- it is a word if both are
+pub less_lt : (w a b : ℕ) → a < 2 ^ w → b < 2 ^ w → bit_xor a (bit_and a b) < 2 ^ w
+less_lt w a b h l = xor_lt w a (bit_and a b) h (and_lt w a b h l)
+
 -- two numbers or-ed are 0 exactly if both are
 pub or_none : (a b : ℕ) → not (eqb (bit_or a b) 0) ≡ (not (eqb a 0) || not (eqb b 0))
 or_none a b =
@@ -360,6 +364,15 @@ with_number-other w m k j n =
     (λ u. with_only m (k - 1) (j - 1) u (λ z. n (omega arith))) (with_more m (k - 1) (j - 1))))
     (λ d. rw (e, d)))
     (λ e. rw e)
+
+-- it stays a set of numbers 1 to w
+pub with_number_fits : (w m k : ℕ) → m < 2 ^ w → with_number w m k < 2 ^ w
+with_number_fits w m k h = by_test (is_number w k)
+    (λ e. let x = least w k e in let y = most w k e in rw e (or_lt w m (2 ^ (k - 1)) h (pow-lt (omega arith)))) (λ e. rw e h)
+
+pub without_number_fits : (w m k : ℕ) → m < 2 ^ w → without_number w m k < 2 ^ w
+without_number_fits w m k h = by_test (is_number w k)
+    (λ e. rw e (by_test (has_bit m (k - 1)) (λ d. rw d (omega arith)) (λ d. rw d h))) (λ e. rw e h)
 
 -- k is not in the set but k, and any other number is in it if it was
 pub without-number-same : (w m k : ℕ) → has_number w (without_number w m k) k ≡ false

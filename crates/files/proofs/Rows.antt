@@ -2,16 +2,17 @@
 -- the tests that go through the words. Everything holds for any number of words.
 -- Assumes nothing.
 use Prim.Native.Nat.{ℕ, zero, suc, ◌+◌, ◌-◌, ◌*◌, ◌/◌, ◌%◌, ◌^◌, ◌≤◌, ◌<◌}
+use native.Mathlib.Numerals.{add-one}
 use native.Mathlib.Omega.{arith}
 use mathlib.Core.Path.{◌≡◌, refl, sym, ap, ap₂, ◌∙◌, subst}
 use mathlib.Core.Logic.{◌≢◌, ◌↔◌}
 use mathlib.Core.Bool.{Bool, true, false, not, ◌&&◌, ◌||◌}
-use mathlib.Core.List.{List, [], ◌∷◌, ◌++◌, append-nil}
+use mathlib.Core.List.{List, [], ◌∷◌}
 use lib.Dec.{eqb, ltb}
 use lib.Pow.{pow-add}
 use lib.Bits.{bit_and, bit_or, bit_xor, and_comm, and_lt, or_lt, xor_lt}
-use lib.ListN.{length, get_or, set, take, drop, replicate, length-set, length-replicate}
-use lib.Seq.{get_or-set_same, get_or-set_other, take_all, drop-length}
+use lib.ListN.{length, get_or, set, take, replicate, length-set, length-replicate}
+use lib.Seq.{get_or-set_same, get_or-set_other, take_all}
 use borrow.Author.Tests.{eq-eqb, ne_eqb, eqb-true, eqb-false, ltb-true, ltb-false}
 use Rattle.files.specs.declared.FileSet.{FileSet}
 use Rattle.files.specs.Bits.{has_bit, less_bits, with_bit, without_bit, with_number, without_number}
@@ -189,7 +190,7 @@ length_for n s = length-set (replicate n 0) 0 s.bits ∙ length-replicate n 0
 pub join_none : (g : ℕ → ℕ → ℕ) (a b : List ℕ) → a ≡ wordwise g a (take 0 b)
 join_none g a b = sym (wordwise-nil g a)
 
-pub join_more : (g : ℕ → ℕ → ℕ) (a b : List ℕ) (k : ℕ) → k < length a → k < length b
+join_more : (g : ℕ → ℕ → ℕ) (a b : List ℕ) (k : ℕ) → k < length a → k < length b
     → set (wordwise g a (take k b)) k (g (get_or (wordwise g a (take k b)) k 0) (get_or b k 0)) ≡ wordwise g a (take (suc k) b)
 unfolding wordwise
 join_more g [] b k h l = absurd (omega arith)
@@ -199,13 +200,14 @@ join_more g (x ∷ a) (y ∷ b) (suc k) h l =
     let i : suc k < suc (length a) = h in let j : suc k < suc (length b) = l in
     ap (λ (r : List ℕ). g x y ∷ r) (join_more g a b k (omega arith) (omega arith))
 
-pub join_all : (g : ℕ → ℕ → ℕ) (a b : List ℕ) (k : ℕ) → length b ≤ k → wordwise g a (take k b) ≡ wordwise g a b
-join_all g a b k h = ap (wordwise g a) (take_all k b h)
+-- a row that is joined up to k, joined at k
+pub join_next : (g : ℕ → ℕ → ℕ) (a b s : List ℕ) (k : ℕ) → length a ≡ length b → k < length b → s ≡ wordwise g a (take k b)
+    → set s k (g (get_or s k 0) (get_or b k 0)) ≡ wordwise g a (take (k + 1) b)
+join_next g a b s k e h i =
+    rw i (join_more g a b k (omega arith) h ∙ ap (λ (n : ℕ). wordwise g a (take n b)) (sym (add-one k)))
 
--- all words filled
-pub fill_all : (d : List ℕ) (v k : ℕ) → k ≡ length d → replicate k v ++ drop k d ≡ replicate (length d) v
-fill_all d v k e =
-    ap (λ (n : ℕ). replicate n v ++ drop n d) e ∙ ap (λ (r : List ℕ). replicate (length d) v ++ r) (drop-length d) ∙ append-nil _
+pub join_all : (g : ℕ → ℕ → ℕ) (a b s : List ℕ) (k : ℕ) → length b ≤ k → s ≡ wordwise g a (take k b) → s ≡ wordwise g a b
+join_all g a b s k h e = e ∙ ap (wordwise g a) (take_all k b h)
 
 -- ---- the tests that go through the words
 
@@ -242,6 +244,18 @@ module _ {x : ℕ → ℕ} {y n : ℕ} (p : Words x y n) where
   no_word f = by_test (eqb y 0) (λ e. e) (λ e. let (i, u) = some_has y (eqb-false y 0 e) in
       let (k, h, z) = places.1 (i, high-has (64 * n) y i p.below u, u) in
       absurd (z (ap (λ (m : ℕ). m % 2 ^ 64) (f k h))))
+
+  -- the same by a test of all words, and of any
+  pub all_words : {b : Bool} → ((k : ℕ) → x k < 2 ^ 64) → (b ≡ true) ↔ ((k : ℕ) → k < n → x k ≡ 0) → b ≡ eqb y 0
+  all_words {b} fits f = by_test b
+      (λ e. e ∙ sym (no_word (f.0 e)))
+      (λ e. by_test (eqb y 0)
+      (λ d. f.1 (λ k h. by_test (eqb (x k) 0) (λ z. eqb-true (x k) 0 z) (λ z. never d (some_word k h (fits k) (eqb-false (x k) 0 z)))) ∙ sym d)
+      (λ d. e ∙ sym d))
+
+  pub any_words : (b : Bool) → ((k : ℕ) → x k < 2 ^ 64) → (not b ≡ true) ↔ ((k : ℕ) → k < n → x k ≡ 0) → b ≡ not (eqb y 0)
+  any_words true fits f = ap not (all_words {b = not true} fits f)
+  any_words false fits f = ap not (all_words {b = not false} fits f)
 
 -- the words of a row
 pub row_words : (ws : List ℕ) (n : ℕ) → length ws ≡ n → Words (λ k. get_or ws k 0) (bits_of ws) n

@@ -4,6 +4,7 @@
 ghost use Rattle.std.specs.Prelude.{◌≡◌};
 ghost use Rattle.files.specs.Sets.{member, adding, removing, meets, within, is_empty};
 
+pub mod numbers;
 pub mod words;
 
 // How many words a set of files has where it is lent.
@@ -15,6 +16,9 @@ pub struct FileSet {
     pub bits: u64,
 }
 
+// The files are 1 to this.
+const FILES: u16 = 64;
+
 impl FileSet {
     // No file.
     pub const EMPTY: FileSet = FileSet { bits: 0 };
@@ -23,27 +27,15 @@ impl FileSet {
     pub fn has(self, f: u16) -> bool
         ensures { result ≡ member self f }
     {
-        if f == 0 {
-            return false;
-        }
-        if 64 < f {
-            return false;
-        }
-        (self.bits >> (f - 1)) % 2 == 1
+        numbers::has(FILES, self.bits, f)
     }
 
     // The set and f; the set itself if f is no file.
     pub fn with(self, f: u16) -> FileSet
         ensures { result ≡ adding self f }
     {
-        if f == 0 {
-            return self;
-        }
-        if 64 < f {
-            return self;
-        }
         FileSet {
-            bits: self.bits | (1u64 << (f - 1)),
+            bits: numbers::with(FILES, self.bits, f),
         }
     }
 
@@ -51,15 +43,8 @@ impl FileSet {
     pub fn without(self, f: u16) -> FileSet
         ensures { result ≡ removing self f }
     {
-        if f == 0 {
-            return self;
-        }
-        if 64 < f {
-            return self;
-        }
-        let m = 1u64 << (f - 1);
         FileSet {
-            bits: (self.bits | m) - m,
+            bits: numbers::without(FILES, self.bits, f),
         }
     }
 

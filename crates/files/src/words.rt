@@ -5,21 +5,18 @@ ghost use Rattle.files.specs.Bits.{less_bits};
 ghost use Rattle.files.specs.Sets.{member, meets, within, is_empty};
 ghost use Rattle.files.specs.Words.{set_of, with_file, without_file, words_for, wordwise};
 
-use crate::FileSet;
+use crate::{FILES, FileSet, numbers};
 
 // Whether f is a file of the set.
 pub fn has(s: &[u64], f: u16) -> bool
     requires { 1 ≤ length s.now }
     ensures { result ≡ member (set_of s.now) f }
 {
-    if f == 0 {
+    if !numbers::is_number(FILES, f) {
         return false;
     }
-    if 64 < f {
-        return false;
-    }
-    let i = (f - 1) as usize;
-    (s[i / 64] >> (i % 64)) % 2 == 1
+    let i = usize::from(f - 1);
+    numbers::has_bit(s[i / 64], i % 64)
 }
 
 // The set gets f, if f is a file.
@@ -27,14 +24,10 @@ pub fn add(s: &mut [u64], f: u16)
     requires { 1 ≤ length s.old }
     ensures { s.new ≡ with_file s.old f }
 {
-    if f == 0 {
-        return;
+    if numbers::is_number(FILES, f) {
+        let i = usize::from(f - 1);
+        s[i / 64] = numbers::with_bit(s[i / 64], i % 64);
     }
-    if 64 < f {
-        return;
-    }
-    let i = (f - 1) as usize;
-    s[i / 64] = s[i / 64] | (1u64 << (i % 64));
 }
 
 // The set loses f.
@@ -42,15 +35,10 @@ pub fn remove(s: &mut [u64], f: u16)
     requires { 1 ≤ length s.old }
     ensures { s.new ≡ without_file s.old f }
 {
-    if f == 0 {
-        return;
+    if numbers::is_number(FILES, f) {
+        let i = usize::from(f - 1);
+        s[i / 64] = numbers::without_bit(s[i / 64], i % 64);
     }
-    if 64 < f {
-        return;
-    }
-    let i = (f - 1) as usize;
-    let m = 1u64 << (i % 64);
-    s[i / 64] = (s[i / 64] | m) - m;
 }
 
 // The row becomes the set t.
@@ -59,11 +47,7 @@ pub fn put(s: &mut [u64], t: FileSet)
     ensures s_after { s.new ≡ words_for (length s.old) t }
     ensures s_after_2 { set_of s.new ≡ t }
 {
-    let mut k: usize = 0;
-    while k < s.len() {
-        s[k] = 0;
-        k += 1;
-    }
+    s.fill(0);
     s[0] = t.bits;
 }
 
@@ -72,14 +56,7 @@ pub fn meets(s: &[u64], t: &[u64]) -> bool
     requires { length s.now ≡ length t.now }
     ensures { result ≡ meets (set_of s.now) (set_of t.now) }
 {
-    let mut k: usize = 0;
-    while k < s.len() {
-        if s[k] & t[k] != 0 {
-            return true;
-        }
-        k += 1;
-    }
-    false
+    s.iter().zip(t).any(|(v, w)| *v & *w != 0)
 }
 
 // Whether every file of s is in t: no word of s has a bit but those of t.
@@ -87,62 +64,45 @@ pub fn within(s: &[u64], t: &[u64]) -> bool
     requires { length s.now ≡ length t.now }
     ensures { result ≡ within (set_of s.now) (set_of t.now) }
 {
-    let mut k: usize = 0;
-    while k < s.len() {
-        if s[k] ^ (s[k] & t[k]) != 0 {
-            return false;
-        }
-        k += 1;
-    }
-    true
+    s.iter().zip(t).all(|(v, w)| *v ^ (*v & *w) == 0)
 }
 
 // Whether no file is in the set.
 pub fn is_empty(s: &[u64]) -> bool
     ensures { result ≡ is_empty (set_of s.now) }
 {
-    let mut k: usize = 0;
-    while k < s.len() {
-        if s[k] != 0 {
-            return false;
-        }
-        k += 1;
-    }
-    true
+    s.iter().all(|w| *w == 0)
 }
 
 // The set s gets every file of t.
+#[tactic(auto, using(crate::proofs::Rows::join_none, crate::proofs::Rows::join_all))]
 pub fn join(s: &mut [u64], t: &[u64])
     requires { length s.old ≡ length t.now }
     ensures { s.new ≡ wordwise bit_or s.old t.now }
 {
-    let mut k: usize = 0;
-    while k < s.len() {
-        s[k] = s[k] | t[k];
-        k += 1;
+    for (k, w) in t.iter().enumerate() {
+        s[k] = s[k] | *w;
     }
 }
 
 // The set s keeps the files that are in t too.
+#[tactic(auto, using(crate::proofs::Rows::join_none, crate::proofs::Rows::join_all))]
 pub fn cut(s: &mut [u64], t: &[u64])
     requires { length s.old ≡ length t.now }
     ensures { s.new ≡ wordwise bit_and s.old t.now }
 {
-    let mut k: usize = 0;
-    while k < s.len() {
-        s[k] = s[k] & t[k];
-        k += 1;
+    for (k, w) in t.iter().enumerate() {
+        s[k] = s[k] & *w;
     }
 }
 
 // The set s loses every file of t.
+#[tactic(auto, using(crate::proofs::Rows::join_none, crate::proofs::Rows::join_all))]
 pub fn less(s: &mut [u64], t: &[u64])
     requires { length s.old ≡ length t.now }
     ensures { s.new ≡ wordwise less_bits s.old t.now }
 {
-    let mut k: usize = 0;
-    while k < s.len() {
-        s[k] = s[k] ^ (s[k] & t[k]);
-        k += 1;
+    for (k, w) in t.iter().enumerate() {
+        s[k] = s[k] ^ (s[k] & *w);
     }
 }
