@@ -10,12 +10,10 @@ pub fn touches(w: &[u64], r: &[u64], i: &[u64], v: &[u64], q: &[u64], j: &[u64])
     requires { SameLengths w.now r.now i.now v.now q.now j.now }
     ensures { result ≡ touching (rows w.now r.now i.now) (rows v.now q.now j.now) }
 {
-    let mut k: usize = 0;
-    while k < w.len() {
+    for k in 0..w.len() {
         if clash(w[k], r[k], i[k], v[k], q[k], j[k]) {
             return true;
         }
-        k += 1;
     }
     false
 }

@@ -37,12 +37,7 @@ pub fn of_answer(a: Answer) -> u8
     ensures { result ≡ refusal_of a }
 {
     match a {
-        Answer::Admit => 0,
-        Answer::Held => 0,
-        Answer::Given => 0,
-        Answer::Wait => 0,
-        Answer::Unsafe => 0,
-        Answer::Done => 0,
         Answer::Refuse(r) => number(r),
+        _ => 0,
     }
 }

@@ -7,57 +7,32 @@ use rules::Standing;
 pub fn is_absent(s: Standing) -> bool
     ensures { result ≡ is_absent s }
 {
-    match s {
-        Standing::Absent => true,
-        Standing::Running => false,
-        Standing::Waiting(_) => false,
-        Standing::Held => false,
-    }
+    matches!(s, Standing::Absent)
 }
 
 pub fn is_running(s: Standing) -> bool
     ensures { result ≡ is_running s }
 {
-    match s {
-        Standing::Absent => false,
-        Standing::Running => true,
-        Standing::Waiting(_) => false,
-        Standing::Held => false,
-    }
+    matches!(s, Standing::Running)
 }
 
 pub fn is_held(s: Standing) -> bool
     ensures { result ≡ is_held s }
 {
-    match s {
-        Standing::Absent => false,
-        Standing::Running => false,
-        Standing::Waiting(_) => false,
-        Standing::Held => true,
-    }
+    matches!(s, Standing::Held)
 }
 
 pub fn is_waiting(s: Standing) -> bool
     ensures { result ≡ is_waiting s }
 {
-    match s {
-        Standing::Absent => false,
-        Standing::Running => false,
-        Standing::Waiting(_) => true,
-        Standing::Held => false,
-    }
+    matches!(s, Standing::Waiting(_))
 }
 
 // Running and waiting programs are admitted.
 pub fn is_admitted(s: Standing) -> bool
     ensures { result ≡ is_admitted s }
 {
-    match s {
-        Standing::Absent => false,
-        Standing::Running => true,
-        Standing::Waiting(_) => true,
-        Standing::Held => false,
-    }
+    matches!(s, Standing::Running | Standing::Waiting(_))
 }
 
 // The file that is waited for, and 0 unless waiting.
@@ -65,9 +40,7 @@ pub fn awaited(s: Standing) -> u16
     ensures { result ≡ awaited_of s }
 {
     match s {
-        Standing::Absent => 0,
-        Standing::Running => 0,
         Standing::Waiting(f) => f,
-        Standing::Held => 0,
+        _ => 0,
     }
 }
