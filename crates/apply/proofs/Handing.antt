@@ -4,9 +4,9 @@ use mathlib.Core.List.{[], ◌∷◌}
 use Prim.Native.Nat.{ℕ, ◌<◌}
 use native.Mathlib.Omega.{arith}
 use lib.ListN.{length-append}
+use Rattle.std.specs.Prelude.{Ok}
 use Rattle.rules.specs.declared.Program.{Program}
 use Rattle.rules.specs.declared.Board.{Board}
-use Rattle.rules.specs.declared.Check.{Check}
 use Rattle.rules.specs.declared.Answer.{Answer}
 use Rattle.rules.specs.declared.Word.{Word}
 use Rattle.rules.specs.Boards.{no_program, at, set_program, set_item}
@@ -49,7 +49,7 @@ module _ (w h : Written) (b : Board) (p f r : ℕ) (e : w ≡ wrote b (line Word
 -- ---- leave and return
 
 pub leave_hands : (b c : Board) (p f r : ℕ) → c ≡ count_leave (set_program b p no_program) → f ≡ (at b p).file → r ≡ (at b p).item
-    → Good b → leave_check b p ≡ Check.Passed → Handing c f r
+    → Good b → leave_check b p ≡ Ok tt → Handing c f r
 leave_hands b c p f r d x y g e = let l = leave_left b p g (leave_may b p e) in
     subst (λ (k : Board). Handing k f r) (sym d) (subst (λ (n : ℕ). Handing (count_leave (set_program b p no_program)) n r) (sym x)
     (subst (λ (n : ℕ). Handing (count_leave (set_program b p no_program)) (at b p).file n) (sym y) (record {
@@ -60,7 +60,7 @@ leave_hands b c p f r d x y g e = let l = leave_left b p g (leave_may b p e) in
     })))
 
 pub return_hands : (b c : Board) (p f r : ℕ) → c ≡ set_program b p (set_item (at b p) 0 0) → f ≡ (at b p).file → r ≡ (at b p).item
-    → Good b → return_check b p ≡ Check.Passed → Handing c f r
+    → Good b → return_check b p ≡ Ok tt → Handing c f r
 return_hands b c p f r d x y g e = let m = return_may b p e in let q = set_item (at b p) 0 0 in let s = item-put b p 0 0 g m.is m.runs in
     subst (λ (k : Board). Handing k f r) (sym d) (subst (λ (n : ℕ). Handing (set_program b p q) n r) (sym x)
     (subst (λ (n : ℕ). Handing (set_program b p q) (at b p).file n) (sym y) (record {

@@ -6,17 +6,20 @@ use mathlib.Core.List.{List, [], ◌∷◌}
 use mathlib.Core.Option.{none, some}
 use Prim.Native.Nat.{ℕ, suc, ◌+◌, ◌-◌, ◌≤◌, ◌<◌}
 use native.Mathlib.Omega.{arith}
-use lib.Dec.{leb}
+use lib.Dec.{eqb}
 use lib.ListN.{length, set, replicate, length-replicate}
 use lib.Seq.{sets, sets-eq}
-use borrow.Author.Tests.{le-leb, lt-leb, eq-eqb, ne_eqb}
+use borrow.Author.Tests.{eq-eqb, ne_eqb}
+use Rattle.std.specs.Prelude.{Ok, Err}
+use Rattle.std.specs.Result.{result_and}
 use Rattle.laws.specs.Tests.{by_test, never}
 use Rattle.files.specs.declared.FileSet.{FileSet}
 use Rattle.files.specs.Sets.{is_file, member}
-use Rattle.files.proofs.Bits.{least, is_number_lem}
+use Rattle.files.proofs.Bits.{least, most, is_number_lem}
+use Rattle.rules.specs.declared.Standing.{Standing}
+use Rattle.rules.specs.declared.Program.{Program}
 use Rattle.rules.specs.declared.Board.{Board}
 use Rattle.rules.specs.declared.Refusal.{Refusal}
-use Rattle.rules.specs.declared.Check.{Check}
 use Rattle.rules.specs.declared.Answer.{Answer}
 use Rattle.rules.specs.declared.Word.{Word}
 use Rattle.rules.specs.declared.Line.{Line}
@@ -31,9 +34,9 @@ use Rattle.rules.specs.Orders.{carried, with_given, in_use, safe, taken}
 use Rattle.rules.specs.Soundness.{sound}
 use Rattle.rules.specs.Settling.{Step, line, line_of, overdue, favour, settle}
 use Rattle.rules.specs.Replies.{blank, refused, reply, refuse}
-use Rattle.rules.specs.Checks.{refuse_if, is_record, unless_running, unless_stopped, enter_check, open_check, close_check, leave_check, cancel_check, fetch_check, return_check}
+use Rattle.rules.specs.Checks.{Check, unless_using, refuse_if, is_record, unless_running, enter_check, open_check, close_check, leave_check, cancel_check, fetch_check, return_check}
 use Rattle.rules.specs.Calls.{admit, hold, hold_for, enter, wait, wait_item, open_file, fetch, finish, done, count_leave, count_cancel, withdrawn}
-use Rattle.rules.specs.Calls.{Call, Open, Close, Drop, Fetch, call_of, call_with, checked, accepted, unless, apply}
+use Rattle.rules.specs.Calls.{Call, call_of, call_with, checked, accepted, unless, apply}
 use Rattle.theory.specs.Modes.{same_mode}
 use Rattle.theory.specs.Loose.{Loose, Counts, Good}
 use Rattle.theory.specs.Sound.{sound_iff, sound_good, good_sound}
@@ -48,14 +51,14 @@ use Rattle.store.specs.Sets.{Sets, IsStore, open_at, claims_at, opens_at}
 use Rattle.store.specs.Store.{seat_at, seat_of, with_waiting, with_favour, with_passed, board_of}
 use Rattle.store.proofs.Laws.{open_is, claims-is}
 use Rattle.store.proofs.Boards.{board-size, board-sets}
-use Rattle.store.proofs.Changing.{seat_is}
+use Rattle.store.proofs.Changing.{seat_is, file-is, item-is}
 use Rattle.search.specs.declared.Search.{Search}
 use Rattle.search.specs.declared.Order.{Order}
 use Rattle.search.specs.Rows.{as_order}
 use Rattle.search.proofs.Laws.{drop-replicate}
 use Rattle.search.proofs.Ordered.{order-none, order-found}
 use Rattle.settling.specs.Writing.{Written, after, Fits}
-use Rattle.apply.specs.Replies.{wrote, replied, number_if, file_first, record_first, entering, entry_check, claim_check_at, use_check_at, inquiry_check_at, returned_check, unless_busy, near_check, waiting_for, Carries}
+use Rattle.apply.specs.Replies.{wrote, replied, entering, file_check, record_check, running_check, stopped_check, using_check, busy_check, entry_check, claim_check_at, returned_check, near_open, near_close, near_fetch, near_return, near_check, waiting_for, Carries}
 
 -- ---- a call on a good board
 
@@ -63,81 +66,70 @@ pub good_of : (sets : Sets) (r : Rest) → sound (board_of sets r) ≡ true → 
 good_of sets r e = sound_good (board_of sets r) (board-size sets r) ((sound_iff (board_of sets r)).0 e)
 
 module _ (b : Board) (c : Call) where
-  pub apply-passed : checked b c ≡ Check.Passed → accepted b c ≡ apply b c
+  apply-passed : checked b c ≡ Ok tt → accepted b c ≡ apply b c
   apply-passed e = sym (apply-accepted b c e)
 
-  pub apply_failed : (r : Refusal) → checked b c ≡ Check.Failed r → refuse b r ≡ apply b c
+  apply_failed : (r : Refusal) → checked b c ≡ Err r → refuse b r ≡ apply b c
   apply_failed r e = sym (apply-refused b c r e)
 
 unless-same : (b : Board) (k : Check) (r : Reply) → refused r.answer ≡ false → refused (unless b k r).answer ≡ true → (unless b k r).board ≡ b
 unfolding refuse reply
-unless-same b Check.Passed r h n = never n h
-unless-same b (Check.Failed m) r h n = refl
+unless-same b (Ok tt) r h n = never n h
+unless-same b (Err m) r h n = refl
 
 -- a refused call leaves the board as it was
 pub apply-same : (b : Board) (c : Call) → refused (apply b c).answer ≡ true → (apply b c).board ≡ b
 unfolding apply
 apply-same b c n = unless-same b (checked b c) (accepted b c) (accepted_answer b c) n
 
--- the call of the program that is asked for
-pub by_program : (b : Board) (a : Asked) (p : ℕ) → p ≡ a.program
-    → apply b (call_with a.verb p a.file a.item a.claims) ≡ apply b (call_of a)
-by_program b a p e = ap (λ x. apply b (call_with a.verb x a.file a.item a.claims)) e
-
--- ---- numbers in range
-
-pub number-above : (k n : ℕ) → k < n → 0 ≡ number_if (leb 1 n && leb n k) n
-number-above k n h = by_test (leb 1 n) (λ e. rw (e, lt-leb n k h)) (λ e. rw e)
-
-pub number-within : (k n : ℕ) → 1 ≤ n → n ≤ k → n ≡ number_if (leb 1 n && leb n k) n
-number-within k n l h = rw (le-leb 1 n l, le-leb n k h)
-
-number-none : (t : Bool) (m n : ℕ) → n ≡ number_if t m → n ≡ 0 → (t ≡ true → 1 ≤ m) → t ≡ false
-number-none true m n e z h = let k = h refl in let w : n ≡ m = e in absurd (omega arith)
-number-none false m n e z h = refl
-
-pub program-none : (m n : ℕ) → n ≡ number_if (is_program m) m → n ≡ 0 → is_program m ≡ false
-program-none m n e z = number-none (is_program m) m n e z (λ t. least 32 m t)
-
-pub number_same : (t : Bool) (m n : ℕ) → n ≡ number_if t m → n ≢ 0 → n ≡ m
-number_same true m n e z = e
-number_same false m n e z = absurd (z e)
-
-no_program_lem : (p f : ℕ) → is_program p ≡ false → (is_program p && is_file f) ≡ false
-no_program_lem p f e = rw e
-
-no_file : (t : Bool) (f : ℕ) → is_file f ≡ false → (t && is_file f) ≡ false
-no_file true f e = e
-no_file false f e = refl
+-- ---- the checks
 
 -- check 8 of any call: its program
-checked_far : (b : Board) (v : Verb) (p f n : ℕ) (c : Claims) → is_program p ≡ false
-    → checked b (call_with v p f n c) ≡ Check.Failed Refusal.OutOfRange
+far_program : (p f : ℕ) → is_program p ≡ false → (is_program p && is_file f) ≡ false
+far_program p f e = rw e
+
+far_checked : (b : Board) (v : Verb) (p f n : ℕ) (c : Claims) → is_program p ≡ false → checked b (call_with v p f n c) ≡ Err Refusal.OutOfRange
 unfolding enter_check open_check close_check leave_check cancel_check fetch_check return_check
-checked_far b Verb.Enter p f n c e = rw e
-checked_far b Verb.Open p f n c e = rw (no_program_lem p f e)
-checked_far b Verb.Close p f n c e = rw (no_program_lem p f e)
-checked_far b Verb.Drop p f n c e = rw (no_program_lem p f e)
-checked_far b Verb.Leave p f n c e = rw e
-checked_far b Verb.Cancel p f n c e = rw e
-checked_far b Verb.Fetch p f n c e = rw (no_program_lem p f e)
-checked_far b Verb.Return p f n c e = rw e
+far_checked b Verb.Enter p f n c e = rw e
+far_checked b Verb.Open p f n c e = rw (far_program p f e)
+far_checked b Verb.Close p f n c e = rw (far_program p f e)
+far_checked b Verb.Drop p f n c e = rw (far_program p f e)
+far_checked b Verb.Leave p f n c e = rw e
+far_checked b Verb.Cancel p f n c e = rw e
+far_checked b Verb.Fetch p f n c e = rw (far_program p f e)
+far_checked b Verb.Return p f n c e = rw e
 
--- check 8 of the file m, of which the number is f
-file_first_lem : (m f : ℕ) (t : Bool) (next : ℕ → Check) → t ≡ true → f ≡ number_if (is_file m) m
-    → file_first f (next f) ≡ refuse_if (not (t && is_file m)) Refusal.OutOfRange (next m)
-file_first_lem m f t next e h =
-    by_test (is_file m)
-    (λ k. let d : f ≡ m = rw k at h in let z : m ≢ 0 = omega (arith, least 64 m k) in rw (d, e, k, ne_eqb m 0 z))
-    (λ k. let d : f ≡ 0 = rw k at h in rw (d, e, k))
+pub checked_far : (b : Board) (a : Asked) → is_program a.program ≡ false → checked b (call_of a) ≡ Err Refusal.OutOfRange
+checked_far b a e = far_checked b a.verb a.program a.file a.item a.claims e
 
--- check 19 of the record i, of which the number is n
-record_first_lem : (i n : ℕ) (next : Check) → n ≡ number_if (is_record i) i
-    → record_first n next ≡ refuse_if (not (is_record i)) Refusal.BadRecord next
-record_first_lem i n next h =
-    by_test (is_record i)
-    (λ k. let d : n ≡ i = rw k at h in let z : i ≢ 0 = omega (arith, least 65535 i k) in rw (d, k, ne_eqb i 0 z))
-    (λ k. let d : n ≡ 0 = rw k at h in rw (d, k))
+-- a check by itself, and then the next
+refuse-then : (t : Bool) (r : Refusal) (next : Check) → result_and (refuse_if t r (Ok tt)) next ≡ refuse_if t r next
+refuse-then true r next = refl
+refuse-then false r next = refl
+
+running-then : (s : Standing) (next : Check) → result_and (running_check s) next ≡ unless_running s next
+running-then Standing.Absent next = refl
+running-then Standing.Running next = refl
+running-then (Standing.Waiting f) next = refl
+running-then Standing.Held next = refl
+
+and-then : (a b c : Check) → result_and (result_and a b) c ≡ result_and a (result_and b c)
+and-then (Ok tt) b c = refl
+and-then (Err r) b c = refl
+
+-- 11 to 13, then 21; then the next
+abbrev busy : Program → Check → Check
+busy q next = unless_running q.standing (unless_using q.item next)
+
+busy-then : (s : Seat) (next : Check) → result_and (busy_check s) next ≡ unless_running s.standing (unless_using s.item next)
+busy-then s next =
+    and-then (running_check s.standing) (using_check s.item) next
+    ∙ running-then s.standing (result_and (using_check s.item) next)
+    ∙ ap (unless_running s.standing) (refuse-then (not (eqb s.item 0)) Refusal.HasRecord next)
+
+-- 8, of the file
+file-then : (t : Bool) (f : ℕ) (next : Check) → t ≡ true → result_and (file_check f) next ≡ refuse_if (not (t && is_file f)) Refusal.OutOfRange next
+file-then t f next e = rw e (refuse-then (not (is_file f)) Refusal.OutOfRange next)
 
 -- what the sets and the seat say of the program
 module _ (sets : Sets) (q : Rest) (p : ℕ) (h : 1 ≤ p) (k : p ≤ 32) (st : IsStore sets) where
@@ -156,105 +148,139 @@ module _ (sets : Sets) (q : Rest) (p : ℕ) (h : 1 ≤ p) (k : p ≤ 32) (st : I
   seated : seat_at q p ≡ seat_of (at b p)
   seated = sym (seat_is sets q p h k st)
 
-  abbrev busy : Check → Check
-  busy next = unless_busy (seat_of (at b p)) next
+  ranged : is_program p ≡ true
+  ranged = is_number_lem 32 p h k
+
+  seat_busy : (next : Check) → result_and (busy_check (seat_at q p)) next ≡ busy (at b p) next
+  seat_busy next = ap (λ (s : Seat). result_and (busy_check s) next) seated ∙ busy-then (seat_of (at b p)) next
 
   abbrev claim_check : ℕ → Check
-  claim_check f = busy (refuse_if (not (claims (at b p) f)) Refusal.NotClaimed (refuse_if (has_open (at b p) f) Refusal.IsOpen Check.Passed))
+  claim_check f = refuse_if (not (claims (at b p) f)) Refusal.NotClaimed (refuse_if (has_open (at b p) f) Refusal.IsOpen (Ok tt))
+
+  claims-checked : (f : ℕ) → claim_check_at sets p f ≡ claim_check f
+  claims-checked f = ap₂ (λ (c o : Bool). refuse_if (not c) Refusal.NotClaimed (refuse_if o Refusal.IsOpen (Ok tt))) (claims_are f) (opens_are f)
+
+  opened : (f : ℕ) → near_open sets p (seat_at q p) f ≡ open_check b p f
+  unfolding open_check
+  opened f = ap (λ (c : Check). result_and (file_check f) (result_and (busy_check (seat_at q p)) c)) (claims-checked f)
+      ∙ ap (result_and (file_check f)) (seat_busy (claim_check f))
+      ∙ file-then (is_program p) f (busy (at b p) (claim_check f)) ranged
 
   abbrev use_check : ℕ → Check
-  use_check f = busy (refuse_if (not (has_open (at b p) f)) Refusal.NotOpen Check.Passed)
+  use_check f = refuse_if (not (has_open (at b p) f)) Refusal.NotOpen (Ok tt)
+
+  closed : (f : ℕ) → near_close sets p (seat_at q p) f ≡ close_check b p f
+  unfolding close_check
+  closed f = ap (λ (o : Bool). result_and (file_check f) (result_and (busy_check (seat_at q p)) (refuse_if (not o) Refusal.NotOpen (Ok tt)))) (opens_are f)
+      ∙ ap (result_and (file_check f)) (seat_busy (use_check f))
+      ∙ file-then (is_program p) f (busy (at b p) (use_check f)) ranged
 
   abbrev inquiry_check : ℕ → Check
-  inquiry_check f = busy (refuse_if (not (member (at b p).inquiring f)) Refusal.NoRecord Check.Passed)
+  inquiry_check f = refuse_if (not (member (at b p).inquiring f)) Refusal.NoRecord (Ok tt)
 
-  near_claim : (f : ℕ) → unless_busy (seat_at q p) (claim_check_at sets p f) ≡ claim_check f
-  near_claim f = ap (λ (s : Seat). unless_busy s (claim_check_at sets p f)) seated
-      ∙ ap₂ (λ (c o : Bool). busy (refuse_if (not c) Refusal.NotClaimed (refuse_if o Refusal.IsOpen Check.Passed))) (claims_are f) (opens_are f)
+  fetched : (f n : ℕ) → near_fetch sets p (seat_at q p) f n ≡ fetch_check b p f n
+  unfolding fetch_check
+  fetched f n = ap (λ (o : Bool). result_and (file_check f) (result_and (record_check n) (result_and (busy_check (seat_at q p)) (refuse_if (not o) Refusal.NoRecord (Ok tt))))) (inquires f)
+      ∙ ap (λ (c : Check). result_and (file_check f) (result_and (record_check n) c)) (seat_busy (inquiry_check f))
+      ∙ ap (result_and (file_check f)) (refuse-then (not (is_record n)) Refusal.BadRecord (busy (at b p) (inquiry_check f)))
+      ∙ file-then (is_program p) f (refuse_if (not (is_record n)) Refusal.BadRecord (busy (at b p) (inquiry_check f))) ranged
 
-  near_use : (f : ℕ) → unless_busy (seat_at q p) (use_check_at sets p f) ≡ use_check f
-  near_use f = ap (λ (s : Seat). unless_busy s (use_check_at sets p f)) seated
-      ∙ ap (λ (o : Bool). busy (refuse_if (not o) Refusal.NotOpen Check.Passed)) (opens_are f)
+  entered : (c : Claims) → entry_check (at b p).standing c ≡ checked b (entering p c)
+  unfolding enter_check
+  entered c = rw ranged
 
-  near_inquiry : (f : ℕ) → unless_busy (seat_at q p) (inquiry_check_at sets p f) ≡ inquiry_check f
-  near_inquiry f = ap (λ (s : Seat). unless_busy s (inquiry_check_at sets p f)) seated
-      ∙ ap (λ (o : Bool). busy (refuse_if (not o) Refusal.NoRecord Check.Passed)) (inquires f)
+  left : running_check (at b p).standing ≡ leave_check b p
+  unfolding leave_check
+  left = rw ranged
 
-  -- in range: the seat, then the other checks
-  module _ (f m n i : ℕ) (c : Claims) (number : f ≡ number_if (is_file m) m) (numbered : n ≡ number_if (is_record i) i) where
-    abbrev ranged : is_program p ≡ true
-    ranged = is_number_lem 32 p h k
+  cancelled : stopped_check (at b p).standing ≡ cancel_check b p
+  unfolding cancel_check
+  cancelled = rw ranged
 
-    near_open : file_first f (unless_busy (seat_at q p) (claim_check_at sets p f)) ≡ open_check b p m
-    unfolding open_check
-    near_open = ap (file_first f) (near_claim f) ∙ file_first_lem m f (is_program p) claim_check ranged number
+  returned : near_return (seat_of (at b p)) ≡ return_check b p
+  unfolding return_check
+  returned = rw ranged (running-then (at b p).standing (returned_check (at b p).item))
 
-    near_close : file_first f (unless_busy (seat_at q p) (use_check_at sets p f)) ≡ close_check b p m
-    unfolding close_check
-    near_close = ap (file_first f) (near_use f) ∙ file_first_lem m f (is_program p) use_check ranged number
+  -- the checks of a call, by its sets and its seat, are those of the rules
+  checked_near : (v : Verb) (f n : ℕ) (c : Claims) → near_check sets p (seat_at q p) v f n c ≡ checked b (call_with v p f n c)
+  checked_near Verb.Enter f n c = ap (λ (s : Seat). entry_check s.standing c) seated ∙ entered c
+  checked_near Verb.Open f n c = opened f
+  checked_near Verb.Close f n c = closed f
+  checked_near Verb.Drop f n c = opened f
+  checked_near Verb.Leave f n c = ap (λ (s : Seat). running_check s.standing) seated ∙ left
+  checked_near Verb.Cancel f n c = ap (λ (s : Seat). stopped_check s.standing) seated ∙ cancelled
+  checked_near Verb.Fetch f n c = fetched f n
+  checked_near Verb.Return f n c = ap near_return seated ∙ returned
 
-    near_fetch : file_first f (record_first n (unless_busy (seat_at q p) (inquiry_check_at sets p f))) ≡ fetch_check b p m i
-    unfolding fetch_check
-    near_fetch = ap (λ (c : Check). file_first f (record_first n c)) (near_inquiry f) ∙ ap (file_first f) (record_first_lem i n (inquiry_check f) numbered)
-        ∙ file_first_lem m f (is_program p) (λ (g : ℕ). refuse_if (not (is_record i)) Refusal.BadRecord (inquiry_check g)) ranged number
+-- what the checks of the program p say, which is the program asked for
+pub checked-number : (sets : Sets) (q : Rest) (a : Asked) (p : ℕ) (s : Seat) (k : Check) → IsStore sets
+    → (is_program a.program ≡ true) × (p ≡ a.program) → s ≡ seat_at q p → k ≡ near_check sets p s a.verb a.file a.item a.claims
+    → result_and k (Ok p) ≡ result_and (checked (board_of sets q) (call_of a)) (Ok a.program)
+checked-number sets q a p s k st n e d =
+    let l : 1 ≤ p = omega (arith, least 32 a.program n.0, n.1) in
+    let m : p ≤ 32 = omega (arith, most 32 a.program n.0, n.1) in
+    let t = checked_near sets q p l m st a.verb a.file a.item a.claims in
+    ap₂ result_and (d ∙ ap (λ (x : Seat). near_check sets p x a.verb a.file a.item a.claims) e ∙ t
+    ∙ ap (λ (x : ℕ). checked (board_of sets q) (call_with a.verb x a.file a.item a.claims)) n.1) (ap Ok n.1)
 
-    near_enter : entry_check (at b p).standing c ≡ checked b (entering p c)
-    unfolding enter_check
-    near_enter = rw ranged
+-- ---- a call that its checks let pass
 
-    near_leave : unless_running (at b p).standing Check.Passed ≡ leave_check b p
-    unfolding leave_check
-    near_leave = rw ranged
+passed-number : (k : Check) (n p : ℕ) → Ok p ≡ result_and k (Ok n) → (k ≡ Ok tt) × (p ≡ n)
+passed-number (Ok tt) n p e = (refl, cc)
+passed-number (Err r) n p e = absurd (let z : ◌≡◌ {A = ℕ} 0 1 = cc in omega arith)
 
-    near_cancel : unless_stopped (at b p).standing Check.Passed ≡ cancel_check b p
-    unfolding cancel_check
-    near_cancel = rw ranged
+failed-number : (k : Check) (n : ℕ) (r : Refusal) → Err r ≡ result_and k (Ok n) → k ≡ Err r
+failed-number (Ok tt) n r e = absurd (let z : ◌≡◌ {A = ℕ} 0 1 = cc in omega arith)
+failed-number (Err d) n r e = cc
 
-    near_return : unless_running (at b p).standing (returned_check (at b p).item) ≡ return_check b p
-    unfolding return_check
-    near_return = rw ranged
+-- its program is in range
+program-passed : (b : Board) (a : Asked) → checked b (call_of a) ≡ Ok tt → (1 ≤ a.program) × (a.program ≤ 32)
+program-passed b a e =
+    by_test (is_program a.program)
+    (λ k. (least 32 a.program k, most 32 a.program k))
+    (λ k. failed_passed Refusal.OutOfRange (sym (checked_far b a k) ∙ e))
 
-    pub checked_near : (v : Verb) → near_check sets p (seat_at q p) f n v c ≡ checked b (call_with v p m i c)
-    checked_near Verb.Enter = ap (λ (s : Seat). entry_check s.standing c) seated ∙ near_enter
-    checked_near Verb.Open = near_open
-    checked_near Verb.Close = near_close
-    checked_near Verb.Drop = near_open
-    checked_near Verb.Leave = ap (λ (s : Seat). unless_running s.standing Check.Passed) seated ∙ near_leave
-    checked_near Verb.Cancel = ap (λ (s : Seat). unless_stopped s.standing Check.Passed) seated ∙ near_cancel
-    checked_near Verb.Fetch = near_fetch
-    checked_near Verb.Return = ap (λ (s : Seat). unless_running s.standing (returned_check s.item)) seated ∙ near_return
+module _ (b : Board) (a : Asked) where
+  pub passes : (p : ℕ) → Ok p ≡ result_and (checked b (call_of a)) (Ok a.program)
+      → ((1 ≤ p) × (p ≤ 32)) × (checked b (call_with a.verb p a.file a.item a.claims) ≡ Ok tt)
+      × (accepted b (call_with a.verb p a.file a.item a.claims) ≡ apply b (call_of a))
+  passes p e = let m = passed-number (checked b (call_of a)) a.program p e in
+      let same : call_with a.verb p a.file a.item a.claims ≡ call_of a = ap (λ (x : ℕ). call_with a.verb x a.file a.item a.claims) m.1 in (
+        subst (λ (x : ℕ). (1 ≤ x) × (x ≤ 32)) (sym m.1) (program-passed b a m.0),
+        ap (checked b) same ∙ m.0,
+        ap (accepted b) same ∙ apply-passed b (call_of a) m.0,
+      )
 
--- the check after one that has let pass
-refuse-next : (t : Bool) (r : Refusal) (next : Check) → refuse_if t r next ≡ Check.Passed → next ≡ Check.Passed
-refuse-next true r next k = failed_passed r k
-refuse-next false r next k = k
+  pub fails : (r : Refusal) → Err r ≡ result_and (checked b (call_of a)) (Ok a.program) → refuse b r ≡ apply b (call_of a)
+  fails r e = apply_failed b (call_of a) r (failed-number (checked b (call_of a)) a.program r e)
 
-module _ (b : Board) (p f m n i : ℕ) (c : Claims) (number : f ≡ number_if (is_file m) m) (numbered : n ≡ number_if (is_record i) i) where
-  -- a file that a check has let pass is in range, and a record
-  passed-file : (next : Check) → refuse_if (not (is_program p && is_file m)) Refusal.OutOfRange next ≡ Check.Passed → f ≡ m
-  passed-file next k =
-      by_test (is_file m) (λ e. rw e at number)
-      (λ e. failed_passed Refusal.OutOfRange (rw (no_file (is_program p) m e) at k))
+-- and its file, if it has one, and its record
+no-file : (t : Bool) (f : ℕ) → is_file f ≡ false → (t && is_file f) ≡ false
+no-file true f e = e
+no-file false f e = refl
 
-  passed_record : (next : Check) → refuse_if (not (is_record i)) Refusal.BadRecord next ≡ Check.Passed → n ≡ i
-  passed_record next k = by_test (is_record i) (λ e. rw e at numbered) (λ e. failed_passed Refusal.BadRecord (rw e at k))
+file-passed : (t : Bool) (f : ℕ) (next : Check) → refuse_if (not (t && is_file f)) Refusal.OutOfRange next ≡ Ok tt → f ≤ 64
+file-passed t f next e = by_test (is_file f) (most 64 f) (λ k. failed_passed Refusal.OutOfRange (rw (no-file t f k) at e))
 
-  -- so the call is that with their numbers
-  pub call_same : (v : Verb) → checked b (call_with v p m i c) ≡ Check.Passed → call_with v p f n c ≡ call_with v p m i c
-  unfolding open_check close_check fetch_check
-  call_same Verb.Enter k = refl
-  call_same Verb.Open k = ap (Open p) (passed-file _ k)
-  call_same Verb.Close k = ap (Close p) (passed-file _ k)
-  call_same Verb.Drop k = ap (Drop p) (passed-file _ k)
-  call_same Verb.Leave k = refl
-  call_same Verb.Cancel k = refl
-  call_same Verb.Fetch k = ap₂ (Fetch p) (passed-file _ k)
-      (passed_record _ (refuse-next (not (is_program p && is_file m)) Refusal.OutOfRange _ k))
-  call_same Verb.Return k = refl
+next-passed : (t : Bool) (r : Refusal) (next : Check) → refuse_if t r next ≡ Ok tt → next ≡ Ok tt
+next-passed true r next e = failed_passed r e
+next-passed false r next e = e
 
-pub apply_far : (b : Board) (a : Asked) → is_program a.program ≡ false → refuse b Refusal.OutOfRange ≡ apply b (call_of a)
-apply_far b a e =
-    apply_failed b (call_of a) Refusal.OutOfRange (checked_far b a.verb a.program a.file a.item a.claims e)
+record-passed : (n : ℕ) (next : Check) → refuse_if (not (is_record n)) Refusal.BadRecord next ≡ Ok tt → n ≤ 65535
+record-passed n next e = by_test (is_record n) (most 65535 n) (λ k. failed_passed Refusal.BadRecord (rw k at e))
+
+module _ (b : Board) (p f : ℕ) where
+  pub open-fits : open_check b p f ≡ Ok tt → f ≤ 64
+  unfolding open_check
+  open-fits e = file-passed (is_program p) f _ e
+
+  pub close-fits : close_check b p f ≡ Ok tt → f ≤ 64
+  unfolding close_check
+  close-fits e = file-passed (is_program p) f _ e
+
+  pub fetch-fits : (n : ℕ) → fetch_check b p f n ≡ Ok tt → (f ≤ 64) × (n ≤ 65535)
+  unfolding fetch_check
+  fetch-fits n e = (file-passed (is_program p) f _ e, record-passed n _ (next-passed (not (is_program p && is_file f)) Refusal.OutOfRange _ e))
 
 -- ---- replies
 
@@ -339,7 +365,7 @@ pub sound_of : (b : Board) → Good b → sound b ≡ true
 sound_of b g = (sound_iff b).1 (good_sound b g)
 
 module _ (sets : Sets) (r : Rest) where
-  pub entry_free : (p : ℕ) (c : Claims) → Good (board_of sets r) → checked (board_of sets r) (entering p c) ≡ Check.Passed
+  pub entry_free : (p : ℕ) (c : Claims) → Good (board_of sets r) → checked (board_of sets r) (entering p c) ≡ Ok tt
       → (r.entry ≡ padded 0 (names r.entry)) × (length (names r.entry) < 32)
   unfolding board_of
   entry_free p c g e = (
@@ -347,12 +373,12 @@ module _ (sets : Sets) (r : Rest) where
     entry-room (board_of sets r) (board-size sets r) (sound_of (board_of sets r) g) p c.writable c.readable c.inquirable e,
   )
 
-  pub waiting_free : (p f : ℕ) → Good (board_of sets r) → open_check (board_of sets r) p f ≡ Check.Passed
+  pub waiting_free : (p f : ℕ) → Good (board_of sets r) → open_check (board_of sets r) p f ≡ Ok tt
       → (r.waiting ≡ padded 0 (names r.waiting)) × (length (names r.waiting) < 32)
   unfolding board_of
   waiting_free p f g e = (g.loose.waits.form, waiting_room (board_of sets r) (board-size sets r) (sound_of (board_of sets r) g) p f e)
 
-  pub fetching-free : (p f n : ℕ) → Good (board_of sets r) → fetch_check (board_of sets r) p f n ≡ Check.Passed
+  pub fetching-free : (p f n : ℕ) → Good (board_of sets r) → fetch_check (board_of sets r) p f n ≡ Ok tt
       → (r.waiting ≡ padded 0 (names r.waiting)) × (length (names r.waiting) < 32)
   unfolding board_of
   fetching-free p f n g e = let m = fetch_may (board_of sets r) p f n e in
@@ -362,13 +388,13 @@ module _ (sets : Sets) (r : Rest) where
   unfolding board_of
   leaves-few g = leaves-room (board_of sets r) (board-size sets r) (sound_of (board_of sets r) g)
 
-pub close_settles : (b c : Board) (p f : ℕ) → c ≡ set_program b p (closing (at b p) f) → Good b → close_check b p f ≡ Check.Passed → Ready c
+pub close_settles : (b c : Board) (p f : ℕ) → c ≡ set_program b p (closing (at b p) f) → Good b → close_check b p f ≡ Ok tt → Ready c
 close_settles b c p f k g e = subst Ready (sym k) (close_ready b g.loose.base.size (sound_of b g) p f e)
 
-pub drop_settles : (b c : Board) (p f : ℕ) → c ≡ set_program b p (dropping (at b p) f) → Good b → open_check b p f ≡ Check.Passed → Ready c
+pub drop_settles : (b c : Board) (p f : ℕ) → c ≡ set_program b p (dropping (at b p) f) → Good b → open_check b p f ≡ Ok tt → Ready c
 drop_settles b c p f k g e = subst Ready (sym k) (drop-ready b g.loose.base.size (sound_of b g) p f e)
 
-pub cancel_settles : (b c : Board) (p : ℕ) → c ≡ withdrawn b p (at b p).standing → Good b → cancel_check b p ≡ Check.Passed → Ready c
+pub cancel_settles : (b c : Board) (p : ℕ) → c ≡ withdrawn b p (at b p).standing → Good b → cancel_check b p ≡ Ok tt → Ready c
 cancel_settles b c p k g e = subst Ready (sym k) (cancel-ready b g.loose.base.size (sound_of b g) p e)
 
 -- ---- a board whose rest changes
@@ -417,6 +443,15 @@ module _ (b : Board) (p : ℕ) (v q j : FileSet) where
   unfolding enter
   enter-runs e o = rw (eq-eqb b.favoured 0 e, o)
 
+-- ---- the record in use, and its file
+
+module _ (sets : Sets) (r : Rest) (p : ℕ) (i : (1 ≤ p) × (p ≤ 32)) (st : IsStore sets) {s : Seat} (e : s ≡ seat_at r p) where
+  pub seat-file : s.file ≡ (at (board_of sets r) p).file
+  seat-file = ap (λ (t : Seat). t.file) e ∙ sym (file-is sets r p i.0 i.1 st)
+
+  pub seat-item : s.item ≡ (at (board_of sets r) p).item
+  seat-item = ap (λ (t : Seat). t.item) e ∙ sym (item-is sets r p i.0 i.1 st)
+
 -- ---- fetch
 
 module _ (b : Board) (p f r : ℕ) where
@@ -432,7 +467,7 @@ module _ (b : Board) (p f r : ℕ) where
 -- ---- open
 
 -- who opens a file has no record, so that it waits with none
-pub open_wait : (b : Board) (p f : ℕ) → Good b → open_check b p f ≡ Check.Passed → waiting_for b p f 0 0 ≡ wait b p f
+pub open_wait : (b : Board) (p f : ℕ) → Good b → open_check b p f ≡ Ok tt → waiting_for b p f 0 0 ≡ wait b p f
 unfolding wait
 open_wait b p f g e = let m = open_may b p f e in
     ap₂ (waiting_for b p f) (sym ((g.counts.records.own p m.is).no_item m.no_item)) (sym m.no_item)

@@ -1,244 +1,217 @@
-// Checks 8 to 16 and 18 to 21 of a direct call.
-ghost use Rattle.std.specs.Prelude.{◌≡◌, ◌≤◌};
+// Checks 8 to 16 and 18 to 21 of a direct call: each answers with the first refusal that applies.
+ghost use Rattle.std.specs.Prelude.{◌≡◌, ◌≤◌, true, false, Ok, MatchOption};
+ghost use Rattle.std.specs.Result.{result_and};
 ghost use Rattle.files.specs.Sets.{is_file};
 ghost use Rattle.rules.specs.Boards.{is_program};
-ghost use Rattle.rules.specs.declared.Check.{Check};
 ghost use Rattle.rules.specs.Modes.{claims_meet};
-ghost use Rattle.rules.specs.Checks.{is_record, unless_running, unless_using, unless_stopped};
+ghost use Rattle.rules.specs.Calls.{call_of, checked};
 ghost use Rattle.store.specs.Sets.{IsStore};
-ghost use Rattle.apply.specs.Replies.{number_if, file_first, record_first, entry_check, claim_check_at, use_check_at, inquiry_check_at, returned_check, near_check};
+ghost use Rattle.store.specs.Store.{board_of};
+ghost use Rattle.apply.specs.Replies.{record_check, running_check, using_check, busy_check, entry_check, stopped_check, claim_check_at, use_check_at, inquiry_check_at, returned_check, near_open, near_close, near_fetch, near_return, near_check};
 
 use files::words;
-use rules::{Check, Claims, Refusal, Standing, Verb};
+use rules::{Asked, Claims, Refusal, Standing, Verb};
 use store::sets::Sets;
-use store::{Seat, sets};
+use store::{Rest, Seat, sets};
 
-// The number if it is a program's, and 0 otherwise.
-pub fn program_of(n: u64) -> u8
-    ensures { (result ≡ number_if (is_program n) n) × (result ≤ 32) }
+// The number, if it is a program's.
+fn program_of(n: u64) -> Option<u8>
+    ensures { MatchOption result (is_program n ≡ false) (λ p. (is_program n ≡ true) × (p ≡ n)) }
 {
-    if n == 0 {
-        return 0;
+    match n {
+        1..=32 => Some(n as u8),
+        _ => None,
     }
-    if 32 < n {
-        return 0;
-    }
-    n as u8
 }
 
-// The number if it is a file's, and 0 otherwise.
-pub fn file_of(n: u64) -> u16
-    ensures { (result ≡ number_if (is_file n) n) × (result ≤ 64) }
+// The number, if it is a file's.
+fn file_of(n: u64) -> Option<u16>
+    ensures { MatchOption result (is_file n ≡ false) (λ f. (is_file n ≡ true) × (f ≡ n)) }
 {
-    if n == 0 {
-        return 0;
+    match n {
+        1..=64 => Some(n as u16),
+        _ => None,
     }
-    if 64 < n {
-        return 0;
-    }
-    n as u16
 }
 
-// The number if it is a record's, and 0 otherwise.
-pub fn record_of(n: u64) -> u16
-    ensures { result ≡ number_if (is_record n) n }
+// 19.
+fn record_check(n: u64) -> Result<(), Refusal>
+    ensures { result ≡ record_check n }
 {
-    if n == 0 {
-        return 0;
+    match n {
+        1..=65535 => Ok(()),
+        _ => Err(Refusal::BadRecord),
     }
-    if 65535 < n {
-        return 0;
-    }
-    n as u16
 }
 
-// 8, of a file that `file_of` gave; then the next check.
-fn file_check(f: u16, next: Check) -> Check
-    ensures { result ≡ file_first f next }
-{
-    if f == 0 {
-        return Check::Failed(Refusal::OutOfRange);
-    }
-    next
-}
-
-// 19, of a record that `record_of` gave; then the next check.
-fn record_check(n: u16, next: Check) -> Check
-    ensures { result ≡ record_first n next }
-{
-    if n == 0 {
-        return Check::Failed(Refusal::BadRecord);
-    }
-    next
-}
-
-// 11, 12, 13; then the next check.
-fn running_check(s: Standing, next: Check) -> Check
-    ensures { result ≡ unless_running s next }
+// 11, 12, 13.
+fn running_check(s: Standing) -> Result<(), Refusal>
+    ensures { result ≡ running_check s }
 {
     match s {
-        Standing::Absent => Check::Failed(Refusal::IsAbsent),
-        Standing::Running => next,
-        Standing::Waiting(_) => Check::Failed(Refusal::IsWaiting),
-        Standing::Held => Check::Failed(Refusal::IsHeld),
+        Standing::Absent => Err(Refusal::IsAbsent),
+        Standing::Running => Ok(()),
+        Standing::Waiting(_) => Err(Refusal::IsWaiting),
+        Standing::Held => Err(Refusal::IsHeld),
     }
 }
 
-// 21, of a running program with this record in use, or 0; then the next check.
-fn using_check(item: u16, next: Check) -> Check
-    ensures { result ≡ unless_using item next }
+// 21, of a running program with this record in use, or 0.
+fn using_check(item: u16) -> Result<(), Refusal>
+    ensures { result ≡ using_check item }
 {
-    if item != 0 {
-        return Check::Failed(Refusal::HasRecord);
+    match item {
+        0 => Ok(()),
+        _ => Err(Refusal::HasRecord),
     }
-    next
+}
+
+// 11 to 13, 21.
+fn busy_check(seat: Seat) -> Result<(), Refusal>
+    ensures { result ≡ busy_check seat }
+{
+    running_check(seat.standing)?;
+    using_check(seat.item)
 }
 
 // 14, 15.
-fn claim_check(sets: &Sets, p: u8, f: u16) -> Check
+fn claim_check(sets: &Sets, p: u8, f: u16) -> Result<(), Refusal>
     requires { ((1 ≤ p) × (p ≤ 32)) × IsStore sets.now }
     ensures { result ≡ claim_check_at sets.now p f }
 {
     if !sets::has_claim(sets, p, f, 0) {
-        return Check::Failed(Refusal::NotClaimed);
+        return Err(Refusal::NotClaimed);
     }
     if sets::has_open(sets, p, f) {
-        return Check::Failed(Refusal::IsOpen);
+        return Err(Refusal::IsOpen);
     }
-    Check::Passed
+    Ok(())
 }
 
 // 16.
-fn use_check(sets: &Sets, p: u8, f: u16) -> Check
+fn use_check(sets: &Sets, p: u8, f: u16) -> Result<(), Refusal>
     requires { ((1 ≤ p) × (p ≤ 32)) × IsStore sets.now }
     ensures { result ≡ use_check_at sets.now p f }
 {
     if !sets::has_open(sets, p, f) {
-        return Check::Failed(Refusal::NotOpen);
+        return Err(Refusal::NotOpen);
     }
-    Check::Passed
+    Ok(())
 }
 
 // 20, of a fetch: a file that is not open for inquiry.
-fn inquiry_check(sets: &Sets, p: u8, f: u16) -> Check
+fn inquiry_check(sets: &Sets, p: u8, f: u16) -> Result<(), Refusal>
     requires { ((1 ≤ p) × (p ≤ 32)) × IsStore sets.now }
     ensures { result ≡ inquiry_check_at sets.now p f }
 {
-    let i = sets::inquiring_at(p);
-    if !words::has(&sets[i], f) {
-        return Check::Failed(Refusal::NoRecord);
+    if !words::has(&sets[sets::inquiring_at(p)], f) {
+        return Err(Refusal::NoRecord);
     }
-    Check::Passed
+    Ok(())
 }
 
 // 20, of a return with this record in use, or 0.
-fn return_check(item: u16) -> Check
+fn return_check(item: u16) -> Result<(), Refusal>
     ensures { result ≡ returned_check item }
 {
-    if item == 0 {
-        return Check::Failed(Refusal::NoRecord);
+    match item {
+        0 => Err(Refusal::NoRecord),
+        _ => Ok(()),
     }
-    Check::Passed
 }
 
 // "Refusal 10 covers any two claims that meet."
 fn claims_meet(c: Claims) -> bool
     ensures { result ≡ claims_meet c.writable c.readable c.inquirable }
 {
-    let writable = c.writable;
-    let readable = c.readable;
-    let inquirable = c.inquirable;
-    if writable.meets(readable) {
-        return true;
-    }
-    if writable.meets(inquirable) {
-        return true;
-    }
-    readable.meets(inquirable)
+    c.writable.meets(c.readable) || c.writable.meets(c.inquirable) || c.readable.meets(c.inquirable)
 }
 
 // 9, 10, of a program in range.
-fn check_enter(s: Standing, claims: Claims) -> Check
+fn check_enter(s: Standing, claims: Claims) -> Result<(), Refusal>
     ensures { result ≡ entry_check s claims }
 {
     if !parts::standings::is_absent(s) {
-        return Check::Failed(Refusal::NotAbsent);
+        return Err(Refusal::NotAbsent);
     }
     if claims_meet(claims) {
-        return Check::Failed(Refusal::ClaimsMeet);
+        return Err(Refusal::ClaimsMeet);
     }
-    Check::Passed
+    Ok(())
 }
 
 // 8, 11 to 13, 21, 14 and 15, of a program in range; for open and for drop.
-fn check_open(sets: &Sets, p: u8, s: Standing, item: u16, f: u16) -> Check
+fn check_open(sets: &Sets, p: u8, seat: Seat, file: u64) -> Result<(), Refusal>
     requires { ((1 ≤ p) × (p ≤ 32)) × IsStore sets.now }
-    ensures { result ≡ file_first f (unless_running s (unless_using item (claim_check_at sets.now p f))) }
+    ensures { result ≡ near_open sets.now p seat file }
 {
-    file_check(
-        f,
-        running_check(s, using_check(item, claim_check(sets, p, f))),
-    )
+    let f = file_of(file).ok_or(Refusal::OutOfRange)?;
+    busy_check(seat)?;
+    claim_check(sets, p, f)
 }
 
 // 8, 11 to 13, 21 and 16, of a program in range.
-fn check_close(sets: &Sets, p: u8, s: Standing, item: u16, f: u16) -> Check
+fn check_close(sets: &Sets, p: u8, seat: Seat, file: u64) -> Result<(), Refusal>
     requires { ((1 ≤ p) × (p ≤ 32)) × IsStore sets.now }
-    ensures { result ≡ file_first f (unless_running s (unless_using item (use_check_at sets.now p f))) }
+    ensures { result ≡ near_close sets.now p seat file }
 {
-    file_check(
-        f,
-        running_check(s, using_check(item, use_check(sets, p, f))),
-    )
+    let f = file_of(file).ok_or(Refusal::OutOfRange)?;
+    busy_check(seat)?;
+    use_check(sets, p, f)
 }
 
-// 8, 19, 11 to 13, 21 and 20, of a program in range that fetches the record n.
-fn check_fetch(sets: &Sets, p: u8, s: Standing, item: u16, f: u16, n: u16) -> Check
+// 8, 19, 11 to 13, 21 and 20, of a program in range.
+fn check_fetch(sets: &Sets, p: u8, seat: Seat, file: u64, item: u64) -> Result<(), Refusal>
     requires { ((1 ≤ p) × (p ≤ 32)) × IsStore sets.now }
-    ensures { result ≡ file_first f (record_first n (unless_running s (unless_using item (inquiry_check_at sets.now p f)))) }
+    ensures { result ≡ near_fetch sets.now p seat file item }
 {
-    let open = inquiry_check(sets, p, f);
-    file_check(
-        f,
-        record_check(n, running_check(s, using_check(item, open))),
-    )
+    let f = file_of(file).ok_or(Refusal::OutOfRange)?;
+    record_check(item)?;
+    busy_check(seat)?;
+    inquiry_check(sets, p, f)
+}
+
+// 11 to 13 and 20, of a program in range.
+fn check_return(seat: Seat) -> Result<(), Refusal>
+    ensures { result ≡ near_return seat }
+{
+    running_check(seat.standing)?;
+    return_check(seat.item)
 }
 
 // 11, 18, of a program in range.
-fn check_cancel(s: Standing) -> Check
-    ensures { result ≡ unless_stopped s Check.Passed }
+fn check_cancel(s: Standing) -> Result<(), Refusal>
+    ensures { result ≡ stopped_check s }
 {
     match s {
-        Standing::Absent => Check::Failed(Refusal::IsAbsent),
-        Standing::Running => Check::Failed(Refusal::IsRunning),
-        Standing::Waiting(_) => Check::Passed,
-        Standing::Held => Check::Passed,
+        Standing::Absent => Err(Refusal::IsAbsent),
+        Standing::Running => Err(Refusal::IsRunning),
+        Standing::Waiting(_) | Standing::Held => Ok(()),
     }
 }
 
-// The checks of the call with this verb, of a program in range that has this seat.
-pub fn check_call(
-    sets: &Sets,
-    p: u8,
-    seat: Seat,
-    f: u16,
-    n: u16,
-    verb: Verb,
-    claims: Claims,
-) -> Check
+// The checks of a call, of a program in range that has this seat.
+fn check_call(sets: &Sets, p: u8, seat: Seat, a: Asked) -> Result<(), Refusal>
     requires { ((1 ≤ p) × (p ≤ 32)) × IsStore sets.now }
-    ensures { result ≡ near_check sets.now p seat f n verb claims }
+    ensures { result ≡ near_check sets.now p seat a.verb a.file a.item a.claims }
 {
-    let s = seat.standing;
-    let item = seat.item;
-    match verb {
-        Verb::Enter => check_enter(s, claims),
-        Verb::Open => check_open(sets, p, s, item, f),
-        Verb::Close => check_close(sets, p, s, item, f),
-        Verb::Drop => check_open(sets, p, s, item, f),
-        Verb::Leave => running_check(s, Check::Passed),
-        Verb::Cancel => check_cancel(s),
-        Verb::Fetch => check_fetch(sets, p, s, item, f, n),
-        Verb::Return => running_check(s, return_check(item)),
+    match a.verb {
+        Verb::Enter => check_enter(seat.standing, a.claims),
+        Verb::Open | Verb::Drop => check_open(sets, p, seat, a.file),
+        Verb::Close => check_close(sets, p, seat, a.file),
+        Verb::Leave => running_check(seat.standing),
+        Verb::Cancel => check_cancel(seat.standing),
+        Verb::Fetch => check_fetch(sets, p, seat, a.file, a.item),
+        Verb::Return => check_return(seat),
     }
+}
+
+// The program of a call that no check refuses.
+pub fn check(sets: &Sets, rest: Rest, a: Asked) -> Result<u8, Refusal>
+    requires { IsStore sets.now }
+    ensures { result ≡ result_and (checked (board_of sets.now rest) (call_of a)) (Ok a.program) }
+{
+    let p = program_of(a.program).ok_or(Refusal::OutOfRange)?;
+    check_call(sets, p, store::seat_at(rest, p), a)?;
+    Ok(p)
 }

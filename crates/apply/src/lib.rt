@@ -1,8 +1,7 @@
 #![tactic(auto)]
 
 // The rules applied to a sound board, which is its sets, lent, and the rest: each of the eight calls, with checks 8 to 16 and 18 to 21.
-ghost use Rattle.std.specs.Prelude.{◌≡◌, true, ◌≤◌, ◌<◌, length};
-ghost use Rattle.rules.specs.declared.Check.{Check};
+ghost use Rattle.std.specs.Prelude.{◌≡◌, true, ◌≤◌, ◌<◌, length, Ok};
 ghost use Rattle.laws.specs.Lists.{names, padded};
 ghost use Rattle.rules.specs.Boards.{at, set_program, set_item};
 ghost use Rattle.rules.specs.Soundness.{sound};
@@ -12,12 +11,11 @@ ghost use Rattle.rules.specs.Calls.{count_cancel, withdrawn, cancel, call_with, 
 ghost use Rattle.theory.specs.Loose.{Good};
 ghost use Rattle.parts.specs.Entries.{IsEntries, no_entries};
 ghost use Rattle.store.specs.Sets.{IsStore};
-ghost use Rattle.store.specs.Store.{standing_at, board_of};
-ghost use Rattle.apply.specs.Replies.{ComesTo, Carries, InForm, entering, waiting_for};
+ghost use Rattle.store.specs.Store.{board_of};
+ghost use Rattle.apply.specs.Replies.{unordered, ComesTo, Carries, InForm, entering, waiting_for};
 
-use files::FileSet;
 use parts::entries::Entries;
-use rules::{Answer, Asked, Check, Claims, Program, Refusal, Standing, Verb, Word};
+use rules::{Answer, Asked, Claims, Program, Standing, Verb, Word};
 use search::{Order, Search};
 use settling::Progress;
 use store::sets::Sets;
@@ -35,41 +33,48 @@ pub struct Changed {
     pub order: Order,
 }
 
+impl Changed {
+    // With no order found on the way.
+    fn unordered(progress: Progress, answer: Answer) -> Changed
+        ensures { result ≡ unordered progress answer }
+    {
+        Changed {
+            progress,
+            answer,
+            order: Order::NONE,
+        }
+    }
+}
+
 // ---- enter
 
 // A program that enters, with nothing open.
 fn new_program(claims: Claims, s: Standing) -> Program
     ensures { result ≡ newcomer claims.writable claims.readable claims.inquirable s }
 {
-    let writable = claims.writable;
-    let readable = claims.readable;
-    let inquirable = claims.inquirable;
     Program {
-        writable,
-        readable,
-        inquirable,
-        writing: FileSet::EMPTY,
-        reading: FileSet::EMPTY,
-        inquiring: FileSet::EMPTY,
+        writable: claims.writable,
+        readable: claims.readable,
+        inquirable: claims.inquirable,
         standing: s,
-        file: 0,
-        item: 0,
+        ..Program::ABSENT
     }
 }
 
 // p runs, and the count of each waiting program goes up.
 fn put_running(sets: &mut Sets, rest: Rest, p: u8, claims: Claims) -> Rest
     requires { ((1 ≤ p) × (p ≤ 32)) × Good (board_of sets.old rest)
-        × (checked (board_of sets.old rest) (entering p claims) ≡ Check.Passed) × IsStore sets.old }
+        × (checked (board_of sets.old rest) (entering p claims) ≡ Ok tt) × IsStore sets.old }
     ensures result_after { board_of sets.new result
         ≡ admit (board_of sets.old rest) p claims.writable claims.readable claims.inquirable }
     ensures store { IsStore sets.new }
 {
     let runs = new_program(claims, Standing::Running);
-    let mut c = store::sets::put(sets, rest, p, runs);
-    let passed = settling::counts::tally(sets, c);
-    c.passed = passed;
-    c
+    let c = store::sets::put(sets, rest, p, runs);
+    Rest {
+        passed: settling::counts::tally(sets, c),
+        ..c
+    }
 }
 
 // p is held, at the end of the entry line.
@@ -81,11 +86,10 @@ fn put_held(sets: &mut Sets, rest: Rest, p: u8, claims: Claims) -> Rest
     ensures store { IsStore sets.new }
 {
     let held = new_program(claims, Standing::Held);
-    let line = rest.entry;
-    let longer = lines::append(line, p);
-    let mut c = store::sets::put(sets, rest, p, held);
-    c.entry = longer;
-    c
+    Rest {
+        entry: lines::append(rest.entry, p),
+        ..store::sets::put(sets, rest, p, held)
+    }
 }
 
 // p is held, and the waiter w, which eight have passed, is favoured: HELD, then FAVOUR.
@@ -98,7 +102,7 @@ fn hold_for(
     w: u8,
 ) -> Changed
     requires { ((1 ≤ p) × (p ≤ 32)) × Good (board_of sets.old rest)
-        × (checked (board_of sets.old rest) (entering p claims) ≡ Check.Passed) × ((1 ≤ w) × (w ≤ 32)) × IsStore sets.old
+        × (checked (board_of sets.old rest) (entering p claims) ≡ Ok tt) × ((1 ≤ w) × (w ≤ 32)) × IsStore sets.old
         × (lines.old ≡ no_entries) }
     ensures comes_to { ComesTo sets.new lines.new result
         (hold_for (board_of sets.old rest) p claims.writable claims.readable claims.inquirable w) }
@@ -107,24 +111,18 @@ fn hold_for(
     let c = put_held(sets, rest, p, claims);
     let held = replies::one_line(sets, c, lines, Word::Held, p, 0, 0);
     let progress = settling::favour_waiter(sets, lines, held, w);
-    let order = Order::NONE;
-    Changed {
-        progress,
-        answer: Answer::Held,
-        order,
-    }
+    Changed::unordered(progress, Answer::Held)
 }
 
 // Enter: with somebody favoured, p is held; with nobody favoured and a waiter whose count is 8, p is held and that waiter favoured;
 // otherwise p runs.
 fn do_enter(sets: &mut Sets, rest: Rest, lines: &mut Entries, p: u8, claims: Claims) -> Changed
     requires { ((1 ≤ p) × (p ≤ 32)) × Good (board_of sets.old rest)
-        × (checked (board_of sets.old rest) (entering p claims) ≡ Check.Passed) × IsStore sets.old × (lines.old ≡ no_entries) }
+        × (checked (board_of sets.old rest) (entering p claims) ≡ Ok tt) × IsStore sets.old × (lines.old ≡ no_entries) }
     ensures comes_to { ComesTo sets.new lines.new result (accepted (board_of sets.old rest) (entering p claims)) }
     ensures in_form { InForm sets.new lines.new result }
 {
-    let favoured = rest.favoured;
-    if favoured != 0 {
+    if rest.favoured != 0 {
         let c = put_held(sets, rest, p, claims);
         return replies::answered(sets, c, lines, Word::Held, p, 0, 0, Answer::Held);
     }
@@ -144,21 +142,20 @@ fn put_waiting(sets: &Sets, rest: Rest, p: u8, f: u16, g: u16, n: u16) -> Rest
         × IsStore sets.now }
     ensures { board_of sets.now result ≡ waiting_for (board_of sets.now rest) p f g n }
 {
-    let line = rest.waiting;
-    let longer = lines::append(line, p);
-    let t = Seat {
+    let seat = Seat {
         standing: Standing::Waiting(f),
         file: g,
         item: n,
     };
-    let mut c = store::put_seat(rest, p, t);
-    c.waiting = longer;
-    c
+    Rest {
+        waiting: lines::append(rest.waiting, p),
+        ..store::put_seat(rest, p, seat)
+    }
 }
 
 // Open: WAIT if another program has f in conflicting use; UNSAFE if no order comes back with f given; otherwise GIVEN.
 fn do_open(sets: &mut Sets, rest: Rest, lines: &mut Entries, p: u8, f: u16) -> Changed
-    requires { ((1 ≤ p) × (p ≤ 32)) × Good (board_of sets.old rest) × (open_check (board_of sets.old rest) p f ≡ Check.Passed)
+    requires { ((1 ≤ p) × (p ≤ 32)) × Good (board_of sets.old rest) × (open_check (board_of sets.old rest) p f ≡ Ok tt)
         × IsStore sets.old × (lines.old ≡ no_entries) }
     ensures comes_to { ComesTo sets.new lines.new result (open_file (board_of sets.old rest) p f) }
     ensures in_form { InForm sets.new lines.new result }
@@ -179,7 +176,7 @@ fn do_open(sets: &mut Sets, rest: Rest, lines: &mut Entries, p: u8, f: u16) -> C
     let at = order.at;
     let given = Order {
         kind: Search::Found(n),
-        at: at,
+        at,
     };
     replies::given(sets, rest, lines, p, f, given)
 }
@@ -192,18 +189,17 @@ fn put_record(sets: &Sets, rest: Rest, p: u8, f: u16, n: u16) -> Rest
     ensures { board_of sets.now result
         ≡ set_program (board_of sets.now rest) p (set_item (at (board_of sets.now rest) p) f n) }
 {
-    let s = store::standing_at(rest, p);
-    let t = Seat {
-        standing: s,
+    let seat = Seat {
+        standing: store::standing_at(rest, p),
         file: f,
         item: n,
     };
-    store::put_seat(rest, p, t)
+    store::put_seat(rest, p, seat)
 }
 
 // Fetch: "It waits (WAIT) while another has that record, else gets it (GIVEN)."
 fn do_fetch(sets: &Sets, rest: Rest, lines: &mut Entries, p: u8, f: u16, n: u16) -> Changed
-    requires { ((1 ≤ p) × (p ≤ 32)) × Good (board_of sets.now rest) × (fetch_check (board_of sets.now rest) p f n ≡ Check.Passed)
+    requires { ((1 ≤ p) × (p ≤ 32)) × Good (board_of sets.now rest) × (fetch_check (board_of sets.now rest) p f n ≡ Ok tt)
         × IsStore sets.now × (lines.old ≡ no_entries) }
     ensures comes_to { ComesTo sets.now lines.new result (fetch (board_of sets.now rest) p f n) }
     ensures entries { IsEntries lines.new × Carries (board_of sets.now result.progress.rest) result.order }
@@ -220,7 +216,7 @@ fn do_fetch(sets: &Sets, rest: Rest, lines: &mut Entries, p: u8, f: u16, n: u16)
 
 // Return: the record in use is in use no longer, and "the oldest waiter for the record gets it (GIVEN), then the board settles".
 fn do_return(sets: &mut Sets, rest: Rest, lines: &mut Entries, p: u8) -> Changed
-    requires { ((1 ≤ p) × (p ≤ 32)) × Good (board_of sets.old rest) × (return_check (board_of sets.old rest) p ≡ Check.Passed)
+    requires { ((1 ≤ p) × (p ≤ 32)) × Good (board_of sets.old rest) × (return_check (board_of sets.old rest) p ≡ Ok tt)
         × IsStore sets.old × (lines.old ≡ no_entries) }
     ensures comes_to { ComesTo sets.new lines.new result (return_item (board_of sets.old rest) p) }
     ensures in_form { InForm sets.new lines.new result }
@@ -234,7 +230,7 @@ fn do_return(sets: &mut Sets, rest: Rest, lines: &mut Entries, p: u8) -> Changed
 
 // Close: f is open no longer.
 fn do_close(sets: &mut Sets, rest: Rest, lines: &mut Entries, p: u8, f: u16) -> Changed
-    requires { ((1 ≤ p) × (p ≤ 32)) × Good (board_of sets.old rest) × (close_check (board_of sets.old rest) p f ≡ Check.Passed)
+    requires { ((1 ≤ p) × (p ≤ 32)) × Good (board_of sets.old rest) × (close_check (board_of sets.old rest) p f ≡ Ok tt)
         × IsStore sets.old × (lines.old ≡ no_entries) }
     ensures comes_to { ComesTo sets.new lines.new result (close_file (board_of sets.old rest) p f) }
     ensures in_form { InForm sets.new lines.new result }
@@ -247,7 +243,7 @@ fn do_close(sets: &mut Sets, rest: Rest, lines: &mut Entries, p: u8, f: u16) -> 
 
 // Drop: f leaves p's claim.
 fn do_drop(sets: &mut Sets, rest: Rest, lines: &mut Entries, p: u8, f: u16) -> Changed
-    requires { ((1 ≤ p) × (p ≤ 32)) × Good (board_of sets.old rest) × (open_check (board_of sets.old rest) p f ≡ Check.Passed)
+    requires { ((1 ≤ p) × (p ≤ 32)) × Good (board_of sets.old rest) × (open_check (board_of sets.old rest) p f ≡ Ok tt)
         × IsStore sets.old × (lines.old ≡ no_entries) }
     ensures comes_to { ComesTo sets.new lines.new result (drop_file (board_of sets.old rest) p f) }
     ensures in_form { InForm sets.new lines.new result }
@@ -263,26 +259,24 @@ fn counted(sets: &Sets, rest: Rest) -> Rest
     requires { rest.leaves ≤ 32 }
     ensures { board_of sets.now result ≡ count_leave (board_of sets.now rest) }
 {
-    let favoured = rest.favoured;
-    if favoured == 0 {
+    if rest.favoured == 0 {
         return rest;
     }
-    let n = rest.leaves;
-    let mut c = rest;
-    c.leaves = n + 1;
-    c
+    Rest {
+        leaves: rest.leaves + 1,
+        ..rest
+    }
 }
 
 // Leave: all its files and claims go; "a leave returns it too", the record in use.
 fn do_leave(sets: &mut Sets, rest: Rest, lines: &mut Entries, p: u8) -> Changed
-    requires { ((1 ≤ p) × (p ≤ 32)) × Good (board_of sets.old rest) × (leave_check (board_of sets.old rest) p ≡ Check.Passed)
+    requires { ((1 ≤ p) × (p ≤ 32)) × Good (board_of sets.old rest) × (leave_check (board_of sets.old rest) p ≡ Ok tt)
         × IsStore sets.old × (lines.old ≡ no_entries) }
     ensures comes_to { ComesTo sets.new lines.new result (leave (board_of sets.old rest) p) }
     ensures in_form { InForm sets.new lines.new result }
 {
     let seat = store::seat_at(rest, p);
-    let gone = Program::ABSENT;
-    let left = store::sets::put(sets, rest, p, gone);
+    let left = store::sets::put(sets, rest, p, Program::ABSENT);
     let c = counted(sets, left);
     replies::handed_on(sets, c, lines, p, seat.file, seat.item)
 }
@@ -294,13 +288,13 @@ fn cancel_counted(sets: &Sets, rest: Rest, p: u8) -> Rest
     requires { rest.leaves ≤ 32 }
     ensures { board_of sets.now result ≡ count_cancel (board_of sets.now rest) p }
 {
-    let favoured = rest.favoured;
-    if favoured == p {
-        let mut c = rest;
-        c.favoured = 0;
-        c.initial = 0;
-        c.leaves = 0;
-        return c;
+    if rest.favoured == p {
+        return Rest {
+            favoured: 0,
+            initial: 0,
+            leaves: 0,
+            ..rest
+        };
     }
     counted(sets, rest)
 }
@@ -311,89 +305,53 @@ fn withdraw(sets: &mut Sets, rest: Rest, p: u8, s: Standing) -> Rest
     ensures result_after { board_of sets.new result ≡ withdrawn (board_of sets.old rest) p s }
     ensures store { IsStore sets.new }
 {
-    let gone = Program::ABSENT;
     match s {
-        Standing::Absent => rest,
-        Standing::Running => rest,
+        Standing::Absent | Standing::Running => rest,
         Standing::Waiting(_) => {
-            let line = rest.waiting;
-            let waiters = lines::remove(line, p);
-            let mut c = store::sets::put(sets, rest, p, gone);
-            c.waiting = waiters;
-            let i = (p - 1) as usize;
-            c.passed[i] = 0;
+            let mut c = store::sets::put(sets, rest, p, Program::ABSENT);
+            c.waiting = lines::remove(rest.waiting, p);
+            c.passed[(p - 1) as usize] = 0;
             cancel_counted(sets, c, p)
         }
-        Standing::Held => {
-            let line = rest.entry;
-            let held = lines::remove(line, p);
-            let mut c = store::sets::put(sets, rest, p, gone);
-            c.entry = held;
-            c
-        }
+        Standing::Held => Rest {
+            entry: lines::remove(rest.entry, p),
+            ..store::sets::put(sets, rest, p, Program::ABSENT)
+        },
     }
 }
 
-// Cancel: the program, which has this standing, goes with its files and claims.
-fn do_cancel(sets: &mut Sets, rest: Rest, lines: &mut Entries, p: u8, s: Standing) -> Changed
-    requires { ((1 ≤ p) × (p ≤ 32)) × Good (board_of sets.old rest) × (cancel_check (board_of sets.old rest) p ≡ Check.Passed)
-        × (s ≡ standing_at rest p) × IsStore sets.old × (lines.old ≡ no_entries) }
+// Cancel: the program goes, with its files and claims.
+fn do_cancel(sets: &mut Sets, rest: Rest, lines: &mut Entries, p: u8) -> Changed
+    requires { ((1 ≤ p) × (p ≤ 32)) × Good (board_of sets.old rest) × (cancel_check (board_of sets.old rest) p ≡ Ok tt)
+        × IsStore sets.old × (lines.old ≡ no_entries) }
     ensures comes_to { ComesTo sets.new lines.new result (cancel (board_of sets.old rest) p) }
     ensures in_form { InForm sets.new lines.new result }
 {
+    let s = store::standing_at(rest, p);
     let c = withdraw(sets, rest, p, s);
     replies::done(sets, c, lines, p, 0)
 }
 
 // ---- any call
 
-// The call with this verb, of a program with this standing, once its checks have passed.
-fn accept(
-    sets: &mut Sets,
-    rest: Rest,
-    lines: &mut Entries,
-    p: u8,
-    s: Standing,
-    f: u16,
-    n: u16,
-    verb: Verb,
-    claims: Claims,
-) -> Changed
+// The call that is asked for, of the program p, once its checks have passed.
+fn accept(sets: &mut Sets, rest: Rest, lines: &mut Entries, p: u8, a: Asked) -> Changed
     requires { ((1 ≤ p) × (p ≤ 32)) × Good (board_of sets.old rest)
-        × (checked (board_of sets.old rest) (call_with verb p f n claims) ≡ Check.Passed) × (s ≡ standing_at rest p)
+        × (checked (board_of sets.old rest) (call_with a.verb p a.file a.item a.claims) ≡ Ok tt)
         × IsStore sets.old × (lines.old ≡ no_entries) }
     ensures comes_to { ComesTo sets.new lines.new result
-        (accepted (board_of sets.old rest) (call_with verb p f n claims)) }
+        (accepted (board_of sets.old rest) (call_with a.verb p a.file a.item a.claims)) }
     ensures in_form { InForm sets.new lines.new result }
 {
-    match verb {
-        Verb::Enter => do_enter(sets, rest, lines, p, claims),
-        Verb::Open => do_open(sets, rest, lines, p, f),
-        Verb::Close => do_close(sets, rest, lines, p, f),
-        Verb::Drop => do_drop(sets, rest, lines, p, f),
+    match a.verb {
+        Verb::Enter => do_enter(sets, rest, lines, p, a.claims),
+        Verb::Open => do_open(sets, rest, lines, p, a.file as u16),
+        Verb::Close => do_close(sets, rest, lines, p, a.file as u16),
+        Verb::Drop => do_drop(sets, rest, lines, p, a.file as u16),
         Verb::Leave => do_leave(sets, rest, lines, p),
-        Verb::Cancel => do_cancel(sets, rest, lines, p, s),
-        Verb::Fetch => do_fetch(sets, rest, lines, p, f, n),
+        Verb::Cancel => do_cancel(sets, rest, lines, p),
+        Verb::Fetch => do_fetch(sets, rest, lines, p, a.file as u16, a.item as u16),
         Verb::Return => do_return(sets, rest, lines, p),
-    }
-}
-
-// The call of a program in range: its checks, then the call.
-fn call_by(sets: &mut Sets, rest: Rest, lines: &mut Entries, p: u8, a: Asked) -> Changed
-    requires { ((1 ≤ p) × (p ≤ 32)) × (p ≡ a.program) × Good (board_of sets.old rest) × IsStore sets.old × (lines.old ≡ no_entries) }
-    ensures comes_to { ComesTo sets.new lines.new result (apply (board_of sets.old rest) (call_of a)) }
-    ensures in_form { InForm sets.new lines.new result }
-{
-    let f = checks::file_of(a.file);
-    let n = checks::record_of(a.item);
-    let claims = a.claims;
-    let verb = a.verb;
-    let seat = store::seat_at(rest, p);
-    let s = seat.standing;
-    let check = checks::check_call(sets, p, seat, f, n, verb, claims);
-    match check {
-        Check::Passed => accept(sets, rest, lines, p, s, f, n, verb, claims),
-        Check::Failed(refusal) => replies::refused(sets, rest, lines, refusal),
     }
 }
 
@@ -403,9 +361,8 @@ pub fn call(sets: &mut Sets, rest: Rest, lines: &mut Entries, a: Asked) -> Chang
     ensures comes_to { ComesTo sets.new lines.new result (apply (board_of sets.old rest) (call_of a)) }
     ensures in_form { InForm sets.new lines.new result }
 {
-    let p = checks::program_of(a.program);
-    if p == 0 {
-        return replies::refused(sets, rest, lines, Refusal::OutOfRange);
+    match checks::check(sets, rest, a) {
+        Ok(p) => accept(sets, rest, lines, p, a),
+        Err(refusal) => replies::refused(sets, rest, lines, refusal),
     }
-    call_by(sets, rest, lines, p, a)
 }

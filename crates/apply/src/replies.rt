@@ -54,12 +54,7 @@ pub fn answered(
     ensures entries { IsEntries lines.new × Carries (board_of sets.now result.progress.rest) result.order }
 {
     let progress = one_line(sets, rest, lines, word, p, f, n);
-    let order = Order::NONE;
-    Changed {
-        progress,
-        answer,
-        order,
-    }
+    Changed::unordered(progress, answer)
 }
 
 // GIVEN, with the order that was found for it.
@@ -83,12 +78,7 @@ pub fn refused(sets: &Sets, rest: Rest, lines: &Entries, refusal: Refusal) -> Ch
     ensures comes_to { ComesTo sets.now lines.now result (refuse (board_of sets.now rest) refusal) }
     ensures carries { Carries (board_of sets.now result.progress.rest) result.order }
 {
-    let order = Order::NONE;
-    Changed {
-        progress: Progress { rest, count: 0 },
-        answer: Answer::Refuse(refusal),
-        order,
-    }
+    Changed::unordered(Progress { rest, count: 0 }, Answer::Refuse(refusal))
 }
 
 // DONE, then settle.
@@ -98,13 +88,7 @@ pub fn done(sets: &mut Sets, rest: Rest, lines: &mut Entries, p: u8, f: u16) -> 
     ensures in_form { InForm sets.new lines.new result }
 {
     let w = one_line(sets, rest, lines, Word::Done, p, f, 0);
-    let progress = settling::settled(sets, lines, w);
-    let order = Order::NONE;
-    Changed {
-        progress,
-        answer: Answer::Done,
-        order,
-    }
+    Changed::unordered(settling::settled(sets, lines, w), Answer::Done)
 }
 
 // DONE, then the record n of f is handed on, then settle.
@@ -115,12 +99,5 @@ pub fn handed_on(sets: &mut Sets, rest: Rest, lines: &mut Entries, p: u8, f: u16
 {
     let w = one_line(sets, rest, lines, Word::Done, p, 0, 0);
     let h = settling::hand_on(sets, lines, w, f, n);
-    let progress = settling::settled(sets, lines, h);
-    let answer = Answer::Done;
-    let order = Order::NONE;
-    Changed {
-        progress,
-        answer,
-        order,
-    }
+    Changed::unordered(settling::settled(sets, lines, h), Answer::Done)
 }

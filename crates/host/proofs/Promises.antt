@@ -10,11 +10,11 @@ use lib.Dec.{eqb, leb}
 use lib.ListN.{length, get_or, take, drop, length-append, get_or-append}
 use lib.Seq.{get_or-append-add, get_or-take, get_or-drop, length-take-le}
 use borrow.Author.Tests.{eq-eqb, leb-true}
+use Rattle.std.specs.Prelude.{Err}
 use Rattle.laws.specs.Tests.{by_test, never, and_right, not_true}
 use Rattle.files.specs.Sets.{no_files}
 use Rattle.rules.specs.declared.Board.{Board}
 use Rattle.rules.specs.declared.Refusal.{Refusal}
-use Rattle.rules.specs.declared.Check.{Check}
 use Rattle.rules.specs.declared.Answer.{Answer}
 use Rattle.rules.specs.declared.Line.{Line}
 use Rattle.rules.specs.declared.Reply.{Reply}
@@ -80,7 +80,7 @@ writes_nothing b line journal place k = by_test (sound b)
 
 -- ══ Refusal 8 ══
 
-not_eight_lem : (r : Refusal) → not_eight (Check.Failed r) ≡ true → number r ≢ 8
+not_eight_lem : (r : Refusal) → not_eight (Err r) ≡ true → number r ≢ 8
 not_eight_lem r h e = never (eq-eqb (number r) 8 e) (not_true (eqb (number r) 8) h)
 
 of_line_lem : (r : Refusal) → of_line (Reading.Refused r) ≡ true → number r ≢ 8
@@ -106,7 +106,7 @@ line_never_out_of_range b line journal place e =
     (λ r t. of_line_lem r (ap of_line (sym t) ∙ line_reads line) (rw (s, f, t) at e))))
     (λ s. let z : 1 ≡ 8 = rw s at e in omega (arith, z))
 
-empty_out : (c : Call) → checked empty_board c ≡ Check.Failed Refusal.OutOfRange → refusal_of (direct empty_board c).answer ≡ 8
+empty_out : (c : Call) → checked empty_board c ≡ Err Refusal.OutOfRange → refusal_of (direct empty_board c).answer ≡ 8
 unfolding worked worked_from refuse reply
 empty_out c h = ap (λ (q : Reply). refusal_of q.answer) (direct_is_apply empty_board c (worked-sound [])
     ∙ apply-refused empty_board c Refusal.OutOfRange h)

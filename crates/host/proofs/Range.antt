@@ -5,15 +5,15 @@ use mathlib.Core.Path.{◌≡◌, refl}
 use mathlib.Core.Bool.{Bool, true, false, not, ◌&&◌}
 use mathlib.Core.List.{List}
 use lib.Dec.{eqb, leb}
+use Rattle.std.specs.Prelude.{Ok, Err}
 use Rattle.files.specs.Sets.{is_file, member}
 use Rattle.rules.specs.declared.Standing.{Standing}
 use Rattle.rules.specs.declared.Board.{Board}
 use Rattle.rules.specs.declared.Refusal.{Refusal}
-use Rattle.rules.specs.declared.Check.{Check}
 use Rattle.rules.specs.Boards.{is_program, is_absent, at, claims, has_open}
 use Rattle.rules.specs.Replies.{number}
 use Rattle.rules.specs.Modes.{claims_meet}
-use Rattle.rules.specs.Checks.{refuse_if, unless_running, unless_using, unless_stopped, is_record}
+use Rattle.rules.specs.Checks.{Check, refuse_if, unless_running, unless_using, unless_stopped, is_record}
 use Rattle.rules.specs.Checks.{enter_check, open_check, close_check, fetch_check, return_check, leave_check, cancel_check}
 use Rattle.rules.specs.Calls.{Call, Enter, Open, Close, Drop, Leave, Cancel, Fetch, Return, checked}
 use Rattle.request.specs.declared.Reading.{Reading}
@@ -46,8 +46,8 @@ line_reads l =
 
 -- passed, or failed by another check than 8
 abbrev pub not_eight : Check → Bool
-not_eight Check.Passed = true
-not_eight (Check.Failed r) = not (eqb (number r) 8)
+not_eight (Ok tt) = true
+not_eight (Err r) = not (eqb (number r) 8)
 
 record Other (k : Check) : Type 0 where
   so : not_eight k ≡ true
@@ -55,7 +55,7 @@ record Other (k : Check) : Type 0 where
 other : {k : Check} → not_eight k ≡ true → Other k
 other e = record { so = e }
 
-unless_it : (t : Bool) (r : Refusal) {k : Check} → not_eight (Check.Failed r) ≡ true → Other k → Other (refuse_if t r k)
+unless_it : (t : Bool) (r : Refusal) {k : Check} → not_eight (Err r) ≡ true → Other k → Other (refuse_if t r k)
 unless_it true r f g = other f
 unless_it false r f g = g
 

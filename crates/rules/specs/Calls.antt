@@ -1,6 +1,6 @@
 -- The eight calls: what each does once its checks have passed, and the direct call with its checks.
 -- Assumes nothing.
-use Rattle.std.specs.Prelude.{ℕ, ◌+◌, cond, [], ◌∷◌, ◌++◌, eqb}
+use Rattle.std.specs.Prelude.{ℕ, ◌+◌, cond, [], ◌∷◌, ◌++◌, eqb, Ok, Err}
 use Rattle.files.specs.declared.FileSet.{FileSet}
 use Rattle.files.specs.Sets.{no_files}
 use Rattle.rules.specs.declared.Standing.{Standing}
@@ -9,7 +9,6 @@ use Rattle.rules.specs.declared.Board.{Board}
 use Rattle.rules.specs.declared.Verb.{Verb}
 use Rattle.rules.specs.declared.Claims.{Claims}
 use Rattle.rules.specs.declared.Asked.{Asked}
-use Rattle.rules.specs.declared.Check.{Check}
 use Rattle.rules.specs.declared.Answer.{Answer}
 use Rattle.rules.specs.declared.Word.{Word}
 use Rattle.rules.specs.declared.Reply.{Reply}
@@ -21,7 +20,7 @@ use Rattle.rules.specs.Orders.{with_given, in_use, safe, taken}
 use Rattle.rules.specs.Soundness.{sound}
 use Rattle.rules.specs.Settling.{line, line_of, Step, still, overdue, favour, hand_on, settle}
 use Rattle.rules.specs.Replies.{reply, refuse, refuse_unsound}
-use Rattle.rules.specs.Checks.{enter_check, open_check, close_check, leave_check, cancel_check, fetch_check, return_check}
+use Rattle.rules.specs.Checks.{Check, enter_check, open_check, close_check, leave_check, cancel_check, fetch_check, return_check}
 
 -- ---- what an accepted call does
 
@@ -211,8 +210,8 @@ accepted b (Return p) = return_item b p
 
 -- the reply unless refused
 abbrev pub unless : Board → Check → Reply → Reply
-unless b Check.Passed r = r
-unless b (Check.Failed n) r = refuse b n
+unless b (Ok tt) r = r
+unless b (Err n) r = refuse b n
 
 -- the rules applied to a board: checks 8 to 16 and 18 to 21, then the call
 unfoldable pub apply : Board → Call → Reply

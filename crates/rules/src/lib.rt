@@ -108,13 +108,6 @@ pub enum Refusal {
     HasRecord,
 }
 
-// Whether the checks of a call refuse it.
-#[derive(Clone, Copy)]
-pub enum Check {
-    Passed,
-    Failed(Refusal),
-}
-
 // What a call answers.
 #[derive(Clone, Copy)]
 pub enum Answer {

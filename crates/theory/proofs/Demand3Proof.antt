@@ -1,12 +1,11 @@
 -- The proof of demand 3: `demand3`.
 -- Assumes nothing.
-use Rattle.std.specs.Prelude.{ℕ, suc, ◌≤◌, ◌+◌, ◌≡◌, refl, ◌↔◌, ◌≢◌, ◌⊎◌, true, false, List, [], ◌∷◌, ◌++◌}
+use Rattle.std.specs.Prelude.{ℕ, suc, ◌≤◌, ◌+◌, ◌≡◌, refl, ◌↔◌, ◌≢◌, ◌⊎◌, true, false, List, [], ◌∷◌, ◌++◌, Ok}
 use Rattle.std.proofs.Common.{arith, sym, ◌∙◌, ap, ap₂, subst, inl, inr, ⊎_elim, append-nil, append_assoc}
 use lib.ListN.{length}
 use Rattle.laws.specs.Tests.{by_test, never}
 use Rattle.rules.specs.declared.Program.{Program}
 use Rattle.rules.specs.declared.Board.{Board}
-use Rattle.rules.specs.declared.Check.{Check}
 use Rattle.rules.specs.declared.Answer.{Answer}
 use Rattle.rules.specs.declared.Word.{Word}
 use Rattle.rules.specs.declared.Line.{Line}
@@ -102,7 +101,7 @@ through-one xs (u ∷ us) vs ys c p e t k =
 -- ── Cancels ──
 
 -- The call that cancels p.
-cancelled_is : (b : Board) (c : Call) (p : ℕ) → p ≢ 0 → p ≡ cancelled_by b c → (c ≡ Cancel p) × (checked b c ≡ Check.Passed)
+cancelled_is : (b : Board) (c : Call) (p : ℕ) → p ≢ 0 → p ≡ cancelled_by b c → (c ≡ Cancel p) × (checked b c ≡ Ok tt)
 cancelled_is b (Enter q v w j) p z d = absurd (z (d ∙ none_counted (checked b (Enter q v w j))))
 cancelled_is b (Fetch q f r) p z d = absurd (z (d ∙ none_counted (checked b (Fetch q f r))))
 cancelled_is b (Return q) p z d = absurd (z (d ∙ none_counted (checked b (Return q))))
@@ -121,7 +120,7 @@ own_cancel xs es c p z v d w = let (e, k) = cancelled_is (worked xs) c p z d in 
   split = ap (◌∷ es) e;
   that_wait = λ us vs k. through-none xs us vs p v k;
   accepted = subst (λ l. Accepted l (Cancel p)) (sym (append-nil xs)) (ap (λ (r : Reply). refused r.answer)
-      (apply-accepted (worked xs) (Cancel p) (subst (λ h. checked (worked xs) h ≡ Check.Passed) e k)) ∙ cancel_answer (worked xs) p);
+      (apply-accepted (worked xs) (Cancel p) (subst (λ h. checked (worked xs) h ≡ Ok tt) e k)) ∙ cancel_answer (worked xs) p);
   wait-over = ap (λ h. is_waiting (at (worked (xs ++ (h ∷ []))) p).standing) (sym e)
       ∙ ap (λ b. is_waiting (at b p).standing) (worked_snoc xs c) ∙ w;
 }

@@ -1,5 +1,5 @@
 -- 02, CR 6: what specs/Digraph states, proved; and that on a sound board no file that is waited for can be given. Assumes nothing.
-use Rattle.std.specs.Prelude.{ℕ, ◌≡◌, refl, ◌↔◌, ◌≢◌, Bool, true, false, not, cond, ◌&&◌, List, [], ◌∷◌, eqb, get_or}
+use Rattle.std.specs.Prelude.{ℕ, ◌≡◌, refl, ◌↔◌, ◌≢◌, Bool, true, false, not, cond, ◌&&◌, List, [], ◌∷◌, eqb, get_or, Ok, Err}
 use Rattle.std.proofs.Common.{arith, sym, ◌∙◌, ap, ap₂, subst}
 use Rattle.std.proofs.Math.Option.{none}
 use mathlib.Core.List.Memᴰ
@@ -7,7 +7,7 @@ use Rattle.std.proofs.lemmas.Bool.{eqb-false}
 use Rattle.laws.specs.Tests.{by_test, never, and_left, and_right, and_both, no_true, not_true, true_not, not_of, by_option}
 use Rattle.files.specs.declared.FileSet.{FileSet}
 use Rattle.rules.specs.declared.Board.{Board}
-use Rattle.rules.specs.declared.Check.{Check}
+use Rattle.rules.specs.Checks.{Check}
 use Rattle.rules.specs.declared.Word.{Word}
 use Rattle.rules.specs.declared.Reply.{Reply}
 use Rattle.laws.specs.Lists.{found, padded, listed}
@@ -149,13 +149,13 @@ waiter_loop b p e c w z =
 abbrev unsafe_in : Reply → Bool
 unsafe_in r = is_unsafe r.answer
 
-accepted_unsafe : (b : Board) (k : Check) (r : Reply) → unsafe_in (unless b k r) ≡ true → (k ≡ Check.Passed) × (unsafe_in r ≡ true)
+accepted_unsafe : (b : Board) (k : Check) (r : Reply) → unsafe_in (unless b k r) ≡ true → (k ≡ Ok tt) × (unsafe_in r ≡ true)
 unfolding refuse reply
-accepted_unsafe b Check.Passed r e = (refl, e)
-accepted_unsafe b (Check.Failed n) r e = never {t = false} e refl
+accepted_unsafe b (Ok tt) r e = (refl, e)
+accepted_unsafe b (Err n) r e = never {t = false} e refl
 
 direct_unsafe : (b : Board) (c : Call) → unsafe_in (direct b c) ≡ true
-    → (direct b c ≡ accepted b c) × (checked b c ≡ Check.Passed) × (unsafe_in (accepted b c) ≡ true)
+    → (direct b c ≡ accepted b c) × (checked b c ≡ Ok tt) × (unsafe_in (accepted b c) ≡ true)
 unfolding direct apply refuse_unsound
 direct_unsafe b c e = by_test (sound b)
     (λ t. let (k, u) = accepted_unsafe b (checked b c) (accepted b c) (rw t at e) in

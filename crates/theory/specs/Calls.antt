@@ -1,6 +1,6 @@
 -- One call keeps a board sound, and what its lines say.
 -- Assumes nothing.
-use Rattle.std.specs.Prelude.{ℕ, suc, ◌≤◌, ◌+◌, ◌-◌, ◌≡◌, refl, ◌≢◌, ◌⊎◌, Bool, true, false, not, cond, ◌&&◌, List, [], ◌∷◌, ◌++◌, eqb, leb, length}
+use Rattle.std.specs.Prelude.{ℕ, suc, ◌≤◌, ◌+◌, ◌-◌, ◌≡◌, refl, ◌≢◌, ◌⊎◌, Bool, true, false, not, cond, ◌&&◌, List, [], ◌∷◌, ◌++◌, eqb, leb, length, Ok, Err}
 use Rattle.std.specs.Prelude.{take, drop, replicate}
 use Rattle.std.proofs.Common.{arith, sym, ◌∙◌, ap, ap₂, subst, inl, inr, ⊎_elim, length-append, eqb-true, eq-eqb, ne_eqb, leb-true}
 use Rattle.std.proofs.Math.Option.{none, some}
@@ -14,7 +14,6 @@ use Rattle.rules.specs.declared.Standing.{Standing}
 use Rattle.rules.specs.declared.Program.{Program}
 use Rattle.rules.specs.declared.Board.{Board}
 use Rattle.rules.specs.declared.Refusal.{Refusal}
-use Rattle.rules.specs.declared.Check.{Check}
 use Rattle.rules.specs.declared.Answer.{Answer}
 use Rattle.rules.specs.declared.Word.{Word}
 use Rattle.rules.specs.declared.Line.{Line}
@@ -27,7 +26,7 @@ use Rattle.rules.specs.Boards.{passed_by, set_program, set_waiting, set_favour, 
 use Rattle.rules.specs.Orders.{with_given, in_use, safe, can_give, taken}
 use Rattle.rules.specs.Settling.{line, line_of, hand_on, Step, and_then, favour, overdue, settle}
 use Rattle.rules.specs.Replies.{blank, lines_of, is_admit, admits, reply, refuse}
-use Rattle.rules.specs.Checks.{refuse_if, unless_running, unless_using, unless_stopped, enter_check, open_check, close_check, leave_check}
+use Rattle.rules.specs.Checks.{Check, refuse_if, unless_running, unless_using, unless_stopped, enter_check, open_check, close_check, leave_check}
 use Rattle.rules.specs.Checks.{cancel_check}
 use Rattle.rules.specs.Checks.{is_record, fetch_check, return_check}
 use Rattle.rules.specs.Calls.{newcomer, admit, hold, hold_for}
@@ -123,18 +122,18 @@ plain b c ls g m n x y z a t u = record {
 
 -- ── Checks ──
 
-pub failed_passed : {C : Type 0} (r : Refusal) → Check.Failed r ≡ Check.Passed → C
+pub failed_passed : {C : Type 0} (r : Refusal) → Err r ≡ Ok (tt {0}) → C
 failed_passed r e = absurd (let z : ◌≡◌ {A = ℕ} 0 1 = cc in omega arith)
 
-pub by_check : {C : Type 0} (k : Check) → (k ≡ Check.Passed → C) → ((r : Refusal) → k ≡ Check.Failed r → C) → C
-by_check Check.Passed f g = f refl
-by_check (Check.Failed r) f g = g r refl
+pub by_check : {C : Type 0} (k : Check) → (k ≡ Ok tt → C) → ((r : Refusal) → k ≡ Err r → C) → C
+by_check (Ok tt) f g = f refl
+by_check (Err r) f g = g r refl
 
-if_passed : (t : Bool) (r : Refusal) (k : Check) → refuse_if t r k ≡ Check.Passed → (t ≡ false) × (k ≡ Check.Passed)
+if_passed : (t : Bool) (r : Refusal) (k : Check) → refuse_if t r k ≡ Ok tt → (t ≡ false) × (k ≡ Ok tt)
 if_passed true r k e = failed_passed r e
 if_passed false r k e = (refl, e)
 
-running_passed : (s : Standing) (k : Check) → unless_running s k ≡ Check.Passed → (s ≡ Standing.Running) × (k ≡ Check.Passed)
+running_passed : (s : Standing) (k : Check) → unless_running s k ≡ Ok tt → (s ≡ Standing.Running) × (k ≡ Ok tt)
 running_passed Standing.Absent k e = failed_passed Refusal.IsAbsent e
 running_passed Standing.Held k e = failed_passed Refusal.IsHeld e
 running_passed (Standing.Waiting f) k e = failed_passed Refusal.IsWaiting e
@@ -156,12 +155,12 @@ pub record RunsMay (b : Board) (p : ℕ) : Type 0 where
   pub is : Is p
   pub runs : stands b.programs p ≡ Standing.Running
 
-pub enter_may : (b : Board) (p : ℕ) (v q j : FileSet) → enter_check b p v q j ≡ Check.Passed → EnterMay b p v q j
+pub enter_may : (b : Board) (p : ℕ) (v q j : FileSet) → enter_check b p v q j ≡ Ok tt → EnterMay b p v q j
 unfolding enter_check
 enter_may b p v q j e =
     let (a, e₁) = if_passed (not (is_program p)) Refusal.OutOfRange _ e in
     let (s, e₂) = if_passed (not (is_absent (at b p).standing)) Refusal.NotAbsent _ e₁ in
-    let (m, _) = if_passed (claims_meet v q j) Refusal.ClaimsMeet Check.Passed e₂ in
+    let (m, _) = if_passed (claims_meet v q j) Refusal.ClaimsMeet (Ok tt) e₂ in
     record {
       is = is_of p (not_of (is_program p) a);
       absent = absent_is (at b p).standing
@@ -173,14 +172,14 @@ enter_may b p v q j e =
 pub claims_file : (x : Program) (f : ℕ) → claims x f ≡ true → is_file f ≡ true
 claims_file x f e = by_mode_lem (λ m. member (claim_of m x) f) e (λ m. member_file (claim_of m x) f)
 
-pub open_may : (b : Board) (p f : ℕ) → open_check b p f ≡ Check.Passed → OpenMay b p f
+pub open_may : (b : Board) (p f : ℕ) → open_check b p f ≡ Ok tt → OpenMay b p f
 unfolding open_check
 open_may b p f e =
     let (a, e₁) = if_passed (not (is_program p && is_file f)) Refusal.OutOfRange _ e in
     let (s, e₂) = running_passed (at b p).standing _ e₁ in
     let (z, e₂₂) = if_passed (not (eqb (at b p).item 0)) Refusal.HasRecord _ e₂ in
     let (c, e₃) = if_passed (not (claims (at b p) f)) Refusal.NotClaimed _ e₂₂ in
-    let (o, _) = if_passed (has_open (at b p) f) Refusal.IsOpen Check.Passed e₃ in
+    let (o, _) = if_passed (has_open (at b p) f) Refusal.IsOpen (Ok tt) e₃ in
     record {
       is = is_of p (and_left (is_program p) (is_file f) (not_of (is_program p && is_file f) a));
       runs = s;
@@ -204,7 +203,7 @@ if_runs s k e = ap (λ t. unless_running t k) e
 if_no_item : (r : ℕ) (k : Check) → r ≡ 0 → unless_using r k ≡ k
 if_no_item r k e = if_so (eqb r 0) Refusal.HasRecord k (eq-eqb r 0 e)
 
-pub may_open : (b : Board) (p f : ℕ) → OpenMay b p f → open_check b p f ≡ Check.Passed
+pub may_open : (b : Board) (p f : ℕ) → OpenMay b p f → open_check b p f ≡ Ok tt
 unfolding open_check
 may_open b p f m =
     let x = at b p in
@@ -213,7 +212,7 @@ may_open b p f m =
     ∙ if_runs x.standing _ m.runs
     ∙ if_no_item x.item _ m.no_item
     ∙ if_so (claims x f) Refusal.NotClaimed _ c
-    ∙ if_not (has_open x f) Refusal.IsOpen Check.Passed m.asked.shut
+    ∙ if_not (has_open x f) Refusal.IsOpen (Ok tt) m.asked.shut
 
 -- A running program without a record.
 pub record CloseMay (b : Board) (p : ℕ) : Type 0 where
@@ -221,7 +220,7 @@ pub record CloseMay (b : Board) (p : ℕ) : Type 0 where
   pub runs : stands b.programs p ≡ Standing.Running
   pub no_item : (prog b.programs p).item ≡ 0
 
-pub close_may : (b : Board) (p f : ℕ) → close_check b p f ≡ Check.Passed → CloseMay b p
+pub close_may : (b : Board) (p f : ℕ) → close_check b p f ≡ Ok tt → CloseMay b p
 unfolding close_check
 close_may b p f e =
     let (a, e₁) = if_passed (not (is_program p && is_file f)) Refusal.OutOfRange _ e in
@@ -240,14 +239,14 @@ pub record FetchMay (b : Board) (p f r : ℕ) : Type 0 where
   pub some_record : r ≢ 0
   pub open_so : member (prog b.programs p).inquiring f ≡ true
 
-pub fetch_may : (b : Board) (p f r : ℕ) → fetch_check b p f r ≡ Check.Passed → FetchMay b p f r
+pub fetch_may : (b : Board) (p f r : ℕ) → fetch_check b p f r ≡ Ok tt → FetchMay b p f r
 unfolding fetch_check
 fetch_may b p f r e =
     let (a, e₁) = if_passed (not (is_program p && is_file f)) Refusal.OutOfRange _ e in
     let (n, e₂) = if_passed (not (is_record r)) Refusal.BadRecord _ e₁ in
     let (s, e₃) = running_passed (at b p).standing _ e₂ in
     let (z, e₄) = if_passed (not (eqb (at b p).item 0)) Refusal.HasRecord _ e₃ in
-    let (o, _) = if_passed (not (member (at b p).inquiring f)) Refusal.NoRecord Check.Passed e₄ in
+    let (o, _) = if_passed (not (member (at b p).inquiring f)) Refusal.NoRecord (Ok tt) e₄ in
     let m = leb-true 1 r (and_left (leb 1 r) (leb r 65535) (not_of (is_record r) n)) in
     record {
       is = is_of p (and_left (is_program p) (is_file f) (not_of (is_program p && is_file f) a));
@@ -257,25 +256,25 @@ fetch_may b p f r e =
       open_so = not_of (member (at b p).inquiring f) o;
     }
 
-pub return_may : (b : Board) (p : ℕ) → return_check b p ≡ Check.Passed → RunsMay b p
+pub return_may : (b : Board) (p : ℕ) → return_check b p ≡ Ok tt → RunsMay b p
 unfolding return_check
 return_may b p e =
     let (a, e₁) = if_passed (not (is_program p)) Refusal.OutOfRange _ e in
     let (s, _) = running_passed (at b p).standing _ e₁ in
     record { is = is_of p (not_of (is_program p) a); runs = s }
 
-pub leave_may : (b : Board) (p : ℕ) → leave_check b p ≡ Check.Passed → RunsMay b p
+pub leave_may : (b : Board) (p : ℕ) → leave_check b p ≡ Ok tt → RunsMay b p
 unfolding leave_check
 leave_may b p e =
     let (a, e₁) = if_passed (not (is_program p)) Refusal.OutOfRange _ e in
     let (s, _) = running_passed (at b p).standing _ e₁ in
     record { is = is_of p (not_of (is_program p) a); runs = s }
 
-pub may_leave : (b : Board) (p : ℕ) → RunsMay b p → leave_check b p ≡ Check.Passed
+pub may_leave : (b : Board) (p : ℕ) → RunsMay b p → leave_check b p ≡ Ok tt
 unfolding leave_check
-may_leave b p m = if_so (is_program p) Refusal.OutOfRange _ (of_is p m.is) ∙ if_runs (at b p).standing Check.Passed m.runs
+may_leave b p m = if_so (is_program p) Refusal.OutOfRange _ (of_is p m.is) ∙ if_runs (at b p).standing (Ok tt) m.runs
 
-pub stopped-passed : (s : Standing) (k : Check) → unless_stopped s k ≡ Check.Passed → (is_waiting s ≡ true) ⊎ (is_held s ≡ true)
+pub stopped-passed : (s : Standing) (k : Check) → unless_stopped s k ≡ Ok tt → (is_waiting s ≡ true) ⊎ (is_held s ≡ true)
 stopped-passed Standing.Absent k e = failed_passed Refusal.IsAbsent e
 stopped-passed Standing.Held k e = inr refl
 stopped-passed (Standing.Waiting f) k e = inl refl
@@ -285,7 +284,7 @@ pub record CancelMay (b : Board) (p : ℕ) : Type 0 where
   pub is : Is p
   pub stopped : (is_waiting (stands b.programs p) ≡ true) ⊎ (is_held (stands b.programs p) ≡ true)
 
-pub cancel_may : (b : Board) (p : ℕ) → cancel_check b p ≡ Check.Passed → CancelMay b p
+pub cancel_may : (b : Board) (p : ℕ) → cancel_check b p ≡ Ok tt → CancelMay b p
 unfolding cancel_check
 cancel_may b p e = let (a, e₁) = if_passed (not (is_program p)) Refusal.OutOfRange _ e in record {
   is = is_of p (not_of (is_program p) a);
@@ -1079,11 +1078,11 @@ cancel_stepped b p g m = stepped_reply b (settle c).board (cancel_count b p) Ans
 
 -- ── Any call ──
 
-pub apply-accepted : (b : Board) (c : Call) → checked b c ≡ Check.Passed → apply b c ≡ accepted b c
+pub apply-accepted : (b : Board) (c : Call) → checked b c ≡ Ok tt → apply b c ≡ accepted b c
 unfolding apply
 apply-accepted b c e = ap (λ k. unless b k (accepted b c)) e
 
-pub apply-refused : (b : Board) (c : Call) (r : Refusal) → checked b c ≡ Check.Failed r → apply b c ≡ refuse b r
+pub apply-refused : (b : Board) (c : Call) (r : Refusal) → checked b c ≡ Err r → apply b c ≡ refuse b r
 unfolding apply
 apply-refused b c r e = ap (λ k. unless b k (accepted b c)) e
 
@@ -1122,12 +1121,12 @@ cancel_of (Return p) = 0
 
 -- n for an accepted call
 abbrev pub count_if : Check → ℕ → ℕ
-count_if Check.Passed n = n
-count_if (Check.Failed r) n = 0
+count_if (Ok tt) n = n
+count_if (Err r) n = 0
 
 pub none_counted : (k : Check) → count_if k 0 ≡ 0
-none_counted Check.Passed = refl
-none_counted (Check.Failed r) = refl
+none_counted (Ok tt) = refl
+none_counted (Err r) = refl
 
 abbrev pub leaves_by : Board → Call → ℕ
 leaves_by b c = count_if (checked b c) (leave_count b c)
@@ -1138,7 +1137,7 @@ gone_by b c = count_if (checked b c) (gone_with b c)
 abbrev pub cancelled_by : Board → Call → ℕ
 cancelled_by b c = count_if (checked b c) (cancel_of c)
 
-accepted_stepped : (b : Board) (c : Call) → Good b → checked b c ≡ Check.Passed → Stepped b (leave_count b c) (gone_with b c) (cancel_of c) (step_of
+accepted_stepped : (b : Board) (c : Call) → Good b → checked b c ≡ Ok tt → Stepped b (leave_count b c) (gone_with b c) (cancel_of c) (step_of
     (accepted b c))
 accepted_stepped b (Enter p v q j) g e = enter_stepped b p v q j g (enter_may b p v q j e)
 accepted_stepped b (Open p f) g e = open_stepped b p f g (open_may b p f e)

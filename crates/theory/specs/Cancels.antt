@@ -1,6 +1,6 @@
 -- What a cancel does on a sound board: "The program goes with its files and claims", and "a cancel of a held one counts nowhere".
 -- Assumes nothing.
-use Rattle.std.specs.Prelude.{ℕ, ◌≡◌, refl, ◌≢◌, true, false, List, [], ◌∷◌, eqb}
+use Rattle.std.specs.Prelude.{ℕ, ◌≡◌, refl, ◌≢◌, true, false, List, [], ◌∷◌, eqb, Ok}
 use Rattle.std.proofs.Math.Path.{sym, ap}
 use Rattle.std.proofs.Common.{◌∙◌, ap₂, subst}
 use mathlib.Core.List.Memᴰ
@@ -9,7 +9,6 @@ use Rattle.laws.specs.Tests.{by_test, never, no_true}
 use Rattle.rules.specs.declared.Standing.{Standing}
 use Rattle.rules.specs.declared.Program.{Program}
 use Rattle.rules.specs.declared.Board.{Board}
-use Rattle.rules.specs.declared.Check.{Check}
 use Rattle.rules.specs.declared.Answer.{Answer}
 use Rattle.rules.specs.declared.Word.{Word}
 use Rattle.laws.specs.Lists.{without, names}
@@ -49,7 +48,7 @@ HeldCancel = (b : Board) (p : ℕ) → Sized b.programs → sound b ≡ true →
 
 -- ── The program goes ──
 
-cancel-board : (b : Board) (p : ℕ) → sound b ≡ true → checked b (Cancel p) ≡ Check.Passed
+cancel-board : (b : Board) (p : ℕ) → sound b ≡ true → checked b (Cancel p) ≡ Ok tt
     → (direct b (Cancel p)).board ≡ (settle (withdrawn b p (at b p).standing)).board
 unfolding direct cancel done finish reply
 cancel-board b p s e = rw (s, apply-accepted b (Cancel p) e)
@@ -59,7 +58,7 @@ unfolding direct
 cancelled-goes b p z s a = ap (λ (x : Board). at x p) (cancel-board b p s e)
     ∙ (settle_settled c l.w-loose l.w-counts).others p d (ap is_waiting gone) (ap is_held gone) ∙ is-gone
   where
-    e : checked b (Cancel p) ≡ Check.Passed
+    e : checked b (Cancel p) ≡ Ok tt
     e = passed_of b (Cancel p) (rw s at a)
 
     k : Good b

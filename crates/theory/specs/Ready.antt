@@ -1,14 +1,13 @@
 -- What the code of a call finds on a sound board that has passed the call's checks: room in each line and in the reply, and a board to
 -- settle.
 -- Assumes nothing.
-use Rattle.std.specs.Prelude.{ℕ, suc, ◌≤◌, ◌<◌, ◌+◌, ◌≡◌, true, false, eqb, length, ◌++◌}
+use Rattle.std.specs.Prelude.{ℕ, suc, ◌≤◌, ◌<◌, ◌+◌, ◌≡◌, true, false, eqb, length, ◌++◌, Ok}
 use Rattle.std.proofs.Common.{arith, ◌∙◌, eqb-true}
 use Rattle.std.proofs.Math.Path.{refl, ap}
 use Rattle.std.proofs.lemmas.Bool.{eqb-false}
 use Rattle.laws.specs.Tests.{by_test}
 use Rattle.files.specs.declared.FileSet.{FileSet}
 use Rattle.rules.specs.declared.Board.{Board}
-use Rattle.rules.specs.declared.Check.{Check}
 use Rattle.laws.specs.Lists.{names}
 use Rattle.rules.specs.Boards.{no_program, is_held, is_waiting, at, set_program, set_item, closing, dropping}
 use Rattle.rules.specs.Soundness.{sound}
@@ -40,17 +39,17 @@ module _ (b : Board) (z : Sized b.programs) (s : sound b ≡ true) where
   good = sound_good b z ((sound_iff b).0 s)
 
   -- Enter: a program more fits in the entry line.
-  pub entry-room : (p : ℕ) (v q j : FileSet) → enter_check b p v q j ≡ Check.Passed → length (names b.entry) < 32
+  pub entry-room : (p : ℕ) (v q j : FileSet) → enter_check b p v q j ≡ Ok tt → length (names b.entry) < 32
   entry-room p v q j e = let m = enter_may b p v q j e in let n = crowd b p good.loose m.is (ap is_waiting m.absent)
       (ap is_held m.absent) in omega arith
 
   -- Open: a program more fits in the waiting line.
-  pub waiting_room : (p f : ℕ) → open_check b p f ≡ Check.Passed → length (names b.waiting) < 32
+  pub waiting_room : (p f : ℕ) → open_check b p f ≡ Ok tt → length (names b.waiting) < 32
   waiting_room p f e = let m = open_may b p f e in let n = crowd b p good.loose m.is (ap is_waiting m.runs)
       (ap is_held m.runs) in omega arith
 
   -- Close, drop and cancel: the board before settling.
-  pub close_ready : (p f : ℕ) → close_check b p f ≡ Check.Passed → Ready (set_program b p (closing (at b p) f))
+  pub close_ready : (p f : ℕ) → close_check b p f ≡ Ok tt → Ready (set_program b p (closing (at b p) f))
   unfolding closing
   close_ready p f e = let m = close_may b p f e in
       ready (set_program b p (closing (at b p) f)) p (loose_close b.programs b.waiting b.entry b.favoured
@@ -58,7 +57,7 @@ module _ (b : Board) (z : Sized b.programs) (s : sound b ≡ true) where
       (test_same is_waiting b.programs p (closing (at b p) f) z m.is ∙ ap is_waiting m.runs)
       (test_same is_held b.programs p (closing (at b p) f) z m.is ∙ ap is_held m.runs)
 
-  pub drop-ready : (p f : ℕ) → open_check b p f ≡ Check.Passed → Ready (set_program b p (dropping (at b p) f))
+  pub drop-ready : (p f : ℕ) → open_check b p f ≡ Ok tt → Ready (set_program b p (dropping (at b p) f))
   unfolding dropping
   drop-ready p f e = let m = open_may b p f e in
       ready (set_program b p (dropping (at b p) f)) p (loose_drop b.programs b.waiting b.entry b.favoured
@@ -67,7 +66,7 @@ module _ (b : Board) (z : Sized b.programs) (s : sound b ≡ true) where
       (test_same is_waiting b.programs p (dropping (at b p) f) z m.is ∙ ap is_waiting m.runs)
       (test_same is_held b.programs p (dropping (at b p) f) z m.is ∙ ap is_held m.runs)
 
-  pub cancel-ready : (p : ℕ) → cancel_check b p ≡ Check.Passed → Ready (withdrawn b p (at b p).standing)
+  pub cancel-ready : (p : ℕ) → cancel_check b p ≡ Ok tt → Ready (withdrawn b p (at b p).standing)
   cancel-ready p e = let m = cancel_may b p e in let l = cancel-withdrawn b p good m in
       ready (withdrawn b p (at b p).standing) p l.w-loose l.w-counts m.is
       (ap (λ P. waits_in P p) l.w_programs ∙ test_same is_waiting b.programs p no_program z m.is)
@@ -80,7 +79,7 @@ module _ (b : Board) (z : Sized b.programs) (s : sound b ≡ true) where
       (λ t. let (c, n) = good.loose.count (eqb-false b.favoured 0 t) in omega arith)
 
   -- Leave and return: room in the reply for the answer's line, that of the record and settling's.
-  pub leave_room : (p : ℕ) → leave_check b p ≡ Check.Passed
+  pub leave_room : (p : ℕ) → leave_check b p ≡ Ok tt
       → let h = hand_on (count_leave (set_program b p no_program)) (at b p).file (at b p).item in
       suc (length (h.lines ++ (settle h.board).lines)) ≤ 32
   leave_room p e = let m = leave_may b p e in let l = leave_left b p good m in let c = count_leave (set_program b p no_program) in
@@ -89,7 +88,7 @@ module _ (b : Board) (z : Sized b.programs) (s : sound b ≡ true) where
       (ap (λ P. waits_in P p) l.l_programs ∙ test_same is_waiting b.programs p no_program z m.is)
       (ap (λ P. held_at P p) l.l_programs ∙ test_same is_held b.programs p no_program z m.is) in omega arith
 
-  pub return_room : (p : ℕ) → return_check b p ≡ Check.Passed
+  pub return_room : (p : ℕ) → return_check b p ≡ Ok tt
       → let h = hand_on (set_program b p (set_item (at b p) 0 0)) (at b p).file (at b p).item in
       suc (length (h.lines ++ (settle h.board).lines)) ≤ 32
   return_room p e = let m = return_may b p e in let x = set_item (at b p) 0 0 in

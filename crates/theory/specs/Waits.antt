@@ -1,6 +1,6 @@
 -- How a wait begins: who waits after a call is as it was before it, or the call is the open or the fetch by which it began to wait.
 -- Assumes nothing.
-use Rattle.std.specs.Prelude.{ℕ, ◌≡◌, ◌⊎◌, false, eqb}
+use Rattle.std.specs.Prelude.{ℕ, ◌≡◌, ◌⊎◌, false, eqb, Ok}
 use Rattle.std.proofs.Math.Path.{refl, subst}
 use Rattle.std.proofs.Common.{sym, ◌∙◌, ap, ap₂, inr, eqb-true}
 use Rattle.std.proofs.Math.Logic.{inl}
@@ -11,7 +11,6 @@ use Rattle.std.proofs.lemmas.Bool.{eqb-false}
 use Rattle.rules.specs.declared.Standing.{Standing}
 use Rattle.rules.specs.declared.Program.{Program}
 use Rattle.rules.specs.declared.Board.{Board}
-use Rattle.rules.specs.declared.Check.{Check}
 use Rattle.rules.specs.declared.Answer.{Answer}
 use Rattle.rules.specs.declared.Reply.{Reply}
 use Rattle.rules.specs.Boards.{no_program, is_waiting, at, set_program, set_standing, set_item, opening, closing, dropping}
@@ -106,7 +105,7 @@ module _ (b : Board) (k : Good b) where
   snd : sound b ≡ true
   snd = (sound_iff b).1 (good_sound b k)
 
-  close_from : (p f y : ℕ) → close_check b p f ≡ Check.Passed → Is y → is_waiting (stands (close_file b p f).board.programs y) ≡ true
+  close_from : (p f y : ℕ) → close_check b p f ≡ Ok tt → Is y → is_waiting (stands (close_file b p f).board.programs y) ≡ true
       → prog (close_file b p f).board.programs y ≡ prog b.programs y
   unfolding close_file done finish closing reply
   close_from p f y e i = let m = close_may b p f e in let r = close_ready b z snd p f e in
@@ -114,7 +113,7 @@ module _ (b : Board) (k : Good b) where
       then_from b.programs c.programs (settle c).board.programs y ((settle_settled c r.loose r.counts).waited y i)
       (put_waits b.programs p (closing (at b p) f) z m.is (ap is_waiting m.runs) y i)
 
-  drop_from : (p f y : ℕ) → open_check b p f ≡ Check.Passed → Is y → is_waiting (stands (drop_file b p f).board.programs y) ≡ true
+  drop_from : (p f y : ℕ) → open_check b p f ≡ Ok tt → Is y → is_waiting (stands (drop_file b p f).board.programs y) ≡ true
       → prog (drop_file b p f).board.programs y ≡ prog b.programs y
   unfolding drop_file done finish dropping reply
   drop_from p f y e i = let m = open_may b p f e in let r = drop-ready b z snd p f e in
@@ -122,7 +121,7 @@ module _ (b : Board) (k : Good b) where
       then_from b.programs c.programs (settle c).board.programs y ((settle_settled c r.loose r.counts).waited y i)
       (put_waits b.programs p (dropping (at b p) f) z m.is (ap is_waiting m.runs) y i)
 
-  cancel_from : (p y : ℕ) → cancel_check b p ≡ Check.Passed → Is y → is_waiting (stands (cancel b p).board.programs y) ≡ true
+  cancel_from : (p y : ℕ) → cancel_check b p ≡ Ok tt → Is y → is_waiting (stands (cancel b p).board.programs y) ≡ true
       → prog (cancel b p).board.programs y ≡ prog b.programs y
   unfolding cancel done finish reply
   cancel_from p y e i = let m = cancel_may b p e in let l = cancel-withdrawn b p k m in let c = withdrawn b p (at b p).standing in
@@ -130,7 +129,7 @@ module _ (b : Board) (k : Good b) where
       (subst (λ P. is_waiting (stands P y) ≡ true → prog P y ≡ prog b.programs y) (sym l.w_programs)
       (put_waits b.programs p no_program z m.is refl y i))
 
-  leave_from : (p y : ℕ) → leave_check b p ≡ Check.Passed → Is y → is_waiting (stands (leave b p).board.programs y) ≡ true
+  leave_from : (p y : ℕ) → leave_check b p ≡ Ok tt → Is y → is_waiting (stands (leave b p).board.programs y) ≡ true
       → prog (leave b p).board.programs y ≡ prog b.programs y
   unfolding leave finish reply
   leave_from p y e i = let m = leave_may b p e in let l = leave_left b p k m in let c = count_leave (set_program b p no_program) in
@@ -140,7 +139,7 @@ module _ (b : Board) (k : Good b) where
       (subst (λ P. is_waiting (stands P y) ≡ true → prog P y ≡ prog b.programs y) (sym l.l_programs)
       (put_waits b.programs p no_program z m.is refl y i))
 
-  return_from : (p y : ℕ) → return_check b p ≡ Check.Passed → Is y → is_waiting (stands (return_item b p).board.programs y) ≡ true
+  return_from : (p y : ℕ) → return_check b p ≡ Ok tt → Is y → is_waiting (stands (return_item b p).board.programs y) ≡ true
       → prog (return_item b p).board.programs y ≡ prog b.programs y
   unfolding return_item finish reply
   return_from p y e i = let m = return_may b p e in let c = set_program b p (set_item (at b p) 0 0) in
@@ -149,7 +148,7 @@ module _ (b : Board) (k : Good b) where
       ((return_settled b p k m).waited y i)
       (put_waits b.programs p (set_item (at b p) 0 0) z m.is (ap is_waiting m.runs) y i)
 
-  accepted_from : (c : Call) → checked b c ≡ Check.Passed → (y : ℕ) → Is y → is_waiting (stands (accepted b c).board.programs y) ≡ true
+  accepted_from : (c : Call) → checked b c ≡ Ok tt → (y : ℕ) → Is y → is_waiting (stands (accepted b c).board.programs y) ≡ true
       → From b c (accepted b c) y
   accepted_from (Enter p v q j) e y i u = inl (enter_from b p v q j z (enter_may b p v q j e).is y i u)
   accepted_from (Open p f) e y i u = open_from b p f z (open_may b p f e) y i u

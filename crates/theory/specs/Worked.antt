@@ -1,6 +1,6 @@
 -- Every list of calls from the empty board: every board is sound, and every direct call does what the rules say.
 -- Assumes nothing.
-use Rattle.std.specs.Prelude.{ℕ, ◌≤◌, ◌≡◌, refl, ◌≢◌, ◌⊎◌, Bool, true, false, not, ◌&&◌, List, [], ◌∷◌, ◌++◌, eqb, length}
+use Rattle.std.specs.Prelude.{ℕ, ◌≤◌, ◌≡◌, refl, ◌≢◌, ◌⊎◌, Bool, true, false, not, ◌&&◌, List, [], ◌∷◌, ◌++◌, eqb, length, Ok, Err}
 use Rattle.std.proofs.Common.{arith, sym, ◌∙◌, ap, ap₂, subst, inl, inr, eqb-true}
 use Rattle.std.proofs.Math.Option.{some, get_or}
 use mathlib.Core.List.Memᴰ
@@ -11,7 +11,6 @@ use Rattle.rules.specs.Modes.{touching, claims_meet}
 use Rattle.rules.specs.declared.Standing.{Standing}
 use Rattle.rules.specs.declared.Board.{Board}
 use Rattle.rules.specs.declared.Refusal.{Refusal}
-use Rattle.rules.specs.declared.Check.{Check}
 use Rattle.rules.specs.declared.Answer.{Answer}
 use Rattle.rules.specs.declared.Line.{Line}
 use Rattle.rules.specs.declared.Reply.{Reply}
@@ -21,7 +20,7 @@ use Rattle.rules.specs.Orders.{held_back, carried_from, carried, with_given, in_
 use Rattle.rules.specs.Soundness.{sets_sound, standing_sound, program_sound, no_conflict, line_sound, waiter_sound, none_favoured, some_favoured}
 use Rattle.rules.specs.Soundness.{may_have, item_sound, uses_differ, awaited_in_use, count_sound, sound}
 use Rattle.rules.specs.Replies.{refused, blank, reply, refuse, lines_of, order_of, number}
-use Rattle.rules.specs.Checks.{refuse_if, unless_running, unless_stopped, enter_check, open_check}
+use Rattle.rules.specs.Checks.{Check, refuse_if, unless_running, unless_stopped, enter_check, open_check}
 use Rattle.rules.specs.Checks.{close_check, leave_check, cancel_check, is_record, fetch_check, return_check}
 use Rattle.rules.specs.Calls.{enter, open_file, done, close_file, drop_file, leave, Call, Enter, Open, Close, Drop, Leave, checked, accepted}
 use Rattle.rules.specs.Calls.{hold_for, Cancel, cancel, Fetch, fetch, Return, return_item, finish, apply, direct}
@@ -103,72 +102,72 @@ replies_split xs ys c = replies_from-append empty_board xs (c ∷ ys)
 -- ── Refusals ──
 
 -- A call that isn't refused has passed its checks.
-pub passed_of : (b : Board) (c : Call) → refused (apply b c).answer ≡ false → checked b c ≡ Check.Passed
+pub passed_of : (b : Board) (c : Call) → refused (apply b c).answer ≡ false → checked b c ≡ Ok tt
 unfolding refuse reply
 passed_of b c e = by_check (checked b c) (λ u. u)
     (λ r u. never {t = true} refl (sym (ap (λ (q : Reply). refused q.answer) (apply-refused b c r u)) ∙ e))
 
 -- Whatever a call is refused for by its own checks, it is one of the refusals 8 to 16 and 18 to 21.
-if_number : (t : Bool) (r : Refusal) (k : Check) → 8 ≤ number r → ((q : Refusal) → k ≡ Check.Failed q → 8 ≤ number q)
-    → (q : Refusal) → refuse_if t r k ≡ Check.Failed q → 8 ≤ number q
+if_number : (t : Bool) (r : Refusal) (k : Check) → 8 ≤ number r → ((q : Refusal) → k ≡ Err q → 8 ≤ number q)
+    → (q : Refusal) → refuse_if t r k ≡ Err q → 8 ≤ number q
 if_number true r k n f q e = subst (λ z. 8 ≤ number z) (let d : r ≡ q = cc in d) n
 if_number false r k n f q e = f q e
 
-running_number : (s : Standing) (k : Check) → ((q : Refusal) → k ≡ Check.Failed q → 8 ≤ number q) → (q : Refusal)
-    → unless_running s k ≡ Check.Failed q → 8 ≤ number q
+running_number : (s : Standing) (k : Check) → ((q : Refusal) → k ≡ Err q → 8 ≤ number q) → (q : Refusal)
+    → unless_running s k ≡ Err q → 8 ≤ number q
 running_number Standing.Absent k f q e = subst (λ z. 8 ≤ number z) (let d : Refusal.IsAbsent ≡ q = cc in d) (omega arith)
 running_number Standing.Held k f q e = subst (λ z. 8 ≤ number z) (let d : Refusal.IsHeld ≡ q = cc in d) (omega arith)
 running_number (Standing.Waiting g) k f q e = subst (λ z. 8 ≤ number z) (let d : Refusal.IsWaiting ≡ q = cc in d) (omega arith)
 running_number Standing.Running k f q e = f q e
 
-stopped-number : (s : Standing) (k : Check) → ((q : Refusal) → k ≡ Check.Failed q → 8 ≤ number q) → (q : Refusal)
-    → unless_stopped s k ≡ Check.Failed q → 8 ≤ number q
+stopped-number : (s : Standing) (k : Check) → ((q : Refusal) → k ≡ Err q → 8 ≤ number q) → (q : Refusal)
+    → unless_stopped s k ≡ Err q → 8 ≤ number q
 stopped-number Standing.Absent k f q e = subst (λ z. 8 ≤ number z) (let d : Refusal.IsAbsent ≡ q = cc in d) (omega arith)
 stopped-number Standing.Held k f q e = f q e
 stopped-number (Standing.Waiting g) k f q e = f q e
 stopped-number Standing.Running k f q e = subst (λ z. 8 ≤ number z) (let d : Refusal.IsRunning ≡ q = cc in d) (omega arith)
 
-passed-number : (q : Refusal) → Check.Passed ≡ Check.Failed q → 8 ≤ number q
+passed-number : (q : Refusal) → Ok (tt {0}) ≡ Err q → 8 ≤ number q
 passed-number q e = absurd (let z : ◌≡◌ {A = ℕ} 0 1 = cc in omega arith)
 
-open_number : (b : Board) (p f : ℕ) (q : Refusal) → open_check b p f ≡ Check.Failed q → 8 ≤ number q
+open_number : (b : Board) (p f : ℕ) (q : Refusal) → open_check b p f ≡ Err q → 8 ≤ number q
 unfolding open_check
 open_number b p f =
     if_number (not (is_program p && is_file f)) Refusal.OutOfRange _ (omega arith)
     (running_number (at b p).standing _
     (if_number (not (eqb (at b p).item 0)) Refusal.HasRecord _ (omega arith)
     (if_number (not (claims (at b p) f)) Refusal.NotClaimed _ (omega arith)
-    (if_number (has_open (at b p) f) Refusal.IsOpen Check.Passed (omega arith) passed-number))))
+    (if_number (has_open (at b p) f) Refusal.IsOpen (Ok tt) (omega arith) passed-number))))
 
-pub checked-number : (b : Board) (c : Call) (q : Refusal) → checked b c ≡ Check.Failed q → 8 ≤ number q
+pub checked-number : (b : Board) (c : Call) (q : Refusal) → checked b c ≡ Err q → 8 ≤ number q
 unfolding enter_check close_check leave_check cancel_check fetch_check return_check
 checked-number b (Enter p v r j) =
     if_number (not (is_program p)) Refusal.OutOfRange _ (omega arith)
     (if_number (not (is_absent (at b p).standing)) Refusal.NotAbsent _ (omega arith)
-    (if_number (claims_meet v r j) Refusal.ClaimsMeet Check.Passed (omega arith) passed-number))
+    (if_number (claims_meet v r j) Refusal.ClaimsMeet (Ok tt) (omega arith) passed-number))
 checked-number b (Open p f) = open_number b p f
 checked-number b (Close p f) =
     if_number (not (is_program p && is_file f)) Refusal.OutOfRange _ (omega arith)
     (running_number (at b p).standing _
     (if_number (not (eqb (at b p).item 0)) Refusal.HasRecord _ (omega arith)
-    (if_number (not (has_open (at b p) f)) Refusal.NotOpen Check.Passed (omega arith) passed-number)))
+    (if_number (not (has_open (at b p) f)) Refusal.NotOpen (Ok tt) (omega arith) passed-number)))
 checked-number b (Drop p f) = open_number b p f
 checked-number b (Leave p) =
     if_number (not (is_program p)) Refusal.OutOfRange _ (omega arith)
-    (running_number (at b p).standing Check.Passed passed-number)
+    (running_number (at b p).standing (Ok tt) passed-number)
 checked-number b (Cancel p) =
     if_number (not (is_program p)) Refusal.OutOfRange _ (omega arith)
-    (stopped-number (at b p).standing Check.Passed passed-number)
+    (stopped-number (at b p).standing (Ok tt) passed-number)
 checked-number b (Fetch p f r) =
     if_number (not (is_program p && is_file f)) Refusal.OutOfRange _ (omega arith)
     (if_number (not (is_record r)) Refusal.BadRecord _ (omega arith)
     (running_number (at b p).standing _
     (if_number (not (eqb (at b p).item 0)) Refusal.HasRecord _ (omega arith)
-    (if_number (not (member (at b p).inquiring f)) Refusal.NoRecord Check.Passed (omega arith) passed-number))))
+    (if_number (not (member (at b p).inquiring f)) Refusal.NoRecord (Ok tt) (omega arith) passed-number))))
 checked-number b (Return p) =
     if_number (not (is_program p)) Refusal.OutOfRange _ (omega arith)
     (running_number (at b p).standing _
-    (if_number (eqb (at b p).item 0) Refusal.NoRecord Check.Passed (omega arith) passed-number))
+    (if_number (eqb (at b p).item 0) Refusal.NoRecord (Ok tt) (omega arith) passed-number))
 
 -- What an accepted call answers is no refusal.
 pub accepted_answer : (b : Board) (c : Call) → refused (accepted b c).answer ≡ false

@@ -1,0 +1,19 @@
+use Rattle.std.proofs.Common.{ap, ◌∙◌}
+use Rattle.rules.specs.declared.Board.{Board}
+use Rattle.rules.specs.Calls.{count_cancel}
+use Rattle.store.specs.Store.{board_of}
+use Rattle.store.proofs.Boards.{with_entry_lem}
+use Rattle.apply.proofs.Laws.{with_cancelled}
+use Rattle.apply.proofs.withdraw.Goals as goal
+
+pub returns-in-Waiting-clause-result_after : goal.returns-in-Waiting-clause-result_after
+unfolding board_of
+returns-in-Waiting-clause-result_after c =
+    rw c.in-Waiting.is
+    (c.cancel_counted.ensures ∙ ap (λ (x : Board). count_cancel x c.args.p)
+    (with_cancelled _ c.put-c.result _ c.put-c.ensures.result_after c.args.p _ _ c.remove-c.ensures))
+
+pub returns-in-Held-clause-result_after : goal.returns-in-Held-clause-result_after
+unfolding board_of
+returns-in-Held-clause-result_after c =
+    rw c.in-Held.is (with_entry_lem _ c.put.result _ c.put.ensures.result_after _ _ c.remove.ensures)
