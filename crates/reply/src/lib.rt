@@ -1,7 +1,7 @@
 #![tactic(auto)]
 
 // The reply with the board by value, made of what a call comes to; at the edges only.
-ghost use Rattle.std.specs.Prelude.{◌≡◌, true};
+ghost use Rattle.std.specs.Prelude.{◌≡◌, ◌≤◌, true};
 ghost use Rattle.rules.specs.Orders.{carried};
 ghost use Rattle.rules.specs.Replies.{refused, refuse_unsound};
 ghost use Rattle.parts.specs.Entries.{IsEntries, lines_in};
@@ -10,6 +10,7 @@ ghost use Rattle.store.specs.Store.{board_of};
 ghost use Rattle.search.specs.Rows.{as_order};
 ghost use Rattle.settling.specs.Writing.{written_in};
 ghost use Rattle.apply.specs.Replies.{replied, Carries};
+ghost use Rattle.reply.specs.Orders.{placed_in};
 
 use apply::Changed;
 use parts::entries;
@@ -33,66 +34,59 @@ fn lines_of(lines: &Entries) -> [Line; 32]
     ensures { result ≡ lines_in lines.now }
 {
     let mut ls = [BLANK; 32];
-    let mut i: usize = 0;
-    while i < 32 {
+    for i in 0..32 {
         ls[i] = entries::line_in(lines[i]);
-        i += 1;
     }
     ls
 }
 
-// The reply, with the order of its board.
-fn with_order(b: Board, lines: [Line; 32], count: u8, answer: Answer, order: Order) -> Reply
-    requires { order ≡ as_order (carried b) }
-    ensures { result ≡ replied (record { board = b; lines = lines; count = count }) answer }
+// How many programs an order names.
+fn placed(kind: Search) -> u8
+    requires { placed_in kind ≤ 32 }
+    ensures { result ≡ placed_in kind }
 {
-    let kind = order.kind;
-    let Search::Found(n) = kind else {
-        return Reply {
-            board: b,
-            answer: answer,
-            lines: lines,
-            count: count,
-            order: [0u8; 32],
-            placed: 0,
-        };
-    };
-    let at = order.at;
-    Reply {
-        board: b,
-        answer: answer,
-        lines: lines,
-        count: count,
-        order: at,
-        placed: n as u8,
+    match kind {
+        Search::Found(n) => n as u8,
+        Search::Stuck => 0,
     }
 }
 
-// The reply to a call, with the order that the call found on its way, or else one that is sought; `before` is the order of the board
-// before the call, which a refusal leaves as it was.
+// The order of the board after a call: a refusal leaves the board as it was before; else the order that the call found on its way, or
+// one that is sought.
+fn order_after(sets: &Sets, c: Changed, before: Order) -> Order
+    requires { (refused c.answer ≡ true → before ≡ as_order (carried (board_of sets.now c.progress.rest)))
+        × IsStore sets.now × Carries (board_of sets.now c.progress.rest) c.order }
+    ensures { result ≡ as_order (carried (board_of sets.now c.progress.rest)) }
+{
+    if matches!(c.answer, Answer::Refuse(_)) {
+        return before;
+    }
+    if search::is_found(c.order) {
+        return c.order;
+    }
+    search::carried_in(sets, c.progress.rest)
+}
+
+// The reply to a call, with the order of its board; `before` is the order of the board before the call.
 pub fn complete(sets: &Sets, lines: &Entries, c: Changed, before: Order) -> Reply
     requires { (refused c.answer ≡ true → before ≡ as_order (carried (board_of sets.now c.progress.rest)))
         × IsStore sets.now × IsEntries lines.now × Carries (board_of sets.now c.progress.rest) c.order }
     ensures { result ≡ replied (written_in sets.now lines.now c.progress) c.answer }
 {
-    let answer = c.answer;
-    let w = c.progress;
-    let rest = w.rest;
-    let count = w.count;
-    let b = whole::board(sets, rest);
-    let written = lines_of(lines);
-    if parts::refusals::of_answer(answer) != 0 {
-        return with_order(b, written, count, answer, before);
+    let order = order_after(sets, c, before);
+    let at = order.at;
+    Reply {
+        board: whole::board(sets, c.progress.rest),
+        answer: c.answer,
+        lines: lines_of(lines),
+        count: c.progress.count,
+        order: at,
+        placed: placed(order.kind),
     }
-    let found = c.order;
-    if search::is_found(found) {
-        return with_order(b, written, count, answer, found);
-    }
-    let order = search::carried_in(sets, rest);
-    with_order(b, written, count, answer, order)
 }
 
 // Refusal 1, with an empty order.
+#[tactic(auto, unfolding(rules::specs::Replies::refuse_unsound, laws::specs::Lists::padded))]
 pub fn refused_unsound(b: Board) -> Reply
     ensures { result ≡ refuse_unsound b }
 {

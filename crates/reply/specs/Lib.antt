@@ -1,0 +1,2 @@
+-- The definitions that the contracts of reply cite.
+pub mod Orders
