@@ -2,13 +2,12 @@
 use mathlib.Core.Path.{◌≡◌, refl, sym, ap, ◌∙◌}
 use mathlib.Core.Bool.{Bool, true, false, not, ◌&&◌, ◌||◌}
 use mathlib.Core.List.{List, [], ◌∷◌}
-use Prim.Native.Nat.{ℕ, suc, ◌+◌, ◌≤◌, ◌<◌, ◌^◌}
-use native.Mathlib.Numerals.{add-one}
+use Prim.Native.Nat.{ℕ, ◌<◌, ◌^◌}
 use native.Mathlib.Omega.{arith}
 use lib.Bits.{bit_and, bit_or, and_le_l}
 use lib.Dec.{eqb}
-use lib.ListN.{length, get_or, drop, replicate, drop_of_length-le}
-use lib.Seq.{drop-cons}
+use Rattle.std.specs.Prelude.{fold}
+use lib.ListN.{length, replicate}
 use borrow.Author.Tests.{eq-eqb, eqb-true}
 use Rattle.laws.specs.Tests.{by_test, and_left, and_right, and_both, and_true, and_false}
 use Rattle.files.specs.Bits.{covers}
@@ -45,20 +44,14 @@ pub and_assoc : (x y z : Bool) → (x && y && z) ≡ (x && (y && z))
 and_assoc true y z = refl
 and_assoc false y z = refl
 
-module _ (l : List ℕ) (k : ℕ) where
-  -- one place more
-  pub blank-more : (m : ℕ) → k < length l → all none l ≡ (eqb m 0 && all none (drop k l))
-      → all none l ≡ (eqb (bit_or m (get_or l k 0)) 0 && all none (drop (k + 1) l))
-  unfolding all
-  blank-more m h e = e ∙ ap (λ (x : List ℕ). eqb m 0 && all none x) (drop-cons l k 0 h)
-      ∙ sym (and_assoc (eqb m 0) (eqb (get_or l k 0) 0) (all none (drop (suc k) l)))
-      ∙ ap (λ (x : Bool). x && all none (drop (suc k) l)) (sym (or_zero m (get_or l k 0)))
-      ∙ ap (λ (x : ℕ). eqb (bit_or m (get_or l k 0)) 0 && all none (drop x l)) (sym (add-one k))
+-- the bits of all places, and of m
+fold-or : (m : ℕ) (l : List ℕ) → eqb (fold bit_or m l) 0 ≡ (eqb m 0 && all none l)
+unfolding all
+fold-or m [] = sym (and_true (eqb m 0))
+fold-or m (x ∷ l) = fold-or (bit_or m x) l ∙ ap (λ (y : Bool). y && all none l) (or_zero m x) ∙ and_assoc (eqb m 0) (eqb x 0) (all none l)
 
-  -- and no more places
-  pub blank-all : (m : ℕ) → length l ≤ k → all none l ≡ (eqb m 0 && all none (drop k l)) → eqb m 0 ≡ all none l
-  unfolding all
-  blank-all m h e = sym (e ∙ ap (λ (x : List ℕ). eqb m 0 && all none x) (drop_of_length-le l h) ∙ and_true (eqb m 0))
+pub blank_fold : (l : List ℕ) → eqb (fold bit_or 0 l) 0 ≡ all none l
+blank_fold l = fold-or 0 l
 
 zeros : (l : List ℕ) → all none l ≡ true → l ≡ replicate (length l) 0
 unfolding all
@@ -67,9 +60,9 @@ zeros (x ∷ l) e = let z : x ≡ 0 = eqb-true x 0 (and_left (eqb x 0) (all none
     rw z (ap (λ (y : List ℕ). 0 ∷ y) (zeros l (and_right (eqb x 0) (all none l) e)))
 
 -- a line that names nobody is sound if there is nobody to name
-pub blank-line : (l : List ℕ) (s : ProgramSet) → s.bits < 2 ^ 32 → length l ≡ 32 → all none l ≡ true → eqb s.bits 0 ≡ line_sound l (has_program s)
+pub blank_line : (l : List ℕ) (s : ProgramSet) → s.bits < 2 ^ 32 → length l ≡ 32 → all none l ≡ true → eqb s.bits 0 ≡ line_sound l (has_program s)
 unfolding line_sound takes names same padded
-blank-line l s h n e = let z : l ≡ replicate 32 0 = zeros l e ∙ ap (λ (x : ℕ). replicate x 0) n in
+blank_line l s h n e = let z : l ≡ replicate 32 0 = zeros l e ∙ ap (λ (x : ℕ). replicate x 0) n in
     rw z (takes_is [] s h ∙ sym (and_true _))
 
 -- ---- programs by their standings
@@ -99,22 +92,18 @@ module _ (q : Program) where
       none_within : (a b : ℕ) → a ≡ 0 → covers a b ≡ true
       none_within a b e = eq-eqb (bit_and a b) a (omega (arith, and_le_l a b))
 
-  pub absent-no : claims_none ≡ false → false ≡ (sets_sound q && standing_sound Standing.Absent q)
+  -- so an absent program is sound by itself if it has no sets
+  pub sound_absent : (sets_sound q && standing_sound Standing.Absent q) ≡ (claims_none && opens_none)
   unfolding standing_sound
-  absent-no e = sym (ap (λ (x : Bool). sets_sound q && (x && opens_none)) e ∙ and_false (sets_sound q))
+  sound_absent = by_test claims_none
+      (λ e. by_test opens_none (λ d. rw (nothing-sound e d) refl) (λ d. rw (e, d) (and_false (sets_sound q))))
+      (λ e. rw e (and_false (sets_sound q)))
 
-  pub absent_is : claims_none ≡ true → opens_none ≡ (sets_sound q && standing_sound Standing.Absent q)
+  -- a held one if it has nothing open, and its sets are sound
+  pub sound_held : (sets_sound q && standing_sound Standing.Held q) ≡ (opens_none && sets_sound q)
   unfolding standing_sound
-  absent_is e =
-      let f = sym (ap (λ (x : Bool). x && opens_none) e) in
-      by_test opens_none
-      (λ d. sym (ap (λ (x : Bool). x && standing_sound Standing.Absent q) (nothing-sound e d) ∙ sym f))
-      (λ d. d ∙ sym (ap (λ (x : Bool). sets_sound q && x) (sym f ∙ d) ∙ and_false (sets_sound q)))
+  sound_held = by_test opens_none (λ d. rw d (and_true (sets_sound q))) (λ d. rw d (and_false (sets_sound q)))
 
-  pub held-no : opens_none ≡ false → false ≡ (sets_sound q && standing_sound Standing.Held q)
-  unfolding standing_sound
-  held-no e = sym (ap (λ (x : Bool). sets_sound q && x) e ∙ and_false (sets_sound q))
-
-  pub held_is : opens_none ≡ true → sets_sound q ≡ (sets_sound q && standing_sound Standing.Held q)
-  unfolding standing_sound
-  held_is e = sym (ap (λ (x : Bool). sets_sound q && x) e ∙ and_true (sets_sound q))
+-- and an admitted one if its sets are
+pub sound_admitted : (t : Bool) → t && true ≡ t
+sound_admitted t = and_true t

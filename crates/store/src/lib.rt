@@ -58,7 +58,7 @@ pub fn seat_at(rest: Rest, p: u8) -> Seat
     requires { (1 ≤ p) × (p ≤ 32) }
     ensures { result ≡ seat_at rest p }
 {
-    rest.seats[(p - 1) as usize]
+    rest.seats[usize::from(p - 1)]
 }
 
 // The rest with a seat for p.
@@ -67,7 +67,7 @@ pub fn put_seat(rest: Rest, p: u8, t: Seat) -> Rest
     ensures { result ≡ put_seat rest p t }
 {
     let mut r = rest;
-    r.seats[(p - 1) as usize] = t;
+    r.seats[usize::from(p - 1)] = t;
     r
 }
 
@@ -76,7 +76,7 @@ pub fn standing_at(rest: Rest, p: u8) -> Standing
     requires { (1 ≤ p) × (p ≤ 32) }
     ensures { result ≡ standing_at rest p }
 {
-    rest.seats[(p - 1) as usize].standing
+    rest.seats[usize::from(p - 1)].standing
 }
 
 // The rest with p at a standing.
@@ -85,6 +85,6 @@ pub fn seated(rest: Rest, p: u8, s: Standing) -> Rest
     ensures { result ≡ seated_at rest p s }
 {
     let mut r = rest;
-    r.seats[(p - 1) as usize].standing = s;
+    r.seats[usize::from(p - 1)].standing = s;
     r
 }

@@ -58,9 +58,9 @@ pub fn claim_at(mode: Mode, p: u8) -> usize
     ensures { (result ≡ claim_place mode (p - 1)) × (result < 96) }
 {
     match mode {
-        Mode::Write => (p - 1) as usize,
-        Mode::Read => READABLE + (p - 1) as usize,
-        Mode::Inquiry => INQUIRABLE + (p - 1) as usize,
+        Mode::Write => usize::from(p - 1),
+        Mode::Read => READABLE + usize::from(p - 1),
+        Mode::Inquiry => INQUIRABLE + usize::from(p - 1),
     }
 }
 
@@ -159,7 +159,7 @@ pub fn put(sets: &mut Sets, rest: Rest, p: u8, q: Program) -> Rest
     ensures result_after { board_of sets.new result ≡ set_program (board_of sets.old rest) p q }
     ensures value { (result ≡ put_seat rest p (seat_of q)) }
 {
-    put_sets(sets, (p - 1) as usize, q);
+    put_sets(sets, usize::from(p - 1), q);
     crate::put_seat(rest, p, seat_of(q))
 }
 
