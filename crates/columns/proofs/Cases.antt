@@ -2,7 +2,7 @@
 -- Assumes nothing.
 use mathlib.Core.Path.{◌≡◌, refl}
 use mathlib.Core.List.{[], ◌∷◌, map}
-use Rattle.columns.specs.declared.Field.{Field}
+use Rattle.std.specs.Prelude.{Some, None}
 use Rattle.columns.specs.Columns.{leading, columns_of, read_all, number_of}
 
 -- "zero written with two blanks"; 7, 64 and 407
@@ -32,14 +32,14 @@ read : map (number_of 3 0 64) (
     ∷ (32 ∷ 55 ∷ [])
     ∷ (32 ∷ 32 ∷ 32 ∷ 55 ∷ [])
     ∷ [])
-    ≡ Field.Number 0 ∷ Field.Number 7 ∷ Field.Number 64 ∷ Field.Bad ∷ Field.Bad ∷ Field.Bad ∷ Field.Bad ∷ Field.Bad ∷ Field.Bad ∷ Field.Bad
-    ∷ Field.Bad ∷ Field.Bad ∷ []
+    ≡ Some 0 ∷ Some 7 ∷ Some 64 ∷ None ∷ None ∷ None ∷ None ∷ None ∷ None ∷ None
+    ∷ None ∷ None ∷ []
 unfolding read_all number_of
 read = refl
 
 -- in four columns and in five
 read-wider : number_of 4 1 1024 (49 ∷ 48 ∷ 50 ∷ 52 ∷ []) ∷ number_of 4 1 1024 (49 ∷ 48 ∷ 50 ∷ 53 ∷ [])
     ∷ number_of 5 1 65535 (54 ∷ 53 ∷ 53 ∷ 51 ∷ 53 ∷ []) ∷ number_of 5 1 65535 (32 ∷ 48 ∷ 53 ∷ 51 ∷ 53 ∷ []) ∷ []
-    ≡ Field.Number 1024 ∷ Field.Bad ∷ Field.Number 65535 ∷ Field.Bad ∷ []
+    ≡ Some 1024 ∷ None ∷ Some 65535 ∷ None ∷ []
 unfolding read_all number_of
 read-wider = refl

@@ -7,14 +7,14 @@ use Rattle.laws.specs.Lists.{all, first, same}
 use Rattle.rules.specs.Calls.{no_claims}
 use Rattle.rules.specs.Replies.{number}
 use Rattle.rules.specs.declared.Verb.{Verb}
-use Rattle.request.specs.declared.Reading.{Reading}
-use Rattle.request.specs.Requests.{taken, begins, program_field, file_field, w_field, r_field, j_field, record_field, label_part, files_in}
+use Rattle.std.specs.Prelude.{Ok, Err}
+use Rattle.request.specs.Requests.{Request, taken, begins, program_field, file_field, w_field, r_field, j_field, record_field, label_part, files_in}
 use Rattle.request.specs.Requests.{rises_from, adding_all, entry_files, entry_counts, entry_line, file_line, record_line, alone_line, verb_of, request_of}
 
 -- 01's number of the refusal, 0 for a line that is taken
-refusal : Reading → ℕ
-refusal Reading.Taken = 0
-refusal (Reading.Refused r) = number r
+refusal : Request → ℕ
+refusal (Ok a) = 0
+refusal (Err r) = number r
 
 refused-lines : List (List ℕ)
 refused-lines =
@@ -62,7 +62,7 @@ refused-lines =
     ∷ (69 ∷ 78 ∷ 84 ∷ 69 ∷ 82 ∷ 32 ∷ 32 ∷ 32 ∷ 49 ∷ 83 ∷ 84 ∷ 79 ∷ 67 ∷ 75 ∷ 32 ∷ 32 ∷ 32 ∷ 32 ∷ 32 ∷ 48 ∷ 32 ∷ 32 ∷ 48 ∷ [])
     ∷ []
 
-table : map (λ (l : List ℕ). refusal (request_of l).reading) refused-lines
+table : map (λ (l : List ℕ). refusal (request_of l)) refused-lines
     ≡ 3 ∷ 3 ∷ 4 ∷ 4 ∷ 5 ∷ 5 ∷ 5 ∷ 5 ∷ 4 ∷ 5 ∷ 6 ∷ 5 ∷ 4 ∷ 5 ∷ 5 ∷ 7 ∷ 7 ∷ 3 ∷ 4 ∷ 4 ∷ 4 ∷ 5 ∷ 5
     ∷ 4 ∷ 4 ∷ 5 ∷ 5 ∷ 5 ∷ 5 ∷ 4 ∷ 4 ∷ 5 ∷ 5 ∷ 7 ∷ 5 ∷ 4 ∷ []
 unfolding refusal refused-lines

@@ -12,7 +12,7 @@ use borrow.Author.Tests.{eqb-true}
 use Rattle.laws.specs.Tests.{by_test, by_option, never, and_left, and_right}
 use Rattle.laws.specs.Lists.{all}
 use Rattle.laws.specs.Laws.{same_eq, first_some}
-use Rattle.columns.specs.declared.Field.{Field}
+use Rattle.std.specs.Prelude.{Some, Ok, is_ok}
 use Rattle.columns.specs.Columns.{word_width, program_width, file_width, record_width, columns_of}
 use Rattle.columns.proofs.Laws.{columns_length, field_cases, number_is}
 use Rattle.columns.proofs.Rows.{flat-length}
@@ -20,12 +20,10 @@ use Rattle.rules.specs.declared.Asked.{Asked}
 use Rattle.rules.specs.declared.Refusal.{Refusal}
 use Rattle.rules.specs.declared.Verb.{Verb}
 use Rattle.rules.specs.Calls.{Call, claiming, no_claims, call_of}
-use Rattle.request.specs.declared.Reading.{Reading}
-use Rattle.request.specs.declared.Request.{Request}
 use Rattle.request.specs.declared.Shape.{Shape}
 use Rattle.request.specs.Verbs.{verbs, verb_columns, shape_of, program_at, alone_length, file_at, file_length, label_width, label_at, w_at, r_at}
 use Rattle.request.specs.Verbs.{record_at, record_length, j_at, files_at, entry_length}
-use Rattle.request.specs.Requests.{asking, taken, request_call, begins, program_in, file_in, count_in, record_in, program_field, file_field, w_field, r_field}
+use Rattle.request.specs.Requests.{Request, asking, refused, taken, request_call, begins, program_in, file_in, count_in, record_in, program_field, file_field, w_field, r_field}
 use Rattle.request.specs.Requests.{j_field, record_field, record_line}
 use Rattle.request.specs.Requests.{label_byte, label_part, files_in, rises, set_of, entry_files, entry_counts, entry_line, file_line, alone_line}
 use Rattle.request.specs.Requests.{read_as, verb_of, request_of, has_label, is_entry, label_of, files_of, files_columns, asked_by, line_as, line_for, line_of}
@@ -43,7 +41,7 @@ past n k l x y e h = (rw e (take_at x y k h), sym (drop-drop k n l) ∙ rw e (dr
 
 -- what a line says that is read as it was written
 abbrev read_back : Shape → Asked → List ℕ → Type 0
-read_back s a label = read_as s a.verb (line_as s a label) ≡ record { reading = Reading.Taken; asked = a }
+read_back s a label = read_as s a.verb (line_as s a label) ≡ Ok a
 
 -- OPEN, CLOSE, DROP
 file_read : (a : Asked) (label : List ℕ) → RangeAs Shape.File a → ProperAs Shape.File a → read_back Shape.File a label
@@ -243,8 +241,8 @@ label_read c label h g = rw (line_read c label h g) (label_at_lem (shape_of (ask
 -- ---- a line that is taken is the line that asks for its call
 
 -- a refused line isn't taken
-not_taken : {P : Type 0} (r : Refusal) → Reading.Refused r ≡ Reading.Taken → P
-not_taken r h = absurd (let z : ◌≡◌ {A = ℕ} 0 1 = cc in omega arith)
+not_taken : {P : Type 0} (r : Refusal) → is_ok (refused r) ≡ true → P
+not_taken r h = never h refl
 
 verb_is : (v : Verb) (l : List ℕ) → begins v l ≡ true → take word_width l ≡ verb_columns v
 unfolding begins
@@ -261,7 +259,7 @@ cut_last n k l x h e = sym (take_all k (drop n l) (omega (arith, length-drop n l
 -- what holds of a line of this shape that is taken
 record Asks (s : Shape) (v : Verb) (l : List ℕ) : Type 0 where
   asked : Asked
-  reads : read_as s v l ≡ record { reading = Reading.Taken; asked = asked }
+  reads : read_as s v l ≡ Ok asked
   verb : asked.verb ≡ v
   back : asked_by (call_of asked) ≡ asked
   range : RangeAs s asked
@@ -269,7 +267,7 @@ record Asks (s : Shape) (v : Verb) (l : List ℕ) : Type 0 where
   label : has_label s ≡ true → IsLabel (label_part l)
 
 -- LEAVE, CANCEL, RETURN
-alone_asks : (v : Verb) (l : List ℕ) → AskedBack Shape.Alone v → begins v l ≡ true → (alone_line v l).reading ≡ Reading.Taken → Asks Shape.Alone v l
+alone_asks : (v : Verb) (l : List ℕ) → AskedBack Shape.Alone v → begins v l ≡ true → is_ok (alone_line v l) ≡ true → Asks Shape.Alone v l
 unfolding alone_line program_field
 alone_asks v l back b h =
     by_test (eqb (length l) alone_length)
@@ -290,7 +288,7 @@ alone_asks v l back b h =
     (λ e. not_taken Refusal.BadLength (rw e at h))
 
 -- OPEN, CLOSE, DROP
-file_asks : (v : Verb) (l : List ℕ) → AskedBack Shape.File v → begins v l ≡ true → (file_line v l).reading ≡ Reading.Taken → Asks Shape.File v l
+file_asks : (v : Verb) (l : List ℕ) → AskedBack Shape.File v → begins v l ≡ true → is_ok (file_line v l) ≡ true → Asks Shape.File v l
 unfolding file_line program_field file_field
 file_asks v l back b h =
     by_test (eqb (length l) file_length)
@@ -314,7 +312,7 @@ file_asks v l back b h =
     (λ e. not_taken Refusal.BadLength (rw e at h))
 
 -- FETCH
-record_asks : (v : Verb) (l : List ℕ) → AskedBack Shape.Record v → begins v l ≡ true → (record_line v l).reading ≡ Reading.Taken
+record_asks : (v : Verb) (l : List ℕ) → AskedBack Shape.Record v → begins v l ≡ true → is_ok (record_line v l) ≡ true
     → Asks Shape.Record v l
 unfolding record_line program_field file_field record_field
 record_asks v l back b h =
@@ -352,10 +350,10 @@ record Entry (v : Verb) (l : List ℕ) : Type 0 where
   qs : List ℕ
   js : List ℕ
   label : all label_byte (label_part l) ≡ true
-  at_p : program_field l ≡ Field.Number p
-  at-w : w_field l ≡ Field.Number w
-  at-r : r_field l ≡ Field.Number r
-  at_j : j_field l ≡ Field.Number j
+  at_p : program_field l ≡ Some p
+  at-w : w_field l ≡ Some w
+  at-r : r_field l ≡ Some r
+  at_j : j_field l ≡ Some j
   long : length l ≡ entry_length (w + r + j)
   at_vs : files_in w (drop files_at l) ≡ some vs
   at_qs : files_in r (drop (entry_length w) l) ≡ some qs
@@ -365,7 +363,7 @@ record Entry (v : Verb) (l : List ℕ) : Type 0 where
   js_rise : rises js ≡ true
   says : entry_line v l ≡ taken v p 0 0 (claiming (set_of vs) (set_of qs) (set_of js))
 
-entry : (v : Verb) (l : List ℕ) → (entry_line v l).reading ≡ Reading.Taken → Entry v l
+entry : (v : Verb) (l : List ℕ) → is_ok (entry_line v l) ≡ true → Entry v l
 unfolding entry_line entry_counts entry_files
 entry v l h =
     by_test (ltb (length l) files_at) (λ e. not_taken Refusal.BadLength (rw e at h)) (λ e.
@@ -455,7 +453,7 @@ entry_asks v l back b t =
       label = λ z. (size, t.label);
     }
 
-as_asks : (s : Shape) (v : Verb) (l : List ℕ) → AskedBack s v → begins v l ≡ true → (read_as s v l).reading ≡ Reading.Taken → Asks s v l
+as_asks : (s : Shape) (v : Verb) (l : List ℕ) → AskedBack s v → begins v l ≡ true → is_ok (read_as s v l) ≡ true → Asks s v l
 as_asks Shape.Entry v l back b h = entry_asks v l back b (entry v l h)
 as_asks Shape.File v l back b h = file_asks v l back b h
 as_asks Shape.Record v l back b h = record_asks v l back b h
@@ -474,14 +472,14 @@ asks_says v l t =
     let a = t.asked in
     let shape : shape_of a.verb ≡ shape_of v = ap shape_of t.verb in
     rw t.reads (record {
-      call = ap (λ (x : Asked). record { reading = Reading.Taken; asked = x }) (sym t.back);
+      call = ap (λ (x : Asked). Ok x) (sym t.back);
       range = rw t.back (subst (λ (s : Shape). RangeAs s a) (sym shape) t.range);
       line = rw t.back (t.line ∙ ap (λ (s : Shape). line_as s a (label_part l)) (sym shape));
       label = λ z. t.label (sym (ap has_label shape) ∙ z);
     })
 
 -- THE LAW, the other way: a line that is taken is the line that asks for the call it says, with its own label
-pub read-line : (l : List ℕ) → (request_of l).reading ≡ Reading.Taken → Says l (request_of l)
+pub read-line : (l : List ℕ) → is_ok (request_of l) ≡ true → Says l (request_of l)
 unfolding request_of verb_of
 read-line l h = by_option (verb_of l) (λ e. not_taken Refusal.NoVerb (rw e at h))
     (λ v e. rw e (asks_says v l (as_asks (shape_of v) v l (verb_good v).back (first_some (λ u. begins u l) verbs v e).1 (rw e at h))))
@@ -497,7 +495,7 @@ asks_of_taken l c h =
 taken_of_asks : (l : List ℕ) (c : Call) → AsksFor l c → TakenWith l c
 taken_of_asks l c h =
     let e = ap request_of h.1.2 ∙ line_read c h.1.0 h.0 h.1.1 in
-    (ap (λ (q : Request). q.reading) e, ap request_call e ∙ (call_good c).back)
+    (ap (λ (q : Request). is_ok q) e, ap request_call e ∙ (call_good c).back)
 
 pub line_law : LineLaw
 line_law l c = (asks_of_taken l c, taken_of_asks l c)

@@ -8,7 +8,7 @@ use lib.Seq.{take_at}
 use native.Mathlib.Omega.{arith}
 use Rattle.laws.specs.Lists.{first, same}
 use Rattle.laws.specs.Laws.{first-same}
-use Rattle.columns.specs.declared.Field.{Field}
+use Rattle.std.specs.Prelude.{Some}
 use Rattle.columns.specs.Columns.{word_width, program_width, file_width, record_width, columns_of}
 use Rattle.columns.proofs.Laws.{number_columns}
 use Rattle.rules.specs.declared.Verb.{Verb}
@@ -104,18 +104,18 @@ verb_found v l e = first-same (λ u. same (take word_width l) (verb_columns u)) 
 
 -- ---- fields
 
-pub program_columns : (p : ℕ) → 1 ≤ p → p ≤ 32 → program_in (columns_of program_width p) ≡ Field.Number p
+pub program_columns : (p : ℕ) → 1 ≤ p → p ≤ 32 → program_in (columns_of program_width p) ≡ Some p
 program_columns p h k = let m : 32 < 10 ^ program_width = omega arith in number_columns program_width 1 32 p (omega arith) (omega arith) h k
 
 -- files, and counts of files, have room in their columns
 file_fits : (f : ℕ) → f ≤ 64 → f < 10 ^ file_width
 file_fits f h = let m : 64 < 10 ^ file_width = omega arith in omega arith
 
-pub file_columns : (f : ℕ) → 1 ≤ f → f ≤ 64 → file_in (columns_of file_width f) ≡ Field.Number f
+pub file_columns : (f : ℕ) → 1 ≤ f → f ≤ 64 → file_in (columns_of file_width f) ≡ Some f
 file_columns f h k = number_columns file_width 1 64 f (omega arith) (file_fits f k) h k
 
-pub count_columns : (n : ℕ) → n ≤ 64 → count_in (columns_of file_width n) ≡ Field.Number n
+pub count_columns : (n : ℕ) → n ≤ 64 → count_in (columns_of file_width n) ≡ Some n
 count_columns n k = number_columns file_width 0 64 n (omega arith) (file_fits n k) (omega arith) k
 
-pub record_columns : (n : ℕ) → 1 ≤ n → n ≤ 65535 → record_in (columns_of record_width n) ≡ Field.Number n
+pub record_columns : (n : ℕ) → 1 ≤ n → n ≤ 65535 → record_in (columns_of record_width n) ≡ Some n
 record_columns n h k = let m : 65535 < 10 ^ record_width = omega arith in number_columns record_width 1 65535 n (omega arith) (omega arith) h k

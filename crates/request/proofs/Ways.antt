@@ -7,18 +7,18 @@ use mathlib.Core.Option.{Option, none, some}
 use native.Mathlib.Omega.{arith}
 use lib.Dec.{eqb, ltb}
 use lib.ListN.{length, take, drop}
-use Rattle.columns.specs.declared.Field.{Field}
+use Rattle.std.specs.Prelude.{Some, None}
+use Rattle.std.specs.Prelude as prelude
 use Rattle.columns.specs.Columns.{program_width, file_width, record_width, number_of, on_number}
 use Rattle.columns.proofs.Laws.{number_is}
 use Rattle.laws.specs.Lists.{all, with_found}
 use Rattle.rules.specs.declared.Claims.{Claims}
 use Rattle.rules.specs.declared.Refusal.{Refusal}
 use Rattle.rules.specs.declared.Verb.{Verb}
-use Rattle.request.specs.declared.Request.{Request}
 use Rattle.request.specs.declared.Shape.{Shape}
 use Rattle.request.specs.Verbs.{shape_of, program_at, alone_length, file_at, file_length, record_at, record_length, w_at, r_at, j_at, files_at}
 use Rattle.request.specs.Verbs.{entry_length}
-use Rattle.request.specs.Requests.{refused, taken, program_field, file_field, w_field, r_field, j_field, record_field, label_byte, label_part, files_in}
+use Rattle.request.specs.Requests.{Request, asked_in, refused, taken, program_field, file_field, w_field, r_field, j_field, record_field, label_byte, label_part, files_in}
 use Rattle.request.specs.Requests.{rises, entry_files, entry_counts, entry_line, file_line, record_line, alone_line, read_as, verb_of, request_of}
 
 -- P holds of every such refusal and call
@@ -40,9 +40,9 @@ module _ (P : Request → Type 0) (h : Ways P) where
       → P (on_number (number_of w low high l) d f)
   a-number w low high l {d} {f} g k = by_field (number_of w low high l) refl
     where
-      by_field : (e : Field) → number_of w low high l ≡ e → P (on_number e d f)
-      by_field Field.Bad e = g
-      by_field (Field.Number n) e = k n (number_is w low high l n e).1
+      by_field : (e : prelude.Option ℕ) → number_of w low high l ≡ e → P (on_number e d f)
+      by_field None e = g
+      by_field (Some n) e = k n (number_is w low high l n e).1
 
   program_ways : (l : List ℕ) {f : ℕ → Request} → ((n : ℕ) → n ≤ 32 → P (f n)) → P (on_number (program_field l) (refused Refusal.BadNumber) f)
   unfolding program_field
@@ -89,10 +89,10 @@ module _ (P : Request → Type 0) (h : Ways P) where
 
 -- the numbers of a line are bytes, and that of a record two
 pub numbers_fit : (l : List ℕ)
-    → ((request_of l).asked.program ≤ 255) × ((request_of l).asked.file ≤ 255) × ((request_of l).asked.item ≤ 65535)
+    → ((asked_in (request_of l)).program ≤ 255) × ((asked_in (request_of l)).file ≤ 255) × ((asked_in (request_of l)).item ≤ 65535)
 numbers_fit l =
     let none : (0 ≤ 255) × (0 ≤ 255) × (0 ≤ 65535) = (omega arith, omega arith, omega arith) in
-    line_ways (λ q. (q.asked.program ≤ 255) × (q.asked.file ≤ 255) × (q.asked.item ≤ 65535))
+    line_ways (λ q. ((asked_in q).program ≤ 255) × ((asked_in q).file ≤ 255) × ((asked_in q).item ≤ 65535))
     (record {
       no-verb = none;
       length = none;

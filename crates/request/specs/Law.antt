@@ -1,16 +1,14 @@
 -- The law of request lines, as types: a line is taken with a call exactly when it is the line that asks for this call, with some label.
 -- It is proved in proofs/Lines.antt. Assumes nothing.
-use Rattle.std.specs.Prelude.{ℕ, ◌≤◌, ◌≡◌, ◌↔◌, true, List, [], length}
+use Rattle.std.specs.Prelude.{ℕ, ◌≤◌, ◌≡◌, ◌↔◌, Ok, is_ok, true, List, [], length}
 use Rattle.files.specs.Sets.{OfFiles}
 use Rattle.laws.specs.Lists.{all}
 use Rattle.rules.specs.Calls.{Call}
 use Rattle.rules.specs.declared.Claims.{Claims}
 use Rattle.rules.specs.declared.Asked.{Asked}
-use Rattle.request.specs.declared.Reading.{Reading}
-use Rattle.request.specs.declared.Request.{Request}
 use Rattle.request.specs.declared.Shape.{Shape}
 use Rattle.request.specs.Verbs.{shape_of, label_width}
-use Rattle.request.specs.Requests.{request_call, label_byte, request_of, has_label, label_of, asked_by, line_of}
+use Rattle.request.specs.Requests.{Request, request_call, label_byte, request_of, has_label, label_of, asked_by, line_of}
 
 -- a label: eight bytes from 32 to 126
 abbrev pub IsLabel : List ℕ → Type 0
@@ -37,7 +35,7 @@ InRange c = AskedInRange (asked_by c)
 
 -- what a line that asks for a call says
 abbrev pub saying : Call → Request
-saying c = record { reading = Reading.Taken; asked = asked_by c }
+saying c = Ok (asked_by c)
 
 -- a label, where the line of the call has one: ENTER's
 abbrev pub LabelFor : Call → List ℕ → Type 0
@@ -55,7 +53,7 @@ label_in c label = label_as (shape_of (asked_by c).verb) label
 
 -- the line is taken, and c is the call it asks for
 abbrev pub TakenWith : List ℕ → Call → Type 0
-TakenWith l c = ((request_of l).reading ≡ Reading.Taken) × (request_call (request_of l) ≡ c)
+TakenWith l c = (is_ok (request_of l) ≡ true) × (request_call (request_of l) ≡ c)
 
 -- c is within range, and the line is the one that asks for c, with some label
 abbrev pub AsksFor : List ℕ → Call → Type 0

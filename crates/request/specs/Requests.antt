@@ -1,8 +1,8 @@
 -- Request lines: what a line says, and the line that says a call.
 -- Assumes nothing.
-use Rattle.std.specs.Prelude.{ℕ, zero, suc, ◌+◌, Bool, true, false, cond, ◌&&◌, List, [], ◌∷◌, ◌++◌, eqb, leb, ltb, length, take, drop}
+use Rattle.std.specs.Prelude.{ℕ, zero, suc, ◌+◌, Bool, true, false, cond, ◌&&◌, Some, None, Result, Ok, Err, List, [], ◌∷◌, ◌++◌, eqb, leb, ltb, length, take, drop}
+use Rattle.std.specs.Prelude as prelude
 use Rattle.std.proofs.Math.Option.{Option, none, some}
-use Rattle.columns.specs.declared.Field.{Field}
 use Rattle.columns.specs.Columns.{word_width, program_width, file_width, record_width, columns_of, number_of, on_number}
 use Rattle.columns.specs.Rows.{flat}
 use Rattle.files.specs.declared.FileSet.{FileSet}
@@ -13,9 +13,6 @@ use Rattle.rules.specs.declared.Refusal.{Refusal}
 use Rattle.laws.specs.Lists.{all, keep, first, with_found, rising, same}
 use Rattle.rules.specs.Calls.{Call, Enter, Open, Close, Drop, Leave, Cancel, Fetch, Return, claiming, no_claims, call_of}
 use Rattle.rules.specs.declared.Verb.{Verb}
-use Rattle.request.specs.declared.Reading.{Reading}
-use Rattle.request.specs.declared.Request.{Request}
-use Rattle.request.specs.declared.Beginning.{Beginning}
 use Rattle.request.specs.declared.Shape.{Shape}
 use Rattle.request.specs.Verbs.{verbs, verb_columns, shape_of, program_at, alone_length, file_at, file_length, label_width, label_at, w_at, r_at}
 use Rattle.request.specs.Verbs.{record_at, record_length, j_at, files_at, entry_length}
@@ -26,17 +23,26 @@ use Rattle.request.specs.Verbs.{record_at, record_length, j_at, files_at, entry_
 abbrev pub asking : Verb → ℕ → ℕ → ℕ → Claims → Asked
 asking v p f n c = record { verb = v; program = p; file = f; item = n; claims = c }
 
--- a refused line: no numbers and no claims
+-- what a line says: the call that it asks for, or its refusal
+abbrev pub Request : Type 0
+Request = Result Asked Refusal
+
+-- a refused line
 abbrev pub refused : Refusal → Request
-refused r = record { reading = Reading.Refused r; asked = asking Verb.Enter 0 0 0 no_claims }
+refused r = Err r
 
 -- a line that is taken: its verb, program, file, record and claims
 abbrev pub taken : Verb → ℕ → ℕ → ℕ → Claims → Request
-taken v p f n c = record { reading = Reading.Taken; asked = asking v p f n c }
+taken v p f n c = Ok (asking v p f n c)
+
+-- the verb, the numbers and the claims of a line; a refused line has no numbers and no claims
+abbrev pub asked_in : Request → Asked
+asked_in (Ok a) = a
+asked_in (Err r) = asking Verb.Enter 0 0 0 no_claims
 
 -- the direct call that a line asks for
 abbrev pub request_call : Request → Call
-request_call q = call_of q.asked
+request_call q = call_of (asked_in q)
 
 -- ---- columns
 
@@ -45,36 +51,36 @@ unfoldable pub begins : Verb → List ℕ → Bool
 begins v l = same (take word_width l) (verb_columns v)
 
 -- "Programs are 1 to 32, files 1 to 64"; counts are "each 0 to 64"
-abbrev pub program_in : List ℕ → Field
+abbrev pub program_in : List ℕ → prelude.Option ℕ
 program_in part = number_of program_width 1 32 part
 
-abbrev pub file_in : List ℕ → Field
+abbrev pub file_in : List ℕ → prelude.Option ℕ
 file_in part = number_of file_width 1 64 part
 
-abbrev pub count_in : List ℕ → Field
+abbrev pub count_in : List ℕ → prelude.Option ℕ
 count_in part = number_of file_width 0 64 part
 
 -- "one record, 1 to 65,535"
-abbrev pub record_in : List ℕ → Field
+abbrev pub record_in : List ℕ → prelude.Option ℕ
 record_in part = number_of record_width 1 65535 part
 
 -- "Each field is read from a part of the line that begins at its column."
-unfoldable pub program_field : List ℕ → Field
+unfoldable pub program_field : List ℕ → prelude.Option ℕ
 program_field l = program_in (take program_width (drop program_at l))
 
-unfoldable pub file_field : List ℕ → Field
+unfoldable pub file_field : List ℕ → prelude.Option ℕ
 file_field l = file_in (take file_width (drop file_at l))
 
-unfoldable pub w_field : List ℕ → Field
+unfoldable pub w_field : List ℕ → prelude.Option ℕ
 w_field l = count_in (take file_width (drop w_at l))
 
-unfoldable pub r_field : List ℕ → Field
+unfoldable pub r_field : List ℕ → prelude.Option ℕ
 r_field l = count_in (take file_width (drop r_at l))
 
-unfoldable pub j_field : List ℕ → Field
+unfoldable pub j_field : List ℕ → prelude.Option ℕ
 j_field l = count_in (take file_width (drop j_at l))
 
-unfoldable pub record_field : List ℕ → Field
+unfoldable pub record_field : List ℕ → prelude.Option ℕ
 record_field l = record_in (take record_width (drop record_at l))
 
 -- a label byte is from 32 to 126
@@ -172,10 +178,10 @@ read_as Shape.Alone v l = alone_line v l
 unfoldable pub verb_of : List ℕ → Option Verb
 verb_of l = first (λ v. begins v l) verbs
 
--- with which verb a line begins, as the code says it
-abbrev pub begun : Option Verb → Beginning
-begun none = Beginning.Unknown
-begun (some v) = Beginning.With v
+-- the verb that a line begins with, as the code gives it
+abbrev pub begun : {A : Type 0} → Option A → prelude.Option A
+begun none = None
+begun (some v) = Some v
 
 -- what a line says, or the first of refusals 3 to 7 that applies
 unfoldable pub request_of : List ℕ → Request
@@ -189,12 +195,9 @@ has_label Shape.Record = false
 has_label Shape.Alone = false
 
 -- the line is taken, and has a label
-abbrev pub is_entry_by : Reading → Verb → Bool
-is_entry_by (Reading.Refused r) v = false
-is_entry_by Reading.Taken v = has_label (shape_of v)
-
 abbrev pub is_entry : Request → Bool
-is_entry q = is_entry_by q.reading q.asked.verb
+is_entry (Ok a) = has_label (shape_of a.verb)
+is_entry (Err r) = false
 
 -- "the label as a part of the caller's line"; "for another verb or a refused line that part is empty"
 unfoldable pub label_of : List ℕ → List ℕ
