@@ -12,24 +12,24 @@ use Rattle.rules.specs.Soundness.{sound}
 use Rattle.rules.specs.Replies.{reply, refuse, refuse_unsound}
 use Rattle.rules.specs.Calls.{Call, direct}
 use Rattle.rules.specs.Digraph.{is_unsafe, may_carry}
-use Rattle.request.specs.declared.Reading.{Reading}
-use Rattle.request.specs.Requests.{request_of, request_call}
+use Rattle.std.specs.Prelude.{Ok, Err}
+use Rattle.request.specs.Requests.{Request, request_of, request_call}
 use Rattle.digraph.specs.declared.Loop.{Loop}
 use Rattle.digraph.specs.Loops.{named, CarriedBy}
-use Rattle.linecall.specs.LineCall.{journal_full, reply_by, reply_to, posted, line_call}
+use Rattle.linecall.specs.LineCall.{journal_full, reply_to, posted, line_call}
 
-reading_unsafe : (b : Board) (k : Reading) (c : Call) → is_unsafe (reply_by b k c).answer ≡ true → reply_by b k c ≡ direct b c
-unfolding refuse reply
-reading_unsafe b Reading.Taken c e = refl
-reading_unsafe b (Reading.Refused r) c e = never {t = false} e refl
+reply_unsafe : (b : Board) (q : Request) → is_unsafe (reply_to b q).answer ≡ true → reply_to b q ≡ direct b (request_call q)
+unfolding reply_to refuse reply
+reply_unsafe b (Ok a) e = refl
+reply_unsafe b (Err r) e = never {t = false} e refl
 
 line_unsafe : (b : Board) (line journal : List ℕ) (place : ℕ) → is_unsafe (line_call b line journal place).reply.answer ≡ true
     → (line_call b line journal place).reply ≡ direct b (request_call (request_of line))
-unfolding line_call posted reply_to refuse reply refuse_unsound
+unfolding line_call posted refuse reply refuse_unsound
 line_unsafe b line journal place e = by_test (sound b)
     (λ s. by_test (journal_full (length journal) place)
     (λ f. never {t = false} (rw (s, f) at e) refl)
-    (λ f. rw (s, f) (reading_unsafe b (request_of line).reading (request_call (request_of line)) (rw (s, f) at e))))
+    (λ f. rw (s, f) (reply_unsafe b (request_of line) (rw (s, f) at e))))
     (λ s. never {t = false} (rw s at e) refl)
 
 -- the loop of the reply is the loop of the line's call

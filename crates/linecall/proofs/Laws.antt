@@ -17,17 +17,16 @@ use Rattle.rules.specs.declared.Board.{Board}
 use Rattle.rules.specs.declared.Refusal.{Refusal}
 use Rattle.rules.specs.Soundness.{sound}
 use Rattle.rules.specs.Replies.{refused, refusal_of, reply, refuse, refuse_unsound}
-use Rattle.rules.specs.Calls.{Call, direct}
+use Rattle.rules.specs.Calls.{Call, call_of, direct}
 use Rattle.apply.proofs.Laws.{apply-same}
 use Rattle.theory.specs.Ready.{good}
 use Rattle.theory.specs.Sound.{sound_kept}
 use Rattle.theory.specs.Worked.{direct_is_apply, apply_fits}
-use Rattle.request.specs.declared.Reading.{Reading}
-use Rattle.request.specs.Requests.{request_of, request_call}
-use Rattle.request.specs.declared.Request.{Request}
+use Rattle.std.specs.Prelude.{Ok, Err}
+use Rattle.request.specs.Requests.{Request, request_of}
 use Rattle.journal.specs.Journal.{journal_line, journal_room, line_bytes, written}
 use Rattle.journal.proofs.Laws.{line-length}
-use Rattle.linecall.specs.LineCall.{highest_place, journal_full, refuse_line, lines_for, reply_by, reply_to, stopped, posted, line_call}
+use Rattle.linecall.specs.LineCall.{highest_place, journal_full, refuse_line, lines_for, reply_to, stopped, posted, line_call}
 
 -- check 2
 pub full_far : (room place : ℕ) → highest_place < place → journal_full room place ≡ true
@@ -65,11 +64,8 @@ refuse_count b r = omega arith
 -- a reply to a line, of a sound board, has at most 32 lines
 pub reply_fits : (b : Board) (q : Request) → length b.programs ≡ 32 → sound b ≡ true → (reply_to b q).count ≤ 32
 unfolding reply_to
-reply_fits b q z s = by_reading q.reading
-  where
-    by_reading : (r : Reading) → (reply_by b r (request_call q)).count ≤ 32
-    by_reading Reading.Taken = rw (direct_is_apply b (request_call q) s) (apply_fits b (request_call q) (good b z s)).lines_fit
-    by_reading (Reading.Refused r) = refuse_count b r
+reply_fits b (Ok a) z s = rw (direct_is_apply b (call_of a) s) (apply_fits b (call_of a) (good b z s)).lines_fit
+reply_fits b (Err r) z s = refuse_count b r
 
 -- the line call's results, check by check
 pub call_unsound : (b : Board) (line journal : List ℕ) (place : ℕ) → sound b ≡ false
@@ -114,19 +110,19 @@ refuse-board : (b : Board) (r : Refusal) → (refuse b r).board ≡ b
 unfolding refuse reply
 refuse-board b r = refl
 
-reply-sound : (b : Board) (r : Reading) (q : Request) → length b.programs ≡ 32 → sound b ≡ true
-    → sound (reply_by b r (request_call q)).board ≡ true
-reply-sound b Reading.Taken q z s = rw (direct_is_apply b (request_call q) s) (sound_kept b (request_call q) z s).0
-reply-sound b (Reading.Refused r) q z s = rw (refuse-board b r) s
+reply-sound : (b : Board) (q : Request) → length b.programs ≡ 32 → sound b ≡ true → sound (reply_to b q).board ≡ true
+unfolding reply_to
+reply-sound b (Ok a) z s = rw (direct_is_apply b (call_of a) s) (sound_kept b (call_of a) z s).0
+reply-sound b (Err r) z s = rw (refuse-board b r) s
 
 -- a line call keeps a sound board sound
 pub line-sound : (b : Board) (line journal : List ℕ) (place : ℕ) → length b.programs ≡ 32 → sound b ≡ true
     → sound (line_call b line journal place).reply.board ≡ true
-unfolding line_call posted reply_to
+unfolding line_call posted
 line-sound b line journal place z s =
     by_test (journal_full (length journal) place)
     (λ f. rw (s, f, refuse-board b Refusal.JournalFull) s)
-    (λ f. rw (s, f) (reply-sound b (request_of line).reading (request_of line) z s))
+    (λ f. rw (s, f) (reply-sound b (request_of line) z s))
 
 -- a refused one is the board as it was
 direct-same : (b : Board) (c : Call) → refused (direct b c).answer ≡ true → (direct b c).board ≡ b
@@ -135,16 +131,16 @@ direct-same b c n =
     by_test (sound b) (λ s. rw s (apply-same b c (rw s at n)))
     (λ s. rw s)
 
-reply-same : (b : Board) (r : Reading) (c : Call) → refused (reply_by b r c).answer ≡ true → (reply_by b r c).board ≡ b
-unfolding refuse reply
-reply-same b Reading.Taken c n = direct-same b c n
-reply-same b (Reading.Refused r) c n = refl
+reply-same : (b : Board) (q : Request) → refused (reply_to b q).answer ≡ true → (reply_to b q).board ≡ b
+unfolding reply_to refuse reply
+reply-same b (Ok a) n = direct-same b (call_of a) n
+reply-same b (Err r) n = refl
 
 pub refused-same : (b : Board) (line journal : List ℕ) (place : ℕ) → refused (line_call b line journal place).reply.answer ≡ true
     → (line_call b line journal place).reply.board ≡ b
-unfolding line_call posted reply_to refuse reply refuse_unsound
+unfolding line_call posted refuse reply refuse_unsound
 refused-same b line journal place n =
     by_test (sound b)
     (λ s. by_test (journal_full (length journal) place) (λ f. rw (s, f))
-    (λ f. rw (s, f) (reply-same b (request_of line).reading (request_call (request_of line)) (rw (s, f) at n))))
+    (λ f. rw (s, f) (reply-same b (request_of line) (rw (s, f) at n))))
     (λ s. rw s)

@@ -1,6 +1,6 @@
 -- The line call, as a definition: checks 1 and 2, the line, the direct call that it asks for, and its lines in the journal.
 -- Assumes nothing.
-use Rattle.std.specs.Prelude.{ℕ, ◌+◌, ◌*◌, ◌≤◌, Bool, not, cond, ◌||◌, List, [], ◌∷◌, eqb, ltb, length}
+use Rattle.std.specs.Prelude.{ℕ, ◌+◌, ◌*◌, ◌≤◌, Bool, not, cond, ◌||◌, List, [], ◌∷◌, Ok, Err, eqb, ltb, length}
 use Rattle.rules.specs.declared.Board.{Board}
 use Rattle.rules.specs.declared.Refusal.{Refusal}
 use Rattle.rules.specs.declared.Word.{Word}
@@ -8,10 +8,8 @@ use Rattle.rules.specs.declared.Line.{Line}
 use Rattle.rules.specs.declared.Reply.{Reply}
 use Rattle.rules.specs.Soundness.{sound}
 use Rattle.rules.specs.Replies.{refusal_of, lines_of, refuse, refuse_unsound}
-use Rattle.rules.specs.Calls.{Call, direct}
-use Rattle.request.specs.declared.Reading.{Reading}
-use Rattle.request.specs.declared.Request.{Request}
-use Rattle.request.specs.Requests.{request_of, request_call}
+use Rattle.rules.specs.Calls.{call_of, direct}
+use Rattle.request.specs.Requests.{Request, asked_in, request_of}
 use Rattle.journal.specs.Journal.{journal_line, journal_room, written}
 
 -- the highest place
@@ -23,21 +21,19 @@ abbrev pub journal_full : ℕ → ℕ → Bool
 journal_full room place = ltb highest_place place || ltb room (place + journal_room)
 
 -- the reply to what a line says: refusals 3 to 7, or the direct call with the line's numbers
-abbrev pub reply_by : Board → Reading → Call → Reply
-reply_by b Reading.Taken c = direct b c
-reply_by b (Reading.Refused r) c = refuse b r
-
 unfoldable pub reply_to : Board → Request → Reply
-reply_to b q = reply_by b q.reading (request_call q)
+reply_to b (Ok a) = direct b (call_of a)
+reply_to b (Err r) = refuse b r
 
 -- the numbers of the call fit a journal line's
 abbrev pub FitsLine : Request → Type 0
-FitsLine q = (q.asked.program ≤ 255) × (q.asked.file ≤ 255) × (q.asked.item ≤ 65535)
+FitsLine q = ((asked_in q).program ≤ 255) × ((asked_in q).file ≤ 255) × ((asked_in q).item ≤ 65535)
 
 -- the REFUSE line: the program, the file and the record of the line; "Refusals 3 to 7 have program and file 0", and "the record of the call ..,
 -- 0 in refusals 3 to 7", as a refused line has
 abbrev pub refuse_line : Request → ℕ → Line
-refuse_line q n = record { word = Word.Refuse; program = q.asked.program; file = q.asked.file; refusal = n; item = q.asked.item }
+refuse_line q n =
+    record { word = Word.Refuse; program = (asked_in q).program; file = (asked_in q).file; refusal = n; item = (asked_in q).item }
 
 -- the journal lines of a reply: its own, or one REFUSE line
 unfoldable pub lines_for : Request → Reply → List Line

@@ -2,8 +2,6 @@
 // and its lines in the journal.
 ghost use Rattle.std.specs.Prelude.{◌≡◌, true, ◌+◌, ◌*◌, ◌≤◌, length};
 ghost use Rattle.rules.specs.Soundness.{sound};
-ghost use Rattle.rules.specs.Calls.{direct};
-ghost use Rattle.request.specs.Requests.{request_call};
 ghost use Rattle.journal.specs.Journal.{journal_line, journal_room, written};
 ghost use Rattle.parts.specs.Entries.{IsEntries, no_entries};
 ghost use Rattle.store.specs.Sets.{IsStore};
@@ -14,8 +12,7 @@ ghost use Rattle.linecall.specs.LineCall.{journal_full, FitsLine, refuse_line, l
 
 use apply::Changed;
 use parts::entries::Entries;
-use request::{Reading, Request};
-use rules::{Line, Refusal, Word};
+use rules::{Asked, Line, Refusal, Word};
 use store::Rest;
 use store::sets::Sets;
 
@@ -33,23 +30,29 @@ pub const HIGHEST_PLACE: u64 = 1000000000;
 fn is_full(room: usize, place: u64) -> bool
     ensures { result ≡ journal_full room place }
 {
-    if HIGHEST_PLACE < place {
-        return true;
-    }
-    room < place as usize + journal::JOURNAL_ROOM
+    HIGHEST_PLACE < place || room < place as usize + journal::JOURNAL_ROOM
 }
 
-// The REFUSE line of a request.
-fn refuse_line(q: Request, n: u8) -> Line
+// The REFUSE line of a request: with the program, the file and the record of its call, or 0 of a refused line.
+fn refuse_line(q: Result<Asked, Refusal>, n: u8) -> Line
     requires { FitsLine q }
     ensures { result ≡ refuse_line q n }
 {
-    Line {
+    let none = Line {
         word: Word::Refuse,
-        program: q.asked.program as u16,
-        file: q.asked.file as u16,
-        refusal: n as u16,
-        item: q.asked.item as u16,
+        program: 0,
+        file: 0,
+        refusal: u16::from(n),
+        item: 0,
+    };
+    match q {
+        Ok(a) => Line {
+            program: a.program as u16,
+            file: a.file as u16,
+            item: a.item as u16,
+            ..none
+        },
+        Err(_) => none,
     }
 }
 
@@ -59,7 +62,7 @@ fn write_lines(
     lines: &Entries,
     journal: &mut [u8],
     place: usize,
-    q: Request,
+    q: Result<Asked, Refusal>,
     c: Changed,
 ) -> usize
     requires { (place + journal_room ≤ length journal.old) × (c.progress.count ≤ 32) × FitsLine q × IsEntries lines.now }
@@ -68,37 +71,24 @@ fn write_lines(
     ensures journal_after { journal.new
         ≡ written journal.old place (lines_for q (replied (written_in sets.now lines.now c.progress) c.answer)) }
 {
-    let answer = c.answer;
-    let n = parts::refusals::of_answer(answer);
+    let n = parts::refusals::of_answer(c.answer);
     if n == 0 {
-        let w = c.progress;
-        return journal::put_lines(journal, place, lines, w.count as usize);
+        return journal::put_lines(journal, place, lines, c.progress.count as usize);
     }
     let l = refuse_line(q, n);
     journal::put_line(&mut journal[place..], l);
     place + journal::JOURNAL_LINE
 }
 
-// The direct call that a taken line asks for.
-fn call(sets: &mut Sets, rest: Rest, lines: &mut Entries, q: Request) -> Changed
-    requires { (sound (board_of sets.old rest) ≡ true) × IsStore sets.old × (lines.old ≡ no_entries) }
-    ensures comes_to { ComesTo sets.new lines.new result (direct (board_of sets.old rest) (request_call q)) }
-    ensures in_form { InForm sets.new lines.new result }
-{
-    let asked = q.asked;
-    apply::call(sets, rest, lines, asked)
-}
-
 // What a line comes to: its direct call, or a refusal.
-fn reply_to(sets: &mut Sets, rest: Rest, lines: &mut Entries, q: Request) -> Changed
+fn reply_to(sets: &mut Sets, rest: Rest, lines: &mut Entries, q: Result<Asked, Refusal>) -> Changed
     requires { (sound (board_of sets.old rest) ≡ true) × IsStore sets.old × (lines.old ≡ no_entries) }
     ensures comes_to { ComesTo sets.new lines.new result (reply_to (board_of sets.old rest) q) }
     ensures in_form { InForm sets.new lines.new result }
 {
-    let reading = q.reading;
-    match reading {
-        Reading::Taken => call(sets, rest, lines, q),
-        Reading::Refused(n) => apply::replies::refused(sets, rest, lines, n),
+    match q {
+        Ok(asked) => apply::call(sets, rest, lines, asked),
+        Err(refusal) => apply::replies::refused(sets, rest, lines, refusal),
     }
 }
 
