@@ -136,8 +136,8 @@ fn load(rt: &(impl Input + Print), asked: u64) -> io::Result<Board> {
     let mut text = [0u8; 4096];
     let n = read_text(rt, &mut text, asked)?;
     let loaded = image::load(front(&text, n));
-    let board = loaded.board;
-    answers::load(rt, loaded.ok, board)?;
+    let board = loaded.unwrap_or(Board::EMPTY);
+    answers::load(rt, loaded.is_some(), board)?;
     Ok(board)
 }
 

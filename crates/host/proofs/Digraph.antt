@@ -15,7 +15,7 @@ use Rattle.rules.specs.Boards.{is_program, at}
 use Rattle.rules.specs.Digraph.{is_loop_with}
 use Rattle.theory.specs.Programs.{Is, is_of, of_is}
 use Rattle.image.specs.Image.{bytes_n}
-use Rattle.image.specs.declared.Loaded.{Loaded}
+use Rattle.std.proofs.Common.{None, Some}
 use Rattle.digraph.specs.declared.Loop.{Loop}
 use Rattle.digraph.specs.Rows.{matrix_of}
 use Rattle.digraph.specs.Loops.{named, LoopOfWaiter}
@@ -29,20 +29,21 @@ pub row-length : (n : ℕ) → length (bytes_n 4 n) ≡ 4
 unfolding bytes_n
 row-length n = refl
 
-module _ (image buffer : List ℕ) (k : Loaded) (e : k ≡ read_image image) where
-  pub reach_refused : k.ok ≡ false → (reach_answer image buffer ≡ refusal_answer 1) × (reach_rows image buffer ≡ buffer)
+module _ (image buffer : List ℕ) where
+  pub reach_refused : None ≡ read_image image → (reach_answer image buffer ≡ refusal_answer 1) × (reach_rows image buffer ≡ buffer)
   unfolding reach_answer reach_rows
-  reach_refused h = let o = sym (ap (λ (x : Loaded). x.ok) e) ∙ h in (rw o, rw o)
+  reach_refused e = (rw (← e), rw (← e))
 
-  pub reach_short : k.ok ≡ true → length buffer < 128 → (reach_answer image buffer ≡ refusal_answer 17) × (reach_rows image buffer ≡ buffer)
+  pub reach_short : (b : Board) → Some b ≡ read_image image → length buffer < 128
+      → (reach_answer image buffer ≡ refusal_answer 17) × (reach_rows image buffer ≡ buffer)
   unfolding reach_answer reach_rows
-  reach_short h l = let o = sym (ap (λ (x : Loaded). x.ok) e) ∙ h in let t = lt-ltb (length buffer) 128 l in (rw (o, t), rw (o, t))
+  reach_short b e l = let t = lt-ltb (length buffer) 128 l in (rw (← e, t), rw (← e, t))
 
-  pub reach_written : (rows after : List ℕ) → k.ok ≡ true → 128 ≤ length buffer → rows ≡ matrix_of k.board → after ≡ flat (bytes_n 4) rows ++ drop 128 buffer
-      → (128 ≡ reach_answer image buffer) × (after ≡ reach_rows image buffer)
+  pub reach_written : (b : Board) (rows after : List ℕ) → Some b ≡ read_image image → 128 ≤ length buffer → rows ≡ matrix_of b
+      → after ≡ flat (bytes_n 4) rows ++ drop 128 buffer → (128 ≡ reach_answer image buffer) × (after ≡ reach_rows image buffer)
   unfolding reach_answer reach_rows
-  reach_written rows after h l m a = let o = sym (ap (λ (x : Loaded). x.ok) e) ∙ h in let t = le-ltb (length buffer) 128 l in
-      (rw (o, t), rw (o, t) (a ∙ ap (λ (r : List ℕ). flat (bytes_n 4) r ++ drop 128 buffer) (m ∙ ap (λ (x : Loaded). matrix_of x.board) e)))
+  reach_written b rows after e l m a = let t = le-ltb (length buffer) 128 l in
+      (rw (← e, t), rw (← e, t) (a ∙ ap (λ (r : List ℕ). flat (bytes_n 4) r ++ drop 128 buffer) m))
 
 -- ---- a waiter's loop
 
@@ -58,43 +59,43 @@ loop_placed b p l before after answer h n r ea eb = record {
     short = let i = length-take-le l.count l.at (let f = h.fits in omega (arith, n, f)) in
         let f = h.fits in le-ltb (length before) (length (named l)) (omega (arith, i, f))
 
-module _ (image : List ℕ) (p : ℕ) (list : List ℕ) (k : Loaded) (e : k ≡ read_image image) where
+module _ (image : List ℕ) (p : ℕ) (list : List ℕ) where
   reply-refused : (n answer : ℕ) → loop_refusal image p list ≡ n → n ≢ 0 → answer ≡ refusal_answer n → LoopReply image p list answer list
   reply-refused n answer z m a = record {
     refused = λ _. (a ∙ ap refusal_answer (sym z), refl);
-    placed = λ u. absurd (m (sym z ∙ u));
+    placed = λ b e u. absurd (m (sym z ∙ u));
   }
 
-  pub loop_refused : (answer : ℕ) → k.ok ≡ false → answer ≡ refusal_answer 1 → LoopReply image p list answer list
+  pub loop_refused : (answer : ℕ) → None ≡ read_image image → answer ≡ refusal_answer 1 → LoopReply image p list answer list
   unfolding loop_refusal
-  loop_refused answer h a = let o = sym (ap (λ (x : Loaded). x.ok) e) ∙ h in reply-refused 1 answer (rw o) (λ z. omega arith) a
+  loop_refused answer e a = reply-refused 1 answer (rw (← e)) (λ z. omega arith) a
 
-  pub loop_no-program : (answer : ℕ) → k.ok ≡ true → (Is p → ⊥) → answer ≡ refusal_answer 8 → LoopReply image p list answer list
+  pub loop_no-program : (b : Board) (answer : ℕ) → Some b ≡ read_image image → (Is p → ⊥) → answer ≡ refusal_answer 8 → LoopReply image p list answer list
   unfolding loop_refusal
-  loop_no-program answer h i a = let o = sym (ap (λ (x : Loaded). x.ok) e) ∙ h in
-      let t = no_true (is_program p) (λ u. i (is_of p u)) in reply-refused 8 answer (rw (o, t)) (λ z. omega arith) a
+  loop_no-program b answer e i a = let t = no_true (is_program p) (λ u. i (is_of p u)) in
+      reply-refused 8 answer (rw (← e, t)) (λ z. omega arith) a
 
-  pub loop_short : (answer : ℕ) → k.ok ≡ true → Is p → length list < 32 → answer ≡ refusal_answer 17 → LoopReply image p list answer list
+  pub loop_short : (b : Board) (answer : ℕ) → Some b ≡ read_image image → Is p → length list < 32 → answer ≡ refusal_answer 17
+      → LoopReply image p list answer list
   unfolding loop_refusal
-  loop_short answer h i l a = let o = sym (ap (λ (x : Loaded). x.ok) e) ∙ h in let t = of_is p i in let u = lt-ltb (length list) 32 l in
-      reply-refused 17 answer (rw (o, t, u)) (λ z. omega arith) a
+  loop_short b answer e i l a = let t = of_is p i in let u = lt-ltb (length list) 32 l in
+      reply-refused 17 answer (rw (← e, t, u)) (λ z. omega arith) a
 
-  pub loop_written : (answer : ℕ) (after : List ℕ) → k.ok ≡ true → Is p → 32 ≤ length list → LoopPlaced k.board p list answer after
+  pub loop_written : (b : Board) (answer : ℕ) (after : List ℕ) → Some b ≡ read_image image → Is p → 32 ≤ length list → LoopPlaced b p list answer after
       → LoopReply image p list answer after
   unfolding loop_refusal
-  loop_written answer after h i l c = let o = sym (ap (λ (x : Loaded). x.ok) e) ∙ h in let t = of_is p i in let u = le-ltb (length list) 32 l in record {
-    refused = λ n. absurd (n (rw (o, t, u)));
-    placed = λ _. subst (λ (x : Loaded). LoopPlaced x.board p list answer after) e c;
+  loop_written b answer after e i l c = let t = of_is p i in let u = le-ltb (length list) 32 l in record {
+    refused = λ n. absurd (n (rw (← e, t, u)));
+    placed = λ d f _. let g : b ≡ d = cc in subst (λ (x : Board). LoopPlaced x p list answer after) g c;
   }
 
 -- ---- the checker
 
-module _ (image : List ℕ) (p f : ℕ) (list : List ℕ) (k : Loaded) (e : k ≡ read_image image) where
-  pub check_refused : k.ok ≡ false → is_loop_answer image p f list ≡ refusal_answer 1
+module _ (image : List ℕ) (p f : ℕ) (list : List ℕ) where
+  pub check_refused : None ≡ read_image image → is_loop_answer image p f list ≡ refusal_answer 1
   unfolding is_loop_answer
-  check_refused h = let o = sym (ap (λ (x : Loaded). x.ok) e) ∙ h in rw o
+  check_refused e = rw (← e)
 
-  pub checked-is : (t : Bool) → k.ok ≡ true → t ≡ is_loop_with k.board p f list → is_loop_answer image p f list ≡ cond t 1 0
+  pub checked-is : (b : Board) (t : Bool) → Some b ≡ read_image image → t ≡ is_loop_with b p f list → is_loop_answer image p f list ≡ cond t 1 0
   unfolding is_loop_answer
-  checked-is t h a = let o = sym (ap (λ (x : Loaded). x.ok) e) ∙ h in
-      rw o (ap (λ (u : Bool). cond u 1 0) (sym (a ∙ ap (λ (x : Loaded). is_loop_with x.board p f list) e)))
+  checked-is b t e a = rw (← e, a)

@@ -4,11 +4,13 @@ use mathlib.Core.Path.{◌≡◌, refl, ap, sym, ◌∙◌}
 use mathlib.Core.List.{List, [], ◌++◌}
 use mathlib.Core.Bool.{true, false}
 use mathlib.Core.Option.{get_or}
+use Rattle.std.proofs.Common.{Option, None, Some}
+use Rattle.std.specs.Option.{option_map_or}
 use lib.Dec.{eqb}
 use lib.ListN.{length, take, drop}
 use lib.Seq.{length-take-le, take-length}
 use borrow.Author.Tests.{ne_eqb, lt-ltb, le-ltb}
-use Rattle.laws.specs.Tests.{by_test, never}
+use Rattle.laws.specs.Tests.{by_test}
 use Rattle.rules.specs.declared.Reply.{Reply}
 use Rattle.rules.specs.declared.Board.{Board}
 use Rattle.rules.specs.declared.Refusal.{Refusal}
@@ -23,14 +25,10 @@ use Rattle.search.specs.declared.Search.{Search}
 use Rattle.search.specs.declared.Order.{Order}
 use Rattle.search.specs.Rows.{as_order}
 use Rattle.reply.proofs.Laws.{order_count, order-at}
-use Rattle.image.specs.Image.{image_length, image_of, loaded_of, refused_image}
-use Rattle.image.specs.declared.Loaded.{Loaded}
-use Rattle.image.specs.declared.LoadedRest.{LoadedRest}
-use Rattle.image.specs.Stored.{loaded_in}
-use Rattle.store.specs.Sets.{Sets}
+use Rattle.image.specs.Image.{image_length, image_of, loaded_of}
 use Rattle.image.proofs.RoundTrip.{accepted}
 use Rattle.linecall.specs.LineCall.{line_call}
-use Rattle.host.specs.Host.{refusal_answer, host_answer, host_image, hosted_by, host_call, read_image, taken_in}
+use Rattle.host.specs.Host.{refusal_answer, host_answer, host_image, hosted_by, host_call, sound_only, read_image}
 use Rattle.host.specs.Host.{placed_answer, placed_in, order_answer, order_buffer}
 
 -- ---- refusals
@@ -60,47 +58,51 @@ number_some Refusal.HasRecord = refl
 
 -- ---- reading an image, check by check
 
-pub image_layout : (image : List ℕ) (k : Loaded) → k ≡ loaded_of image → k.ok ≡ false → read_image image ≡ refused_image
+pub image_layout : (image : List ℕ) → None ≡ loaded_of image → None ≡ read_image image
 unfolding read_image
-image_layout image k e h = rw (← e, h)
+image_layout image e = rw (← e)
 
-pub image_unsound : (image : List ℕ) (k : Loaded) → k ≡ loaded_of image → k.ok ≡ true → sound k.board ≡ false → read_image image ≡ refused_image
+pub image_unsound : (image : List ℕ) (b : Board) → Some b ≡ loaded_of image → sound b ≡ false → None ≡ read_image image
 unfolding read_image
-image_unsound image k e h s = rw (← e, h, s)
+image_unsound image b e s = rw (← e, s)
 
-pub image_sound : (image : List ℕ) (k : Loaded) → k ≡ loaded_of image → k.ok ≡ true → sound k.board ≡ true → read_image image ≡ k
+pub image_sound : (image : List ℕ) (b : Board) → Some b ≡ loaded_of image → sound b ≡ true → Some b ≡ read_image image
 unfolding read_image
-image_sound image k e h s = rw (← e, h, s)
+image_sound image b e s = rw (← e, s)
 
--- an image that is taken has its board in the sets and the rest
-pub taken_ok : (sets : Sets) (r : LoadedRest) → r.ok ≡ true → loaded_in sets r ≡ taken_in sets r
-taken_ok sets r e = rw e refl
+only_sound : (k : Option Board) (b : Board) → Some b ≡ sound_only k → (Some b ≡ k) × (sound b ≡ true)
+only_sound None b e = cc
+only_sound (Some d) b e =
+    by_test (sound d)
+    (λ s. let f : Some b ≡ Some d = rw s at e in let g : b ≡ d = cc in (f, rw g s))
+    (λ s. let f : Some b ≡ None = rw s at e in cc)
 
 -- an image that is read holds a sound board, and is of its layout
-pub image_read : (image : List ℕ) (k : Loaded) → k ≡ read_image image → k.ok ≡ true → (k ≡ loaded_of image) × (sound k.board ≡ true)
-image_read image k e h =
-    by_test (loaded_of image).ok
-    (λ o. by_test (sound (loaded_of image).board)
-    (λ s. let d = e ∙ image_sound image (loaded_of image) refl o s in (d, ap (λ (x : Loaded). sound x.board) d ∙ s))
-    (λ s. never (sym (ap (λ (x : Loaded). x.ok) e) ∙ h) (ap (λ (x : Loaded). x.ok) (image_unsound image (loaded_of image) refl o s))))
-    (λ o. never (sym (ap (λ (x : Loaded). x.ok) e) ∙ h) (ap (λ (x : Loaded). x.ok) (image_layout image (loaded_of image) refl o)))
+pub image_read : (image : List ℕ) (b : Board) → Some b ≡ read_image image → (Some b ≡ loaded_of image) × (sound b ≡ true)
+unfolding read_image
+image_read image b e = only_sound (loaded_of image) b e
 
 -- ---- the host's call
 
 module _ (image line journal : List ℕ) (place : ℕ) where
-  -- an image that isn't read gets the answer of refusal 1
-  pub host_refused : (read_image image).ok ≡ false → host_call image line journal place ≡ record { answer = host_answer 1 place; image = image; journal = journal }
-  unfolding host_call line_call refuse_unsound
-  host_refused h =
-      by_test (loaded_of image).ok
-      (λ o. by_test (sound (loaded_of image).board)
-      (λ s. never (ap (λ (x : Loaded). x.ok) (image_sound image (loaded_of image) refl o s) ∙ o) h)
-      (λ s. rw (o, s)))
-      (λ o. rw o)
+  refused_by : (k : Option Board) → None ≡ sound_only k
+      → option_map_or (λ b. hosted_by image (line_call b line journal place)) k (record { answer = host_answer 1 place; image = image; journal = journal })
+      ≡ record { answer = host_answer 1 place; image = image; journal = journal }
+  unfolding line_call refuse_unsound
+  refused_by None e = refl
+  refused_by (Some b) e =
+      by_test (sound b)
+      (λ s. let f : None ≡ Some b = rw s at e in cc)
+      (λ s. rw s)
 
-  pub host_called : (loaded_of image).ok ≡ true → host_call image line journal place ≡ hosted_by image (line_call (loaded_of image).board line journal place)
+  -- an image that isn't read gets the answer of refusal 1
+  pub host_refused : None ≡ read_image image → host_call image line journal place ≡ record { answer = host_answer 1 place; image = image; journal = journal }
+  unfolding host_call read_image
+  host_refused h = refused_by (loaded_of image) h
+
+  pub host_called : (b : Board) → Some b ≡ loaded_of image → host_call image line journal place ≡ hosted_by image (line_call b line journal place)
   unfolding host_call
-  host_called e = rw e
+  host_called b e = rw (← e)
 
 -- the host's answer and image, by the number of the refusal
 pub answer_done : (n place : ℕ) → n ≡ 0 → host_answer n place ≡ place
@@ -127,28 +129,28 @@ pub record Hosts (image line journal : List ℕ) (place n p : ℕ) (r : Reply) (
   pub image-after : (host_call image line journal place).image ≡ host_image n image r.board
   pub journal-after : (host_call image line journal place).journal ≡ j
 
-pub host_by : (image line journal : List ℕ) (place n p : ℕ) (r : Reply) (j : List ℕ) (k : Loaded) → k ≡ loaded_of image → k.ok ≡ true
-    → r ≡ (line_call k.board line journal place).reply → p ≡ (line_call k.board line journal place).place
-    → j ≡ (line_call k.board line journal place).journal
+pub host_by : (image line journal : List ℕ) (place n p : ℕ) (r : Reply) (j : List ℕ) (b : Board) → Some b ≡ loaded_of image
+    → r ≡ (line_call b line journal place).reply → p ≡ (line_call b line journal place).place
+    → j ≡ (line_call b line journal place).journal
     → n ≡ refusal_of r.answer → Hosts image line journal place n p r j
-host_by image line journal place n p r j k ek ok er ep ej en =
-    let h = host_called image line journal place (ap (λ (x : Loaded). x.ok) (sym ek) ∙ ok) in
-    rw (en, er, ep, ej, ek)
+host_by image line journal place n p r j b e er ep ej en =
+    let h = host_called image line journal place b e in
+    rw (en, er, ep, ej)
     (record {
       answer = rw h;
       image-after = rw h;
       journal-after = rw h;
     })
 
-pub accepted_long : (image : List ℕ) (k : Loaded) → k ≡ loaded_of image → k.ok ≡ true → length image ≡ image_length
-accepted_long image k ek ok = (accepted image (ap (λ (x : Loaded). x.ok) (sym ek) ∙ ok)).long
+pub accepted_long : (image : List ℕ) (b : Board) → Some b ≡ loaded_of image → length image ≡ image_length
+accepted_long image b e = (accepted image b (sym e)).long
 
 -- ---- the order of an image's board
 
-pub order-refused : (image buffer : List ℕ) → (read_image image).ok ≡ false
+pub order-refused : (image buffer : List ℕ) → None ≡ read_image image
     → (order_answer image buffer ≡ refusal_answer 1) × (order_buffer image buffer ≡ buffer)
 unfolding order_answer order_buffer
-order-refused image buffer h = (rw h, rw h)
+order-refused image buffer h = (rw (← h), rw (← h))
 
 -- a sound board has an order
 pub sound-ordered : (b : Board) → sound b ≡ true → found (carried b) ≡ true
@@ -168,13 +170,13 @@ placed_all at n buffer after h k g = let e = length-take-le n at h in let t = le
     (rw (e, t), rw (e, t) (g ∙ rw (take-length (take n at), e)))
 
 -- the order that was found beside a sound board
-pub order-read : (image buffer at : List ℕ) (n : ℕ) (r : Order) (k : Loaded) → k ≡ loaded_of image → k.ok ≡ true → sound k.board ≡ true
-    → r ≡ as_order (carried k.board) → r.kind ≡ Search.Found n → r.at ≡ at
+pub order-read : (image buffer at : List ℕ) (n : ℕ) (r : Order) (b : Board) → Some b ≡ loaded_of image → sound b ≡ true
+    → r ≡ as_order (carried b) → r.kind ≡ Search.Found n → r.at ≡ at
     → (order_answer image buffer ≡ placed_answer (take n at) buffer) × (order_buffer image buffer ≡ placed_in (take n at) buffer)
 unfolding order_answer order_buffer
-order-read image buffer at n r k ek ok s er en ea =
-    let e = image_sound image k ek ok s in
-    let o = get_or (carried k.board) [] in
-    let c : length o ≡ n = order_count (carried k.board) r n er en in
-    let t : o ≡ take n at = sym (take_padded 0 o) ∙ rw (c, order-at (carried k.board) r n er en, ea) in
-    (rw (e, ok, t), rw (e, ok, t))
+order-read image buffer at n r b e s er en ea =
+    let d = image_sound image b e s in
+    let o = get_or (carried b) [] in
+    let c : length o ≡ n = order_count (carried b) r n er en in
+    let t : o ≡ take n at = sym (take_padded 0 o) ∙ rw (c, order-at (carried b) r n er en, ea) in
+    (rw (← d, t), rw (← d, t))

@@ -34,16 +34,15 @@ use Rattle.request.proofs.Verbs.{call_good}
 use Rattle.request.proofs.Lines.{line_read, read-line}
 use Rattle.journal.specs.Journal.{journal_line, lines_bytes, written}
 use Rattle.journal.proofs.Laws.{lines-length}
-use Rattle.image.specs.declared.Loaded.{Loaded}
-use Rattle.image.specs.Image.{image_of, loaded_of}
+use Rattle.image.specs.Image.{image_of}
 use Rattle.image.proofs.RoundTrip.{loaded_back, loaded_again}
 use Rattle.linecall.specs.LineCall.{Outcome, journal_full, lines_for, reply_to, stopped, posted, line_call}
 use Rattle.linecall.proofs.Laws.{call_unsound, call_full, room, refused-same}
-use Rattle.host.specs.Host.{hosted_by, host_call}
+use Rattle.host.specs.Host.{Hosted, hosted_by}
 use Rattle.host.specs.Promises.{LineDoesItsCall, LineRefused, RefusedKeepsBoard, WritesNothing, OtherBytesKept, ReadsBack}
 use Rattle.host.specs.Promises.{AcceptedIsWritten, RefusedKeepsImage, LineNeverOutOfRange, DirectOutOfRange}
 use Rattle.host.specs.Promises.{AnswerWrittenFirst, OrderCarried}
-use Rattle.host.proofs.Laws.{number_some, image_layout, image_unsound, image_sound, image_kept}
+use Rattle.host.proofs.Laws.{number_some, image_read, image_sound, host_refused, host_called, image_kept}
 use Rattle.host.proofs.Range.{of_line, line_reads, not_eight, range_checked}
 use Rattle.host.proofs.Answers.{by_reading, accepted-number, number-accepted, first-line, written-first}
 
@@ -168,15 +167,10 @@ order-carried b line journal place s =
 -- ══ The image ══
 
 pub reads_back : ReadsBack
-reads_back b f s = image_sound (image_of b) (record { ok = true; board = b }) (sym (loaded_back b f s)) refl s
+reads_back b f s = sym (image_sound (image_of b) b (sym (loaded_back b f s)) s)
 
 pub accepted_is_written : AcceptedIsWritten
-accepted_is_written image y h =
-    by_test (loaded_of image).ok
-    (λ o. by_test (sound (loaded_of image).board)
-    (λ s. ap (λ (k : Loaded). image_of k.board) (image_sound image (loaded_of image) refl o s) ∙ loaded_again image y o)
-    (λ s. never h (ap (λ (k : Loaded). k.ok) (image_unsound image (loaded_of image) refl o s))))
-    (λ o. never h (ap (λ (k : Loaded). k.ok) (image_layout image (loaded_of image) refl o)))
+accepted_is_written image b y h = loaded_again image b y (sym (image_read image b (sym h)).0)
 
 -- an answer that is a refusal has a number
 refused-number : (a : Answer) → refused a ≡ true → refusal_of a ≡ 0 → ⊥
@@ -187,18 +181,8 @@ module _ (image line journal : List ℕ) (place : ℕ) where
   kept b h = image_kept (refusal_of (line_call b line journal place).reply.answer) image _
       (refused-number (line_call b line journal place).reply.answer h)
 
-  unsound-refused : (b : Board) → sound b ≡ false → refused (line_call b line journal place).reply.answer ≡ true
-  unfolding line_call refuse_unsound
-  unsound-refused b s = rw s
-
 pub refused_keeps_image : RefusedKeepsImage
-unfolding host_call
-refused_keeps_image image line journal place h =
-    by_test (loaded_of image).ok
-    (λ o. rw o (by_test (sound (loaded_of image).board)
-    (λ s. let e = image_sound image (loaded_of image) refl o s in ⊎_elim
-    (λ u. never (ap (λ (k : Loaded). k.ok) e ∙ o) u)
-    (λ u. kept image line journal place (loaded_of image).board
-    (ap (λ (k : Loaded). refused (line_call k.board line journal place).reply.answer) (sym e) ∙ u)) h)
-    (λ s. kept image line journal place (loaded_of image).board (unsound-refused image line journal place (loaded_of image).board s))))
-    (λ o. rw o)
+refused_keeps_image image line journal place h = ⊎_elim
+    (λ u. ap (λ (o : Hosted). o.image) (host_refused image line journal place (sym u)))
+    (λ u. let (b, e, r) = u in
+    ap (λ (o : Hosted). o.image) (host_called image line journal place b (image_read image b (sym e)).0) ∙ kept image line journal place b r) h

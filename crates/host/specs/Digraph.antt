@@ -1,6 +1,7 @@
 -- The matrix of an image's board and its loops, as a C host gets them.
 -- Assumes nothing.
-use Rattle.std.specs.Prelude.{ℕ, ◌≡◌, ◌≢◌, ◌⊎◌, true, false, cond, List, ◌++◌, ltb, length, drop}
+use Rattle.std.specs.Prelude.{ℕ, Some, is_some, ◌≡◌, ◌≢◌, ◌⊎◌, true, false, cond, List, ◌++◌, ltb, length, drop}
+use Rattle.std.specs.Option.{option_map_or}
 use Rattle.rules.specs.declared.Board.{Board}
 use Rattle.rules.specs.Boards.{is_program, is_waiting, at, awaited}
 use Rattle.rules.specs.Digraph.{is_loop_with}
@@ -18,12 +19,12 @@ matrix_bytes b = flat (bytes_n 4) (matrix_of b)
 -- refusal 1 for an image that isn't read, then 17 for a buffer of fewer than 128 bytes, else 128
 unfoldable pub reach_answer : List ℕ → List ℕ → ℕ
 reach_answer image buffer =
-    cond (read_image image).ok (cond (ltb (length buffer) 128) (refusal_answer 17) 128) (refusal_answer 1)
+    cond (is_some (read_image image)) (cond (ltb (length buffer) 128) (refusal_answer 17) 128) (refusal_answer 1)
 
 -- the buffer then: the matrix from its start, and the bytes after it as before; on a refusal the same bytes as before
 unfoldable pub reach_rows : List ℕ → List ℕ → List ℕ
 reach_rows image buffer =
-    cond (read_image image).ok (cond (ltb (length buffer) 128) buffer (matrix_bytes (read_image image).board ++ drop 128 buffer)) buffer
+    option_map_or (λ b. cond (ltb (length buffer) 128) buffer (matrix_bytes b ++ drop 128 buffer)) (read_image image) buffer
 
 -- ---- a waiter's loop
 
@@ -36,16 +37,16 @@ pub record LoopPlaced (b : Board) (p : ℕ) (before : List ℕ) (answer : ℕ) (
 
 -- refusal 1 for an image that isn't read, then 8 for a number that is no program's, then 17 for a list of fewer than 32 bytes; 0 for none
 unfoldable pub loop_refusal : List ℕ → ℕ → List ℕ → ℕ
-loop_refusal image p list = cond (read_image image).ok (cond (is_program p) (cond (ltb (length list) 32) 17 0) 8) 1
+loop_refusal image p list = cond (is_some (read_image image)) (cond (is_program p) (cond (ltb (length list) 32) 17 0) 8) 1
 
 -- a refusal writes nothing; "Which loop is free"
 pub record LoopReply (image : List ℕ) (p : ℕ) (before : List ℕ) (answer : ℕ) (after : List ℕ) : Type 0 where
   pub refused : loop_refusal image p before ≢ 0 → (answer ≡ refusal_answer (loop_refusal image p before)) × (after ≡ before)
-  pub placed : loop_refusal image p before ≡ 0 → LoopPlaced (read_image image).board p before answer after
+  pub placed : (b : Board) → read_image image ≡ Some b → loop_refusal image p before ≡ 0 → LoopPlaced b p before answer after
 
 -- ---- the checker
 
 -- 1 if the list is a loop of the image's board with f given to p, otherwise 0; refusal 1 for an image that isn't read
 unfoldable pub is_loop_answer : List ℕ → ℕ → ℕ → List ℕ → ℕ
 is_loop_answer image p f list =
-    cond (read_image image).ok (cond (is_loop_with (read_image image).board p f list) 1 0) (refusal_answer 1)
+    option_map_or (λ b. cond (is_loop_with b p f list) 1 0) (read_image image) (refusal_answer 1)

@@ -1,6 +1,7 @@
 -- The calls of a C host over the bytes of an image, as definitions: the line call on the board of the image, and the board's order.
 -- Assumes nothing.
-use Rattle.std.specs.Prelude.{ℕ, ◌-◌, ◌^◌, Bool, cond, List, [], ◌++◌, eqb, ltb, length, drop}
+use Rattle.std.specs.Prelude.{ℕ, ◌-◌, ◌^◌, Bool, cond, Option, None, Some, List, [], ◌++◌, eqb, ltb, length, drop}
+use Rattle.std.specs.Option.{option_map_or}
 use Rattle.std.proofs.Math.Option.{get_or}
 use Rattle.rules.specs.declared.Board.{Board}
 use Rattle.rules.specs.Boards.{empty_board}
@@ -8,8 +9,7 @@ use Rattle.rules.specs.Orders.{carried}
 use Rattle.rules.specs.Soundness.{sound}
 use Rattle.rules.specs.Replies.{refusal_of}
 use Rattle.store.specs.Sets.{Sets}
-use Rattle.image.specs.declared.Loaded.{Loaded}
-use Rattle.image.specs.declared.LoadedRest.{LoadedRest}
+use Rattle.store.specs.declared.Rest.{Rest}
 use Rattle.image.specs.Stored.{loaded_in}
 use Rattle.image.specs.Image.{loaded_of, image_of, refused_image, image_fits, image_in}
 use Rattle.linecall.specs.LineCall.{Outcome, line_call}
@@ -17,16 +17,17 @@ use Rattle.linecall.specs.LineCall.{Outcome, line_call}
 -- ---- reading an image
 
 -- check 1 of an image: "board not sound", or image not 1,827 bytes "or not of its layout"
-abbrev pub sound_only : Loaded → Loaded
-sound_only k = cond k.ok (cond (sound k.board) k refused_image) refused_image
+abbrev pub sound_only : Option Board → Option Board
+sound_only None = refused_image
+sound_only (Some b) = cond (sound b) (Some b) refused_image
 
--- the board of an image; "Reading a refused image gives the empty board."
-unfoldable pub read_image : List ℕ → Loaded
+-- the board of an image, if it is not refused
+unfoldable pub read_image : List ℕ → Option Board
 read_image image = sound_only (loaded_of image)
 
 -- the same of an image that is taken into sets and a rest: they have its board, or it is refused
-abbrev pub taken_in : Sets → LoadedRest → Loaded
-taken_in sets r = cond r.ok (loaded_in sets r) refused_image
+abbrev pub taken_in : Sets → Option Rest → Option Board
+taken_in sets r = loaded_in sets r
 
 -- ---- the call of a C host
 
@@ -59,7 +60,7 @@ hosted_by image o =
 -- the C host's call: an image that is not of its layout is refused with 1; otherwise the line call on its board
 unfoldable pub host_call : List ℕ → List ℕ → List ℕ → ℕ → Hosted
 host_call image line journal place =
-    cond (loaded_of image).ok (hosted_by image (line_call (loaded_of image).board line journal place))
+    option_map_or (λ b. hosted_by image (line_call b line journal place)) (loaded_of image)
     (record { answer = host_answer 1 place; image = image; journal = journal })
 
 -- ---- an image to begin with
@@ -92,8 +93,8 @@ placed_in order buffer = cond (is_short order buffer) buffer (order ++ drop (len
 
 -- what a C host gets that asks for the order: refusal 1 for an image that isn't read, then 17, else how many numbers it has
 unfoldable pub order_answer : List ℕ → List ℕ → ℕ
-order_answer image buffer = cond (read_image image).ok (placed_answer (order_now (read_image image).board) buffer) (refusal_answer 1)
+order_answer image buffer = option_map_or (λ b. placed_answer (order_now b) buffer) (read_image image) (refusal_answer 1)
 
 -- its buffer then: the carried order of the image's board stands in it; on a refusal the same bytes as before
 unfoldable pub order_buffer : List ℕ → List ℕ → List ℕ
-order_buffer image buffer = cond (read_image image).ok (placed_in (order_now (read_image image).board) buffer) buffer
+order_buffer image buffer = option_map_or (λ b. placed_in (order_now b) buffer) (read_image image) buffer

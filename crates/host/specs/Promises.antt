@@ -1,6 +1,6 @@
 -- What demands 1 and 2 say of a line call and of a C host's call, as types. proofs/Promises.antt proves each.
 -- Assumes nothing.
-use Rattle.std.specs.Prelude.{ℕ, ◌+◌, ◌≤◌, ◌<◌, ◌≡◌, ◌⊎◌, ◌≢◌, true, false, List, [], ◌∷◌, length, get_or, take, drop}
+use Rattle.std.specs.Prelude.{ℕ, None, Some, ◌+◌, ◌≤◌, ◌<◌, ◌≡◌, ◌⊎◌, ◌≢◌, true, false, List, [], ◌∷◌, length, get_or, take, drop}
 use Rattle.files.specs.Sets.{no_files}
 use Rattle.rules.specs.declared.Board.{Board}
 use Rattle.rules.specs.declared.Refusal.{Refusal}
@@ -90,14 +90,15 @@ OrderCarried = (b : Board) (line journal : List ℕ) (place : ℕ) → sound b �
 
 -- "A sound board written to bytes reads back equal"
 abbrev pub ReadsBack : Type 0
-ReadsBack = (b : Board) → BoardOfCode b → sound b ≡ true → read_image (image_of b) ≡ record { ok = true; board = b }
+ReadsBack = (b : Board) → BoardOfCode b → sound b ≡ true → read_image (image_of b) ≡ Some b
 
 -- "an accepted image is the one that writing gives"
 abbrev pub AcceptedIsWritten : Type 0
-AcceptedIsWritten = (image : List ℕ) → Bytes image → (read_image image).ok ≡ true → image_of (read_image image).board ≡ image
+AcceptedIsWritten = (image : List ℕ) (b : Board) → Bytes image → read_image image ≡ Some b → image_of b ≡ image
 
 -- "on a refusal the same bytes as before": the C host's image, where the answer is that of refusal 1 or 2, or the call is refused
 abbrev pub RefusedKeepsImage : Type 0
 RefusedKeepsImage = (image line journal : List ℕ) (place : ℕ)
-    → ((read_image image).ok ≡ false) ⊎ (refused (line_call (read_image image).board line journal place).reply.answer ≡ true)
+    → (read_image image ≡ None)
+    ⊎ ((b : Board) × (read_image image ≡ Some b) × (refused (line_call b line journal place).reply.answer ≡ true))
     → (host_call image line journal place).image ≡ image

@@ -8,31 +8,13 @@ ghost use Rattle.host.specs.Digraph.{reach_answer, reach_rows, LoopPlaced, LoopR
 use crate::{put_order, read_image, refusal_answer};
 use rules::Board;
 
-// The four bytes of a row, lowest first.
-fn row_bytes(row: u32) -> [u8; 4]
-    ensures { result ≡ bytes_n 4 row }
-{
-    let a = row / 256;
-    let b = a / 256;
-    let c = b / 256;
-    [
-        (row % 256) as u8,
-        (a % 256) as u8,
-        (b % 256) as u8,
-        (c % 256) as u8,
-    ]
-}
-
 // Writes the rows' bytes from the buffer's start; the rest keeps its contents.
 pub fn put_rows(out: &mut [u8], rows: [u32; 32])
     requires { 128 ≤ length out.old }
     ensures { out.new ≡ flat (bytes_n 4) rows ++ drop 128 out.old }
 {
-    let mut i: usize = 0;
-    while i < 32 {
-        let row = row_bytes(rows[i]);
-        image::put_at(out, 4 * i, &row);
-        i += 1;
+    for (i, row) in rows.iter().enumerate() {
+        image::put_at(out, 4 * i, &row.to_le_bytes());
     }
 }
 
@@ -42,15 +24,12 @@ pub fn lock_board_reach(image: &[u8], rows: &mut [u8]) -> u64
     ensures value { result ≡ reach_answer image.now rows.old }
     ensures rows_after { rows.new ≡ reach_rows image.now rows.old }
 {
-    let loaded = read_image(image);
-    let ok = loaded.ok;
-    if !ok {
+    let Some(b) = read_image(image) else {
         return refusal_answer(1);
-    }
+    };
     if rows.len() < 128 {
         return refusal_answer(17);
     }
-    let b = loaded.board;
     let mut matrix = [0u32; 32];
     digraph::fill_matrix(b, &mut matrix);
     put_rows(rows, matrix);
@@ -63,8 +42,7 @@ fn put_loop(b: Board, p: u8, list: &mut [u8]) -> u64
     ensures { LoopPlaced b p list.old result list.new }
 {
     let found = digraph::loops::find_for(b, p);
-    let at = found.at;
-    put_order(at, found.count, list)
+    put_order(found.at, found.count, list)
 }
 
 // A loop for a program that waits, with the file given that it waits for, for a C host: its program numbers from the list's start,
@@ -72,11 +50,9 @@ fn put_loop(b: Board, p: u8, list: &mut [u8]) -> u64
 pub fn lock_board_loop(image: &[u8], program: u64, list: &mut [u8]) -> u64
     ensures { LoopReply image.now program list.old result list.new }
 {
-    let loaded = read_image(image);
-    let ok = loaded.ok;
-    if !ok {
+    let Some(b) = read_image(image) else {
         return refusal_answer(1);
-    }
+    };
     if program == 0 {
         return refusal_answer(8);
     }
@@ -86,7 +62,6 @@ pub fn lock_board_loop(image: &[u8], program: u64, list: &mut [u8]) -> u64
     if list.len() < 32 {
         return refusal_answer(17);
     }
-    let b = loaded.board;
     put_loop(b, program as u8, list)
 }
 
@@ -95,12 +70,9 @@ pub fn lock_board_loop(image: &[u8], program: u64, list: &mut [u8]) -> u64
 pub fn lock_board_is_loop(image: &[u8], program: u64, file: u64, list: &[u8]) -> u64
     ensures { result ≡ is_loop_answer image.now program file list.now }
 {
-    let loaded = read_image(image);
-    let ok = loaded.ok;
-    if !ok {
+    let Some(b) = read_image(image) else {
         return refusal_answer(1);
-    }
-    let b = loaded.board;
+    };
     if digraph::loops::is_loop_with(b, program, file, list) {
         return 1;
     }

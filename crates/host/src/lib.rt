@@ -8,7 +8,6 @@ ghost use Rattle.host.specs.Host.{read_image, taken_in, refusal_answer, host_ans
 ghost use Rattle.host.specs.Host.{placed_answer, placed_in, order_answer, order_buffer};
 
 use files::WORDS;
-use image::{Loaded, LoadedRest};
 use parts::entries::{LINES, NUMBERS};
 use rules::Board;
 use search::Search;
@@ -19,35 +18,26 @@ pub mod digraphs;
 pub mod writing;
 
 // The board of an image, into the sets and the rest; an image that is not of its layout, or whose board is not sound, is refused.
-fn take_image(image: &[u8], sets: &mut Sets) -> LoadedRest
+#[tactic(auto, using(crate::proofs::Laws::image_layout, crate::proofs::Laws::image_unsound, crate::proofs::Laws::image_sound))]
+fn take_image(image: &[u8], sets: &mut Sets) -> Option<Rest>
     requires { sets.old ≡ empty_sets }
     ensures result_after { taken_in sets.new result ≡ read_image image.now }
     ensures store { IsStore sets.new }
 {
-    let loaded = image::load_in(image, sets);
-    let ok = loaded.ok;
-    if !ok {
-        return loaded;
+    let rest = image::load_in(image, sets)?;
+    if !sound::is_sound(sets, rest) {
+        return None;
     }
-    let rest = loaded.rest;
-    let sound = sound::is_sound(sets, rest);
-    LoadedRest { ok: sound, rest }
+    Some(rest)
 }
 
-// The board of an image; an image that is not of its layout, or whose board is not sound, is refused and gives the empty board.
-pub fn read_image(image: &[u8]) -> Loaded
+// The board of an image; an image that is not of its layout, or whose board is not sound, is refused.
+pub fn read_image(image: &[u8]) -> Option<Board>
     ensures { result ≡ read_image image.now }
 {
     let mut sets = [[0u64; WORDS]; PLACES];
-    let taken = take_image(image, &mut sets);
-    let ok = taken.ok;
-    if !ok {
-        let board = Board::EMPTY;
-        return Loaded { ok: false, board };
-    }
-    let rest = taken.rest;
-    let board = whole::board(&sets, rest);
-    Loaded { ok: true, board }
+    let rest = take_image(image, &mut sets)?;
+    Some(whole::board(&sets, rest))
 }
 
 // Refusal n as a C host gets it: 2^64 less its number.
@@ -55,20 +45,18 @@ fn refusal_answer(n: u64) -> u64
     requires { 1 ≤ n }
     ensures { result ≡ refusal_answer n }
 {
-    18446744073709551615 - (n - 1)
+    u64::MAX - (n - 1)
 }
 
 // What a C host gets: the largest 64-bit number for refusal 1, one less for 2, otherwise the new place.
 fn answer_for(n: u8, place: u64) -> u64
     ensures { result ≡ host_answer n place }
 {
-    if n == 1 {
-        return refusal_answer(1);
+    match n {
+        1 => refusal_answer(1),
+        2 => refusal_answer(2),
+        _ => place,
     }
-    if n == 2 {
-        return refusal_answer(2);
-    }
-    place
 }
 
 // The call of a C host: the image holds the board.
@@ -78,21 +66,14 @@ pub fn lock_board_line(image: &mut [u8], line: &[u8], journal: &mut [u8], place:
     ensures journal_after { journal.new ≡ (host_call image.old line.now journal.old place).journal }
 {
     let mut sets = [[0u64; WORDS]; PLACES];
-    let taken = take_image(image, &mut sets);
-    let ok = taken.ok;
-    if !ok {
+    let Some(rest) = take_image(image, &mut sets) else {
         return answer_for(1, place);
-    }
-    let rest = taken.rest;
+    };
     let mut lines = [[0u16; NUMBERS]; LINES];
     let served = linecall::known::line(&mut sets, rest, &mut lines, line, journal, place);
-    let changed = served.changed;
-    let answer = changed.answer;
-    let n = parts::refusals::of_answer(answer);
+    let n = parts::refusals::of_answer(served.changed.answer);
     if n == 0 {
-        let progress = changed.progress;
-        let after = progress.rest;
-        image::put_image_of(image, &sets, after);
+        image::put_image_of(image, &sets, served.changed.progress.rest);
         return served.place;
     }
     answer_for(n, served.place)
@@ -105,8 +86,7 @@ pub fn lock_board_empty(image: &mut [u8]) -> u64
     ensures image_after { image.new ≡ empty_image image.old }
 {
     let sets = [[0u64; WORDS]; PLACES];
-    let rest = Rest::EMPTY;
-    if image::put_image_of(image, &sets, rest) {
+    if image::put_image_of(image, &sets, Rest::EMPTY) {
         return 0;
     }
     refusal_answer(1)
@@ -121,7 +101,7 @@ fn put_order(at: [u8; 32], n: usize, buffer: &mut [u8]) -> u64
     if buffer.len() < n {
         return refusal_answer(17);
     }
-    copies::copy(&at[..n], buffer);
+    buffer[..n].copy_from_slice(&at[..n]);
     n as u64
 }
 
@@ -132,21 +112,16 @@ pub fn lock_board_order(image: &[u8], order: &mut [u8]) -> u64
     ensures order_after { order.new ≡ order_buffer image.now order.old }
 {
     let mut sets = [[0u64; WORDS]; PLACES];
-    let loaded = image::load_in(image, &mut sets);
-    let ok = loaded.ok;
-    if !ok {
+    let Some(rest) = image::load_in(image, &mut sets) else {
         return refusal_answer(1);
-    }
-    let rest = loaded.rest;
+    };
     let j = sound::judge(&sets, rest);
     if !j.sound {
         return refusal_answer(1);
     }
-    let carried = j.order;
-    let kind = carried.kind;
+    let kind = j.order.kind;
     let Search::Found(n) = kind else {
         return refusal_answer(1);
     };
-    let at = carried.at;
-    put_order(at, n, order)
+    put_order(j.order.at, n, order)
 }

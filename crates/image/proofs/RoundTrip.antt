@@ -22,6 +22,7 @@ use Rattle.theory.specs.Records.{ItemOwn}
 use Rattle.theory.specs.Loose.{Awaits}
 use Rattle.theory.specs.Calls.{claims_file}
 use Rattle.theory.specs.Sound.{sound_iff}
+use Rattle.std.proofs.Common.{None, Some}
 use Rattle.columns.proofs.Rows.{flat-length}
 use Rattle.image.specs.Sections.{Section, Each, many, number, bytes_n}
 use Rattle.image.specs.Image.{to_set, from_set, set_with, set_section, kind_of, file_byte, used_by, wanted_by, standing_of, file_of, item_of}
@@ -257,30 +258,30 @@ sound-holds b (((((r, w), e), ns), c), is) s =
 -- ---- by what reading finds
 
 -- reading what was written gives a sound board back
-pub loaded_back : (b : Board) → BoardOfCode b → sound b ≡ true → loaded_of (image_of b) ≡ record { ok = true; board = b }
+pub loaded_back : (b : Board) → BoardOfCode b → sound b ≡ true → loaded_of (image_of b) ≡ Some b
 unfolding image_of board_of
 loaded_back b c s =
     let h : image_section.holds b = (sound-holds b c s, sound_good b c s) in
     sym (load_good (image_of b) b (image_lawful.long b h) (whole_fits image_lawful b h) (sym (whole_back image_lawful b h)))
 
 -- an accepted image has its length, is of the layout, and gives its board
-pub record Accepted (l : List ℕ) : Type 0 where
+pub record Accepted (l : List ℕ) (b : Board) : Type 0 where
   pub long : length l ≡ image_length
   pub fits : image_section.fits l ≡ true
-  pub board : (loaded_of l).board ≡ board_of l
+  pub board : b ≡ board_of l
 
-pub accepted : (l : List ℕ) → (loaded_of l).ok ≡ true → Accepted l
+pub accepted : (l : List ℕ) (b : Board) → loaded_of l ≡ Some b → Accepted l b
 unfolding loaded_of
-accepted l h =
+accepted l b h =
     by_test (eqb (length l) image_length)
     (λ e. by_test (image_section.fits l)
-    (λ d. record { long = eqb-true (length l) image_length e; fits = d; board = rw (e, d) })
-    (λ d. never (rw (e, d) at h) refl))
-    (λ e. never (rw e at h) refl)
+    (λ d. let s : Some (board_of l) ≡ Some b = rw (e, d) at h in record { long = eqb-true (length l) image_length e; fits = d; board = cc })
+    (λ d. let s : None ≡ Some b = rw (e, d) at h in cc))
+    (λ e. let s : None ≡ Some b = rw e at h in cc)
 
 -- an accepted image is the image of the board that is read from it
-pub loaded_again : (l : List ℕ) → Bytes l → (loaded_of l).ok ≡ true → image_of (loaded_of l).board ≡ l
+pub loaded_again : (l : List ℕ) (b : Board) → Bytes l → loaded_of l ≡ Some b → image_of b ≡ l
 unfolding image_of board_of
-loaded_again l b h =
-    let a = accepted l h in
-    ap image_of a.board ∙ whole_again image_lawful l b a.long a.fits
+loaded_again l b y h =
+    let a = accepted l b h in
+    ap image_of a.board ∙ whole_again image_lawful l y a.long a.fits

@@ -9,7 +9,7 @@ use native.Mathlib.Omega.{arith}
 use native.Mathlib.Nat.{mul-zero, add-sub_cancel_left}
 use Rattle.laws.specs.Tests.{never, and_left, and_right, and_false}
 use Rattle.columns.specs.Rows.{flat, put_at}
-use Rattle.image.specs.Sections.{Section, ◌▸◌, seen, refined, many, Each, read_many, fit_many, zipped, agree}
+use Rattle.image.specs.Sections.{Section, ◌▸◌, seen, refined, many, Each, read_many, fit_many, row_at, zipped, agree}
 use Rattle.image.specs.Sections.{byte, run, bytes_n, value_of, number}
 use Rattle.image.specs.Law.{Bytes, Lawful}
 
@@ -251,17 +251,10 @@ module _ {A : Type 0} {s : Section A} (p : Lawful s) where
 -- ---- loops over many of the same: those so far and one more, or one that doesn't fit
 
 module _ {A : Type 0} (s : Section A) where
-  abbrev pub row_at : List ℕ → ℕ → List ℕ
-  row_at l n = take s.size (drop (s.size * n) l)
-
-  row-after : (l : List ℕ) (n : ℕ) → row_at (drop s.size l) n ≡ row_at l (suc n)
+  row-after : (l : List ℕ) (n : ℕ) → row_at s (drop s.size l) n ≡ row_at s l (suc n)
   row-after l n = let e : s.size + s.size * n ≡ s.size * suc n = omega arith in rw (drop-drop (s.size * n) s.size l, e)
 
-  -- as the code's range has it
-  pub row_part : (l : List ℕ) (n : ℕ) → take (s.size * n + s.size - s.size * n) (drop (s.size * n) l) ≡ row_at l n
-  row_part l n = rw (add-sub_cancel_left (s.size * n) s.size)
-
-  row_first : (l : List ℕ) → row_at l 0 ≡ take s.size l
+  row_first : (l : List ℕ) → row_at s l 0 ≡ take s.size l
   row_first l = rw (mul-zero s.size)
 
   pub read_length : (n : ℕ) (l : List ℕ) → length (read_many s n l) ≡ n
@@ -270,15 +263,11 @@ module _ {A : Type 0} (s : Section A) where
   read_length (suc n) l = ap suc (read_length n (drop s.size l))
 
   -- what is read of row i
-  pub read_at : (n i : ℕ) (l : List ℕ) (a : A) → i < n → get_or (read_many s n l) i a ≡ s.read (row_at l i)
+  pub read_at : (n i : ℕ) (l : List ℕ) (a : A) → i < n → get_or (read_many s n l) i a ≡ s.read (row_at s l i)
   unfolding read_many
   read_at zero i l a h = absurd (omega arith)
   read_at (suc n) zero l a h = rw (row_first l)
   read_at (suc n) (suc i) l a h = read_at n i (drop s.size l) a (omega arith) ∙ rw (row-after l i)
-
-  -- the row in the part of the list that begins with n, as the code's range has it
-  pub row-after_part : (l : List ℕ) (m n : ℕ) → take (m + s.size * n + s.size - (m + s.size * n)) (drop (m + s.size * n) l) ≡ row_at (drop m l) n
-  row-after_part l m n = rw (add-sub_cancel_left (m + s.size * n) s.size, drop-drop (s.size * n) m l)
 
   -- a section without a test fits
   pub fit-any : (n : ℕ) (l : List ℕ) → ((k : List ℕ) → s.fits k ≡ true) → fit_many s n l ≡ true

@@ -21,13 +21,13 @@ use Rattle.store.specs.Sets.{Sets, IsStore, claim_place, open_place, set_in, in_
 use Rattle.store.specs.Store.{seat_of, board_of, RestOf, empty_sets, empty_rest}
 use Rattle.store.proofs.Laws.{three-put, rows-put}
 use Rattle.store.proofs.Boards.{board_is, empty_board_lem}
-use Rattle.image.specs.declared.Loaded.{Loaded}
-use Rattle.image.specs.Sections.{read_many}
+use Rattle.std.proofs.Common.{Some}
+use Rattle.image.specs.Sections.{read_many, row_at}
 use Rattle.image.specs.Image as image
-use Rattle.image.specs.Image.{set_section, joined, row_of, row_section, inquiry_of, inquiry_section, front_section, image_section, image_length, loaded_of}
+use Rattle.image.specs.Image.{inquiries_in, set_section, joined, row_of, row_section, inquiry_of, inquiry_section, front_section, image_section, image_length, loaded_of}
 use Rattle.image.specs.Image.{standing_of, file_of, item_of, seat_fits, rows_agree, refused_image}
 use Rattle.image.specs.Stored.{loaded_in}
-use Rattle.image.proofs.Sections.{row_at, read_length, read_at, fit-any, zipped-at, zipped-length, agree_many}
+use Rattle.image.proofs.Sections.{read_length, read_at, fit-any, zipped-at, zipped-length, agree_many}
 use Rattle.image.proofs.Laws.{one_at, item_at, load_good}
 
 -- ---- a set written
@@ -102,10 +102,6 @@ module _ (s x : List ℕ) (u a : ℕ) (n : length x ≡ inquiry_section.size) (e
 
 -- ---- a row read
 
--- the bytes of the second rows
-abbrev pub inquiries_in : List ℕ → List ℕ
-inquiries_in l = drop front_section.size l
-
 -- the program at an index is that of its two rows
 pub row_in : (l : List ℕ) (i : ℕ) → i < 32
     → in_place (image_section.read l) i ≡ joined (row_section.read (row_at row_section l i)) (inquiry_section.read (row_at inquiry_section (inquiries_in l) i))
@@ -132,10 +128,6 @@ programs_read l =
 module _ (l : List ℕ) (sets : Sets) where
   -- an image of the layout, with its sets and the rest read
   pub read-good : (r : Rest) → length l ≡ image_length → image_section.fits l ≡ true → SetsOf (image_section.read l) sets
-      → RestOf (image_section.read l) r → loaded_in sets (record { ok = true; rest = r }) ≡ loaded_of l
+      → RestOf (image_section.read l) r → loaded_in sets (Some r) ≡ loaded_of l
   unfolding image.board_of
   read-good r h f s t = load_good l (board_of sets r) h f (board_is (image_section.read l) sets r s t (programs_read l))
-
-  -- a refused image, with the sets untouched
-  pub read_none : sets ≡ empty_sets → loaded_of l ≡ refused_image → loaded_in sets (record { ok = false; rest = empty_rest }) ≡ loaded_of l
-  read_none e f = ap {B = Loaded} (λ (b : Board). record { ok = false; board = b }) (ap (λ (x : Sets). board_of x empty_rest) e ∙ empty_board_lem) ∙ sym f

@@ -1,12 +1,11 @@
 -- The image of a board, section by section.
 -- Assumes nothing.
-use Rattle.std.specs.Prelude.{ℕ, ◌≡◌, refl, List, map, Bool, true, false, not, cond, ◌&&◌, length, leb, eqb}
+use Rattle.std.specs.Prelude.{ℕ, ◌≡◌, refl, List, map, Bool, true, false, not, cond, ◌&&◌, length, drop, leb, eqb}
 use Rattle.files.specs.declared.FileSet.{FileSet}
 use Rattle.rules.specs.declared.Standing.{Standing}
 use Rattle.rules.specs.declared.Program.{Program}
 use Rattle.rules.specs.declared.Board.{Board}
-use Rattle.rules.specs.Boards.{empty_board}
-use Rattle.image.specs.declared.Loaded.{Loaded}
+use Rattle.std.specs.Prelude.{Option, None, Some}
 use Rattle.image.specs.Sections.{Section, ◌▸◌, seen, refined, Each, many, zipped, agree, byte, run, number}
 unfoldable pub use Rattle.image.specs.Sections.{bytes_n}
 
@@ -209,6 +208,10 @@ image_section = image_with set_section awaited_section
 abbrev pub image_length : ℕ
 image_length = image_section.size
 
+-- the bytes of the second rows of an image
+abbrev pub inquiries_in : List ℕ → List ℕ
+inquiries_in l = drop front_section.size l
+
 -- "1,827 in all"
 pub length_02 : image_length ≡ 1827
 length_02 = refl
@@ -222,13 +225,13 @@ unfoldable pub board_of : List ℕ → Board
 board_of = image_section.read
 
 -- an image that hasn't its length or isn't of its layout; whether the board is sound is asked by the caller
-abbrev pub refused_image : Loaded
-refused_image = record { ok = false; board = empty_board }
+abbrev pub refused_image : Option Board
+refused_image = None
 
--- what reading an image finds: the board, or a refusal with the empty board
-unfoldable pub loaded_of : List ℕ → Loaded
+-- what reading an image finds: the board, or a refusal
+unfoldable pub loaded_of : List ℕ → Option Board
 loaded_of l =
-    cond (eqb (length l) image_length) (cond (image_section.fits l) (record { ok = true; board = board_of l }) refused_image) refused_image
+    cond (eqb (length l) image_length) (cond (image_section.fits l) (Some (board_of l)) refused_image) refused_image
 
 -- ---- writing into a buffer
 

@@ -75,6 +75,10 @@ module _ {A : Type 0} where
         fits = fit_many s n;
       }
 
+-- row n of many of the same section
+abbrev pub row_at : {A : Type 0} → Section A → List ℕ → ℕ → List ℕ
+row_at s l n = take s.size (drop (s.size * n) l)
+
 -- ---- values whose parts stand in two sections
 
 -- two lists, joined one by one

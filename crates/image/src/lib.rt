@@ -2,14 +2,15 @@
 
 // The image of a board, section by section, written and read.
 // The sets of a board are lent and its rest goes by value; the board of the rules, whole, is read and written at the edges, by `load` and `put_image`.
-ghost use Rattle.std.specs.Prelude.{◌≡◌, ◌++◌, map, true, ◌+◌, ◌-◌, ◌*◌, ◌≤◌, ◌<◌, length, get_or, set, drop};
+ghost use Rattle.std.specs.Prelude.{◌≡◌, ◌++◌, map, true, ◌+◌, ◌-◌, ◌*◌, ◌≤◌, ◌<◌, length, get_or, set, drop, IfNone};
 ghost use Rattle.rules.specs.Modes.{by_mode};
 ghost use Rattle.files.specs.Words.{word_count, set_of, words_for};
 ghost use Rattle.store.specs.Sets.{place_count, IsStore, set_in, SetsOf, PutAt, PutsFrom};
 ghost use Rattle.store.specs.Store.{no_seat, seat_of, program_with, programs_from, board_of, SeatsTo, empty_sets};
 ghost use Rattle.image.specs.Image.{kind_of, file_byte, used_by, wanted_by, standing_of, file_of, item_of, both_or_none, seat_fits};
 ghost use Rattle.image.specs.Image.{set_section, row_of, row_section, rows_section, inquiry_of, inquiry_section, inquiries_section, joined, rows_agree};
-ghost use Rattle.image.specs.Image.{image_section, image_length, image_of, loaded_of, image_fits, image_in};
+ghost use Rattle.image.specs.Sections.{row_at};
+ghost use Rattle.image.specs.Image.{inquiries_in, image_section, image_length, image_of, loaded_of, image_fits, image_in};
 ghost use Rattle.image.specs.Stored.{loaded_in};
 ghost use Rattle.columns.specs.Rows.{put_at};
 
@@ -56,44 +57,6 @@ const INQUIRIES_AT: usize = COUNTS_AT + 32;
 
 pub const IMAGE_LEN: usize = INQUIRIES_AT + INQUIRY_LEN * 32;
 
-// What reading an image finds: whether it is of the layout, and the board, empty if not.
-#[derive(Clone, Copy)]
-pub struct Loaded {
-    pub ok: bool,
-    pub board: Board,
-}
-
-// What reading an image into sets finds: whether it is of the layout, and the rest, that of the empty board if not.
-#[derive(Clone, Copy)]
-pub struct LoadedRest {
-    pub ok: bool,
-    pub rest: Rest,
-}
-
-// A set's bytes, lowest first.
-fn set_bytes(s: FileSet) -> [u8; SET_LEN]
-    ensures { result ≡ set_section.write s }
-{
-    let x = s.bits;
-    let a = x / 256;
-    let b = a / 256;
-    let c = b / 256;
-    let d = c / 256;
-    let e = d / 256;
-    let f = e / 256;
-    let g = f / 256;
-    [
-        (x % 256) as u8,
-        (a % 256) as u8,
-        (b % 256) as u8,
-        (c % 256) as u8,
-        (d % 256) as u8,
-        (e % 256) as u8,
-        (f % 256) as u8,
-        (g % 256) as u8,
-    ]
-}
-
 // The byte of a standing.
 fn kind(s: Standing) -> u8
     ensures { result ≡ kind_of s }
@@ -111,10 +74,9 @@ fn file_byte(s: Standing, file: u16) -> u16
     ensures { result ≡ file_byte s file }
 {
     match s {
-        Standing::Absent => 0,
         Standing::Running => file,
         Standing::Waiting(f) => f,
-        Standing::Held => 0,
+        _ => 0,
     }
 }
 
@@ -123,10 +85,8 @@ fn used(s: Standing, item: u16) -> u16
     ensures { result ≡ used_by s item }
 {
     match s {
-        Standing::Absent => 0,
         Standing::Running => item,
-        Standing::Waiting(_) => 0,
-        Standing::Held => 0,
+        _ => 0,
     }
 }
 
@@ -135,10 +95,8 @@ fn wanted(s: Standing, item: u16) -> u16
     ensures { result ≡ wanted_by s item }
 {
     match s {
-        Standing::Absent => 0,
-        Standing::Running => 0,
         Standing::Waiting(_) => item,
-        Standing::Held => 0,
+        _ => 0,
     }
 }
 
@@ -147,7 +105,7 @@ pub fn put_at(out: &mut [u8], at: usize, src: &[u8])
     requires { at + length src.now ≤ length out.old }
     ensures { out.new ≡ put_at at src.now out.old }
 {
-    copies::copy(src, &mut out[at..]);
+    out[at..at + src.len()].copy_from_slice(src);
 }
 
 // Writes the set in place k from a byte on.
@@ -157,8 +115,7 @@ fn put_set(out: &mut [u8], at: usize, sets: &Sets, k: usize)
     ensures { out.new ≡ put_at at (set_section.write (set_in sets.now k)) out.old }
 {
     let s = whole::set_at(sets, k);
-    let bytes = set_bytes(s);
-    put_at(out, at, &bytes);
+    put_at(out, at, &s.bits.to_le_bytes());
 }
 
 // Writes the row of program p, with a seat, at the front of a part; the rest keeps its contents.
@@ -168,20 +125,12 @@ fn put_row(out: &mut [u8], sets: &Sets, p: u8, seat: Seat)
     ensures { out.new
         ≡ row_section.write (row_of (program_with sets.now (p - 1) seat)) ++ drop row_section.size out.old }
 {
-    let s = seat.standing;
-    let f = seat.file;
-    let k = kind(s);
-    let b = file_byte(s, f);
-    let standing = [k, (b % 256) as u8];
-    let v = sets::writable_at(p);
-    put_set(out, 0, sets, v);
-    let q = sets::readable_at(p);
-    put_set(out, READABLE_AT, sets, q);
-    let w = sets::writing_at(p);
-    put_set(out, WRITING_AT, sets, w);
-    let r = sets::reading_at(p);
-    put_set(out, READING_AT, sets, r);
-    put_at(out, STANDING_AT, &standing);
+    put_set(out, 0, sets, sets::writable_at(p));
+    put_set(out, READABLE_AT, sets, sets::readable_at(p));
+    put_set(out, WRITING_AT, sets, sets::writing_at(p));
+    put_set(out, READING_AT, sets, sets::reading_at(p));
+    let file = file_byte(seat.standing, seat.file);
+    put_at(out, STANDING_AT, &[kind(seat.standing), (file % 256) as u8]);
 }
 
 // Writes the second row of program p, likewise: J, I, the record in use and the awaited one.
@@ -191,61 +140,31 @@ fn put_inquiry(out: &mut [u8], sets: &Sets, p: u8, seat: Seat)
     ensures { out.new
         ≡ inquiry_section.write (inquiry_of (program_with sets.now (p - 1) seat)) ++ drop inquiry_section.size out.old }
 {
-    let s = seat.standing;
-    let n = seat.item;
-    let u = used(s, n);
-    let a = wanted(s, n);
-    let items = [
-        (u % 256) as u8,
-        (u / 256 % 256) as u8,
-        (a % 256) as u8,
-        (a / 256 % 256) as u8,
-    ];
-    let j = sets::inquirable_at(p);
-    put_set(out, 0, sets, j);
-    let i = sets::inquiring_at(p);
-    put_set(out, INQUIRING_AT, sets, i);
-    put_at(out, USED_AT, &items);
+    put_set(out, 0, sets, sets::inquirable_at(p));
+    put_set(out, INQUIRING_AT, sets, sets::inquiring_at(p));
+    let used = used(seat.standing, seat.item);
+    put_at(out, USED_AT, &used.to_le_bytes());
+    let wanted = wanted(seat.standing, seat.item);
+    put_at(out, WANTED_AT, &wanted.to_le_bytes());
 }
 
-// Writes the programs' rows at the front of a part; the rest keeps its contents.
-fn put_rows(out: &mut [u8], sets: &Sets, seats: [Seat; 32])
-    requires size_in_bounds { rows_section.size ≤ length out.old }
+// Writes the programs' rows at the front of a part, and their second rows at the front of another; the rest keeps its contents.
+fn put_programs(rows: &mut [u8], inquiries: &mut [u8], sets: &Sets, seats: [Seat; 32])
+    requires rows_len { rows_section.size ≤ length rows.old }
+    requires inquiries_len { inquiries_section.size ≤ length inquiries.old }
     requires store { IsStore sets.now }
-    ensures { out.new
+    ensures rows_after { rows.new
         ≡ rows_section.write (map row_of (programs_from sets.now (λ i. get_or seats i no_seat) 32 0))
-        ++ drop rows_section.size out.old }
-{
-    let mut i: usize = 0;
-    while i < 32 {
-        let seat = seats[i];
-        put_row(&mut out[ROW_LEN * i..], sets, (i + 1) as u8, seat);
-        i += 1;
-    }
-}
-
-// Writes the programs' second rows, likewise.
-fn put_inquiries(out: &mut [u8], sets: &Sets, seats: [Seat; 32])
-    requires size_in_bounds { inquiries_section.size ≤ length out.old }
-    requires store { IsStore sets.now }
-    ensures { out.new
+        ++ drop rows_section.size rows.old }
+    ensures inquiries_after { inquiries.new
         ≡ inquiries_section.write (map inquiry_of (programs_from sets.now (λ i. get_or seats i no_seat) 32 0))
-        ++ drop inquiries_section.size out.old }
+        ++ drop inquiries_section.size inquiries.old }
 {
-    let mut i: usize = 0;
-    while i < 32 {
-        let seat = seats[i];
-        put_inquiry(&mut out[INQUIRY_LEN * i..], sets, (i + 1) as u8, seat);
-        i += 1;
+    for (i, seat) in seats.iter().enumerate() {
+        let p = i as u8 + 1;
+        put_row(&mut rows[ROW_LEN * i..], sets, p, *seat);
+        put_inquiry(&mut inquiries[INQUIRY_LEN * i..], sets, p, *seat);
     }
-}
-
-// Writes 32 bytes from a place on: a line, or the counts.
-fn put_places(out: &mut [u8], at: usize, places: [u8; 32])
-    requires { at + 32 ≤ length out.old }
-    ensures { out.new ≡ put_at at places out.old }
-{
-    put_at(out, at, &places);
 }
 
 // Writes the image of a board into a buffer of its length, section by section.
@@ -254,17 +173,16 @@ fn fill_image(out: &mut [u8], sets: &Sets, rest: Rest)
     requires store { IsStore sets.now }
     ensures { out.new ≡ image_of (board_of sets.now rest) }
 {
-    let seats = rest.seats;
-    let waiting = rest.waiting;
-    let entry = rest.entry;
-    let numbers = [rest.favoured, rest.initial, rest.leaves];
-    let passed = rest.passed;
-    put_rows(out, sets, seats);
-    put_places(out, WAITING_AT, waiting);
-    put_places(out, ENTRY_AT, entry);
-    put_at(out, NUMBERS_AT, &numbers);
-    put_places(out, COUNTS_AT, passed);
-    put_inquiries(&mut out[INQUIRIES_AT..], sets, seats);
+    let (front, inquiries) = out.split_at_mut(INQUIRIES_AT);
+    put_programs(front, inquiries, sets, rest.seats);
+    put_at(front, WAITING_AT, &rest.waiting);
+    put_at(front, ENTRY_AT, &rest.entry);
+    put_at(
+        front,
+        NUMBERS_AT,
+        &[rest.favoured, rest.initial, rest.leaves],
+    );
+    put_at(front, COUNTS_AT, &rest.passed);
 }
 
 // Writes the image of a board, sound or not, by its sets and the rest, and says whether it could: a buffer of another length stays as it was.
@@ -290,77 +208,60 @@ pub fn put_image(out: &mut [u8], b: Board) -> bool
     put_image_of(out, &sets, rest)
 }
 
-// Two bytes, lowest first.
-fn pair(a: u8, b: u8) -> u64
-    ensures { (result ≡ a + 256 * b) × (result < 65536) }
-{
-    a as u64 + 256 * (b as u64)
-}
-
 // The set of its bytes.
 pub fn read_set(s: &[u8]) -> FileSet
     requires { length s.now ≡ set_section.size }
     ensures { result ≡ set_section.read s.now }
 {
-    let a = pair(s[0], s[1]);
-    let b = pair(s[2], s[3]);
-    let c = pair(s[4], s[5]);
-    let d = pair(s[6], s[7]);
+    let mut bytes = [0u8; SET_LEN];
+    bytes.copy_from_slice(s);
     FileSet {
-        bits: a + 65536 * b + 4294967296 * (c + 65536 * d),
+        bits: u64::from_le_bytes(bytes),
     }
 }
 
-// The record of two bytes.
+// The record of two bytes, lowest first.
 fn read_item(a: u8, b: u8) -> u16
     ensures { result ≡ a + 256 * b }
 {
-    pair(a, b) as u16
+    u16::from_le_bytes([a, b])
 }
 
 // The standing of its byte and the awaited-file byte.
+#[tactic(auto, unfolding(crate::specs::Image::standing_of))]
 fn standing_of(k: u8, f: u8) -> Standing
     ensures { result ≡ standing_of k f }
 {
-    if k == 0 {
-        return Standing::Absent;
+    match k {
+        0 => Standing::Absent,
+        1 => Standing::Running,
+        2 => Standing::Waiting(f as u16),
+        _ => Standing::Held,
     }
-    if k == 1 {
-        return Standing::Running;
-    }
-    if k == 2 {
-        return Standing::Waiting(f as u16);
-    }
-    Standing::Held
 }
 
 // The file of the record; a is the awaited record.
+#[tactic(auto, unfolding(crate::specs::Image::file_of))]
 fn file_of(k: u8, f: u8, a: u16) -> u16
     ensures { result ≡ file_of k f a }
 {
-    if k == 1 {
-        return f as u16;
+    match k {
+        1 => f as u16,
+        2 if a != 0 => f as u16,
+        _ => 0,
     }
-    if k == 2 {
-        if a == 0 {
-            return 0;
-        }
-        return f as u16;
-    }
-    0
 }
 
 // The record, by the record in use and the awaited one.
+#[tactic(auto, unfolding(crate::specs::Image::item_of))]
 fn item_of(k: u8, u: u16, a: u16) -> u16
     ensures { result ≡ item_of k u a }
 {
-    if k == 1 {
-        return u;
+    match k {
+        1 => u,
+        2 => a,
+        _ => 0,
     }
-    if k == 2 {
-        return a;
-    }
-    0
 }
 
 // Whether a running program's awaited-file byte and record in use are both there or both 0.
@@ -368,35 +269,20 @@ fn item_of(k: u8, u: u16, a: u16) -> u16
 fn both_or_none(f: u8, u: u16) -> bool
     ensures { result ≡ both_or_none f u }
 {
-    if f == 0 {
-        return u == 0;
-    }
-    u != 0
+    (f == 0) == (u == 0)
 }
 
 // Whether four numbers are those of a seat.
+#[tactic(auto, unfolding(crate::specs::Image::seat_fits))]
 fn seat_fits(k: u8, f: u8, u: u16, a: u16) -> bool
     ensures { result ≡ seat_fits k f u a }
 {
-    if k > 3 {
-        return false;
+    match k {
+        1 => both_or_none(f, u) && a == 0,
+        2 => u == 0,
+        0 | 3 => u == 0 && f == 0 && a == 0,
+        _ => false,
     }
-    if k == 1 {
-        if !both_or_none(f, u) {
-            return false;
-        }
-        return a == 0;
-    }
-    if u != 0 {
-        return false;
-    }
-    if k == 2 {
-        return true;
-    }
-    if f != 0 {
-        return false;
-    }
-    a == 0
 }
 
 // Whether the two rows of a program are of their layout.
@@ -440,21 +326,19 @@ fn read_sets(s: &[u8], x: &[u8], sets: &mut Sets, p: u8)
     ensures { PutAt (joined (row_section.read s.now) (inquiry_section.read x.now)) (p - 1)
         sets.old sets.new }
 {
-    let v = sets::writable_at(p);
     take_three(
         &s[0..READABLE_AT],
         &s[READABLE_AT..WRITING_AT],
         &x[0..INQUIRING_AT],
         sets,
-        v,
+        sets::writable_at(p),
     );
-    let w = sets::writing_at(p);
     take_three(
         &s[WRITING_AT..READING_AT],
         &s[READING_AT..STANDING_AT],
         &x[INQUIRING_AT..USED_AT],
         sets,
-        w,
+        sets::writing_at(p),
     );
 }
 
@@ -467,14 +351,31 @@ fn read_seat(s: &[u8], x: &[u8]) -> Seat
     let f = s[AWAITED_AT];
     let u = read_item(x[USED_AT], x[USED_AT + 1]);
     let a = read_item(x[WANTED_AT], x[WANTED_AT + 1]);
-    let standing = standing_of(k, f);
-    let file = file_of(k, f, a);
-    let item = item_of(k, u, a);
     Seat {
-        standing,
-        file,
-        item,
+        standing: standing_of(k, f),
+        file: file_of(k, f, a),
+        item: item_of(k, u, a),
     }
+}
+
+// The row of program i + 1 in an image.
+fn row(s: &[u8], i: usize) -> &[u8]
+    requires { (length s.now ≡ image_length) × (i < 32) }
+    ensures value { result.now ≡ row_at row_section s.now i }
+    ensures len { length result.now ≡ row_section.size }
+{
+    let at = ROW_LEN * i;
+    &s[at..at + ROW_LEN]
+}
+
+// Its second row.
+fn inquiry(s: &[u8], i: usize) -> &[u8]
+    requires { (length s.now ≡ image_length) × (i < 32) }
+    ensures value { result.now ≡ row_at inquiry_section (inquiries_in s.now) i }
+    ensures len { length result.now ≡ inquiry_section.size }
+{
+    let at = INQUIRIES_AT + INQUIRY_LEN * i;
+    &s[at..at + INQUIRY_LEN]
 }
 
 // Whether every program's rows are of their layout.
@@ -482,14 +383,10 @@ fn rows_fit(s: &[u8]) -> bool
     requires { length s.now ≡ image_length }
     ensures { result ≡ image_section.fits s.now }
 {
-    let mut i: usize = 0;
-    while i < 32 {
-        let a = ROW_LEN * i;
-        let b = INQUIRIES_AT + INQUIRY_LEN * i;
-        if !row_fits(&s[a..a + ROW_LEN], &s[b..b + INQUIRY_LEN]) {
+    for i in 0..32 {
+        if !row_fits(row(s, i), inquiry(s, i)) {
             return false;
         }
-        i += 1;
     }
     true
 }
@@ -506,19 +403,10 @@ fn read_rows(s: &[u8], sets: &mut Sets) -> [Seat; 32]
         file: 0,
         item: 0,
     }; 32];
-    let mut i: usize = 0;
-    while i < 32 {
-        let a = ROW_LEN * i;
-        let b = INQUIRIES_AT + INQUIRY_LEN * i;
-        read_sets(
-            &s[a..a + ROW_LEN],
-            &s[b..b + INQUIRY_LEN],
-            sets,
-            (i + 1) as u8,
-        );
-        let seat = read_seat(&s[a..a + ROW_LEN], &s[b..b + INQUIRY_LEN]);
-        seats[i] = seat;
-        i += 1;
+    for (i, seat) in seats.iter_mut().enumerate() {
+        let (row, inquiry) = (row(s, i), inquiry(s, i));
+        read_sets(row, inquiry, sets, i as u8 + 1);
+        *seat = read_seat(row, inquiry);
     }
     seats
 }
@@ -529,48 +417,41 @@ fn read_places(s: &[u8]) -> [u8; 32]
     ensures { result ≡ s.now }
 {
     let mut a = [0u8; 32];
-    copies::copy(s, &mut a);
+    a.copy_from_slice(s);
     a
 }
 
-// The board of an image, by its sets and the rest, or a refusal with the empty board.
-pub fn load_in(image: &[u8], sets: &mut Sets) -> LoadedRest
+// The board of an image, by its sets and the rest; of a refused image there is none, and the sets stay empty.
+pub fn load_in(image: &[u8], sets: &mut Sets) -> Option<Rest>
     requires { sets.old ≡ empty_sets }
     ensures result_after { loaded_in sets.new result ≡ loaded_of image.now }
+    ensures untouched { IfNone result (sets.new ≡ empty_sets) }
     ensures store { IsStore sets.new }
 {
     if image.len() != IMAGE_LEN {
-        let rest = Rest::EMPTY;
-        return LoadedRest { ok: false, rest };
+        return None;
     }
-    if rows_fit(image) {
-        let seats = read_rows(image, sets);
-        let waiting = read_places(&image[WAITING_AT..ENTRY_AT]);
-        let entry = read_places(&image[ENTRY_AT..NUMBERS_AT]);
-        let passed = read_places(&image[COUNTS_AT..INQUIRIES_AT]);
-        let rest = Rest {
-            seats,
-            waiting,
-            entry,
-            favoured: image[NUMBERS_AT],
-            initial: image[NUMBERS_AT + 1],
-            leaves: image[NUMBERS_AT + 2],
-            passed,
-        };
-        return LoadedRest { ok: true, rest };
+    if !rows_fit(image) {
+        return None;
     }
-    let rest = Rest::EMPTY;
-    LoadedRest { ok: false, rest }
+    let seats = read_rows(image, sets);
+    let rest = Rest {
+        seats,
+        waiting: read_places(&image[WAITING_AT..ENTRY_AT]),
+        entry: read_places(&image[ENTRY_AT..NUMBERS_AT]),
+        favoured: image[NUMBERS_AT],
+        initial: image[NUMBERS_AT + 1],
+        leaves: image[NUMBERS_AT + 2],
+        passed: read_places(&image[COUNTS_AT..INQUIRIES_AT]),
+    };
+    Some(rest)
 }
 
 // The board of an image, whole.
-pub fn load(image: &[u8]) -> Loaded
+pub fn load(image: &[u8]) -> Option<Board>
     ensures { result ≡ loaded_of image.now }
 {
     let mut sets = [[0u64; WORDS]; PLACES];
-    let l = load_in(image, &mut sets);
-    let ok = l.ok;
-    let rest = l.rest;
-    let board = whole::board(&sets, rest);
-    Loaded { ok, board }
+    let rest = load_in(image, &mut sets)?;
+    Some(whole::board(&sets, rest))
 }
