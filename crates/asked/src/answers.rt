@@ -1,6 +1,4 @@
 // Writes the answers.
-ghost use Rattle.std.specs.Prelude.{◌≡◌, length};
-
 use digraph::Loop;
 use linecall::Posted;
 use rules::{Answer, Board, Line, Reply, Word};
@@ -33,48 +31,21 @@ fn answer_letter(a: Answer) -> u8 {
     }
 }
 
-// The low byte of a number.
-fn low(n: u16) -> u8 {
-    (n % 256) as u8
-}
-
-// The high byte of a number.
-fn high(n: u16) -> u8 {
-    (n / 256) as u8
-}
-
 // The seven bytes of a line.
-fn line_bytes(l: Line) -> [u8; 7]
-    ensures { length result ≡ 7 }
-{
-    let word = l.word;
+fn line_bytes(l: Line) -> [u8; 7] {
+    let [program, _] = l.program.to_le_bytes();
+    let [file_low, file_high] = l.file.to_le_bytes();
+    let [refusal, _] = l.refusal.to_le_bytes();
+    let [item_low, item_high] = l.item.to_le_bytes();
     [
-        word_letter(word),
-        low(l.program),
-        low(l.file),
-        high(l.file),
-        low(l.refusal),
-        low(l.item),
-        high(l.item),
+        word_letter(l.word),
+        program,
+        file_low,
+        file_high,
+        refusal,
+        item_low,
+        item_high,
     ]
-}
-
-// The bytes of all lines.
-fn lines_bytes(lines: [Line; 32]) -> [u8; 224] {
-    let mut bytes = [0u8; 224];
-    let mut i: usize = 0;
-    while i < 32 {
-        let seven = line_bytes(lines[i]);
-        bytes[7 * i] = seven[0];
-        bytes[7 * i + 1] = seven[1];
-        bytes[7 * i + 2] = seven[2];
-        bytes[7 * i + 3] = seven[3];
-        bytes[7 * i + 4] = seven[4];
-        bytes[7 * i + 5] = seven[5];
-        bytes[7 * i + 6] = seven[6];
-        i += 1;
-    }
-    bytes
 }
 
 // The image of a board.
@@ -86,53 +57,33 @@ pub fn write_image(rt: &impl Print, b: Board) -> io::Result<()> {
 
 // A number of bytes, told by 255 if it is more than that.
 fn short(n: usize) -> u8 {
-    if n < 255 {
-        return n as u8;
-    }
-    255
+    u8::try_from(n).unwrap_or(255)
 }
 
-// Place i of a loop; 0 after its programs.
-fn place_in(l: Loop, i: usize) -> u8 {
-    if i >= l.count {
-        return 0;
-    }
-    if i >= 32 {
-        return 0;
-    }
-    l.at[i]
-}
-
-// The places of a loop.
+// The places of a loop; 0 after its programs.
 fn places(l: Loop) -> [u8; 32] {
-    let mut bytes = [0u8; 32];
-    let mut i: usize = 0;
-    while i < 32 {
-        bytes[i] = place_in(l, i);
-        i += 1;
+    let mut bytes = l.at;
+    for byte in bytes.iter_mut().skip(l.count) {
+        *byte = 0;
     }
     bytes
 }
 
 // The answer to a direct call, with the loop that it carries.
 pub fn call(rt: &impl Print, r: Reply, l: Loop) -> io::Result<()> {
-    let answer = r.answer;
-    let head = [
-        parts::refusals::of_answer(answer),
-        answer_letter(answer),
+    rt.write_all(&[
+        parts::refusals::of_answer(r.answer),
+        answer_letter(r.answer),
         r.count,
         r.placed,
-    ];
-    let lines = r.lines;
-    let bytes = lines_bytes(lines);
-    let order = r.order;
-    let board = r.board;
-    rt.write_all(&head)?;
-    rt.write_all(&bytes)?;
-    rt.write_all(&order)?;
+    ])?;
+    for line in &r.lines {
+        rt.write_all(&line_bytes(*line))?;
+    }
+    rt.write_all(&r.order)?;
     rt.write_all(&[short(l.count)])?;
     rt.write_all(&places(l))?;
-    write_image(rt, board)
+    write_image(rt, r.board)
 }
 
 // The answer to a line call: that of a direct call, the new place in decimal and byte 10, the journal.
@@ -144,11 +95,7 @@ pub fn post(rt: &impl Print, p: Posted, journal: &[u8]) -> io::Result<()> {
 
 // 1 or 0.
 pub fn truth(rt: &impl Print, yes: bool) -> io::Result<()> {
-    if yes {
-        rt.write_all(&[1])
-    } else {
-        rt.write_all(&[0])
-    }
+    rt.write_all(&[u8::from(yes)])
 }
 
 // The answer to an image.

@@ -28,12 +28,9 @@ use std::io;
 fn main(rt: HostRuntime) -> io::Result<()> {
     let mut board = Board::EMPTY;
     for _ in 0..u64::MAX {
-        let mut bytes = [0u8; 49];
-        let n = records::read_full(&rt, &mut bytes)?;
-        if n < 49 {
-            return Ok(());
-        }
-        let record = records::parse(&bytes);
+        let Some(record) = records::next(&rt)? else {
+            break;
+        };
         board = records::take(&rt, board, record)?;
     }
     Ok(())

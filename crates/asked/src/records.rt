@@ -1,6 +1,4 @@
 // What a record asks, and how it is done.
-ghost use Rattle.std.specs.Prelude.{◌≡◌, ◌≤◌, length, IfOk};
-
 use crate::lent::Lent;
 use crate::{answers, lent};
 use direct::Answered;
@@ -21,35 +19,26 @@ pub struct Record {
     pub inquirable: u64,
 }
 
-// A byte as a number.
-fn wide(b: u8) -> u64 {
-    b as u64
-}
-
 // The number of some bytes, lowest first.
 fn number(part: &[u8]) -> u64 {
-    let mut n: u64 = 0;
-    let mut i = part.len();
-    while i > 0 {
-        i -= 1;
-        n = (n << 8) | wide(part[i]);
-    }
-    n
+    part.iter()
+        .rev()
+        .fold(0, |n, byte| (n << 8) | u64::from(*byte))
 }
 
-// The record of 49 bytes.
-pub fn parse(s: &[u8]) -> Record
-    requires { length s.now ≡ 49 }
-{
-    Record {
-        kind: s[0],
-        program: number(&s[1..9]),
-        file: number(&s[9..17]),
-        item: number(&s[17..25]),
-        writable: number(&s[25..33]),
-        readable: number(&s[33..41]),
-        inquirable: number(&s[41..49]),
-    }
+// The record of 49 bytes; none of fewer.
+fn parse(bytes: &[u8]) -> Option<Record> {
+    let (kind, rest) = bytes.split_first()?;
+    let mut numbers = rest.chunks_exact(8);
+    Some(Record {
+        kind: *kind,
+        program: number(numbers.next()?),
+        file: number(numbers.next()?),
+        item: number(numbers.next()?),
+        writable: number(numbers.next()?),
+        readable: number(numbers.next()?),
+        inquirable: number(numbers.next()?),
+    })
 }
 
 // The direct call enter of a record.
@@ -67,85 +56,57 @@ fn enter(b: Board, r: Record) -> Answered {
 
 // The direct call of a record; any kind but the seven others is leave.
 fn call(b: Board, r: Record) -> Answered {
-    if r.kind == b'E' {
-        return enter(b, r);
+    match r.kind {
+        b'E' => enter(b, r),
+        b'O' => direct::open(b, r.program, r.file),
+        b'C' => direct::close(b, r.program, r.file),
+        b'D' => direct::drop(b, r.program, r.file),
+        b'X' => direct::cancel(b, r.program),
+        b'F' => direct::fetch(b, r.program, r.file, r.item),
+        b'R' => direct::return_item(b, r.program),
+        _ => direct::leave(b, r.program),
     }
-    if r.kind == b'O' {
-        return direct::open(b, r.program, r.file);
-    }
-    if r.kind == b'C' {
-        return direct::close(b, r.program, r.file);
-    }
-    if r.kind == b'D' {
-        return direct::drop(b, r.program, r.file);
-    }
-    if r.kind == b'X' {
-        return direct::cancel(b, r.program);
-    }
-    if r.kind == b'F' {
-        return direct::fetch(b, r.program, r.file, r.item);
-    }
-    if r.kind == b'R' {
-        return direct::return_item(b, r.program);
-    }
-    direct::leave(b, r.program)
 }
 
-// A number, but at most so much.
-fn at_most(asked: u64, most: usize) -> usize
-    ensures { result ≤ most }
-{
-    if asked < most as u64 {
-        return asked as usize;
-    }
-    most
+// Reads so many bytes, or those up to the end of the input.
+fn read_bytes(rt: &(impl Input + AllocGlobal), asked: u64) -> io::Result<Vec<u8>> {
+    let mut bytes = Vec::new(rt.alloc());
+    rt.reader().take(asked).read_to_end(&mut bytes)?;
+    Ok(bytes)
 }
 
-// Reads until all of a buffer is filled or the input ends, and says how many bytes there were.
-pub fn read_full(rt: &impl Input, bytes: &mut [u8]) -> io::Result<usize>
-    ensures { IfOk result (λ n. n ≤ length bytes.new) }
-{
-    let mut input = rt.reader();
-    let mut done: usize = 0;
-    while done < bytes.len() {
-        let n = input.read(&mut bytes[done..])?;
-        if n == 0 {
-            break;
-        }
-        done += n;
-    }
-    Ok(done)
+// Reads the text that follows a record: as many bytes as are asked for, at most 4,096.
+fn read_text(rt: &(impl Input + AllocGlobal), asked: u64) -> io::Result<Vec<u8>> {
+    read_bytes(rt, asked.min(4096))
 }
 
-// Reads as many bytes as are asked for and have room, and says how many there were.
-fn read_text(rt: &impl Input, text: &mut [u8], asked: u64) -> io::Result<usize> {
-    let n = at_most(asked, text.len());
-    read_full(rt, &mut text[..n])
-}
-
-// The first n bytes of a text.
-fn front(text: &[u8], n: usize) -> &[u8] {
-    if text.len() < n {
-        return text;
-    }
-    &text[..n]
+// The next record, if it is whole.
+pub fn next(rt: &(impl Input + AllocGlobal)) -> io::Result<Option<Record>> {
+    Ok(parse(&read_bytes(rt, 49)?))
 }
 
 // The board of the image that follows.
+<<<<<<< HEAD
 fn load(rt: &(impl Input + Print), asked: u64) -> io::Result<Board> {
     let mut text = [0u8; 4096];
     let n = read_text(rt, &mut text, asked)?;
     let loaded = image::load(front(&text, n));
     let board = loaded.unwrap_or(Board::EMPTY);
     answers::load(rt, loaded.is_some(), board)?;
+=======
+fn load(rt: &(impl Input + Print + AllocGlobal), asked: u64) -> io::Result<Board> {
+    let text = read_text(rt, asked)?;
+    let loaded = image::load(&text);
+    let board = loaded.board;
+    answers::load(rt, loaded.ok, board)?;
+>>>>>>> b552e06 (asked: records and texts read whole, by slices and iterators; no proof is written by hand)
     Ok(board)
 }
 
 // The label of the line that follows.
-fn label(rt: &(impl Input + Print), asked: u64) -> io::Result<()> {
-    let mut text = [0u8; 4096];
-    let n = read_text(rt, &mut text, asked)?;
-    answers::label(rt, request::label(front(&text, n)))
+fn label(rt: &(impl Input + Print + AllocGlobal), asked: u64) -> io::Result<()> {
+    let text = read_text(rt, asked)?;
+    answers::label(rt, request::label(&text))
 }
 
 // The matrix of the board.
@@ -156,27 +117,25 @@ fn matrix(rt: &impl Print, b: Board) -> io::Result<()> {
 }
 
 // Whether the list that follows is a loop with the file given to the program.
-fn check(rt: &(impl Input + Print), b: Board, r: Record) -> io::Result<()> {
-    let mut text = [0u8; 4096];
-    let n = read_text(rt, &mut text, r.item)?;
-    answers::truth(
-        rt,
-        digraph::loops::is_loop_with(b, r.program, r.file, front(&text, n)),
-    )
+fn check(rt: &(impl Input + Print + AllocGlobal), b: Board, r: Record) -> io::Result<()> {
+    let text = read_text(rt, r.item)?;
+    let is_loop = digraph::loops::is_loop_with(b, r.program, r.file, &text);
+    answers::truth(rt, is_loop)
 }
 
 // The line call in place, with as much of a journal as is asked for.
 fn post(b: Board, line: &[u8], journal: &mut [u8], asked: u64, place: u64) -> Lent {
-    let n = at_most(asked, journal.len());
+    let n = usize::try_from(asked)
+        .unwrap_or(usize::MAX)
+        .min(journal.len());
     lent::line_call(b, line, &mut journal[..n], place)
 }
 
 // The line call in place, with the line that follows and a journal whose bytes are all 170.
-fn in_place(rt: &(impl Input + Print), b: Board, r: Record) -> io::Result<Board> {
-    let mut text = [0u8; 4096];
+fn in_place(rt: &(impl Input + Print + AllocGlobal), b: Board, r: Record) -> io::Result<Board> {
+    let text = read_text(rt, r.program)?;
     let mut journal = [170u8; 1024];
-    let n = read_text(rt, &mut text, r.program)?;
-    let lent = post(b, front(&text, n), &mut journal, r.file, r.item);
+    let lent = post(b, &text, &mut journal, r.file, r.item);
     let board = lent.board;
     answers::post(rt, lent.posted, &journal)?;
     answers::write_image(rt, board)?;
@@ -184,27 +143,18 @@ fn in_place(rt: &(impl Input + Print), b: Board, r: Record) -> io::Result<Board>
 }
 
 // Does what a record asks, and gives the board after it.
-pub fn take(rt: &(impl Input + Print), b: Board, r: Record) -> io::Result<Board> {
-    if r.kind == b'i' {
-        return load(rt, r.program);
+pub fn take(rt: &(impl Input + Print + AllocGlobal), b: Board, r: Record) -> io::Result<Board> {
+    match r.kind {
+        b'i' => return load(rt, r.program),
+        b'p' => return in_place(rt, b, r),
+        b'l' => label(rt, r.program)?,
+        b'm' => matrix(rt, b)?,
+        b'k' => check(rt, b, r)?,
+        _ => {
+            let answered = call(b, r);
+            answers::call(rt, answered.reply, answered.carries)?;
+            return Ok(answered.reply.board);
+        }
     }
-    if r.kind == b'l' {
-        label(rt, r.program)?;
-        return Ok(b);
-    }
-    if r.kind == b'p' {
-        return in_place(rt, b, r);
-    }
-    if r.kind == b'm' {
-        matrix(rt, b)?;
-        return Ok(b);
-    }
-    if r.kind == b'k' {
-        check(rt, b, r)?;
-        return Ok(b);
-    }
-    let answered = call(b, r);
-    let reply = answered.reply;
-    answers::call(rt, reply, answered.carries)?;
-    Ok(reply.board)
+    Ok(b)
 }

@@ -16,7 +16,8 @@ use Rattle.lines.proofs.Laws.{all-names-on, program_range}
 use Rattle.store.specs.Sets.{Sets, SetsOf, claim_at, open_at, claims_at, opens_at}
 use Rattle.store.proofs.Laws.{claim_is, open_is}
 use Rattle.theory.specs.Modes.{same_mode}
-use Rattle.rules.specs.Modes.{Write, claim_of, open_of}
+use Rattle.rules.specs.declared.Mode.TheVariants.{Write}
+use Rattle.rules.specs.Modes.{claim_of, open_of}
 use Rattle.files.specs.declared.FileSet.{FileSet}
 use Rattle.files.specs.Sets.{member}
 use Rattle.tables.proofs.Laws.{admitted-those}

@@ -1,7 +1,7 @@
 use Prim.Native.Nat.{ℕ, ◌-◌}
 use mathlib.Core.Path.{refl, ◌∙◌}
 use mathlib.Core.List.{append_assoc}
-use Rattle.rules.specs.Modes.{Inquiry}
+use Rattle.rules.specs.declared.Mode.TheVariants.{Inquiry}
 use Rattle.store.specs.Sets.{claim_place, open_place, set_in}
 use Rattle.image.specs.Sections.{number}
 use Rattle.image.specs.Image.{set_section, used_by, wanted_by}

@@ -1,6 +1,6 @@
 use Prim.Native.Nat.{ℕ, ◌-◌}
 use mathlib.Core.Path.{refl, ◌∙◌}
-use Rattle.rules.specs.Modes.{Write, Read}
+use Rattle.rules.specs.declared.Mode.TheVariants.{Write, Read}
 use Rattle.store.specs.Sets.{claim_place, open_place, set_in}
 use Rattle.image.specs.Sections.{◌▸◌, byte, bytes_n}
 use Rattle.image.specs.Image.{set_section, awaited_section, kind_of, file_byte}
