@@ -86,20 +86,11 @@ pub fn next(rt: &(impl Input + AllocGlobal)) -> io::Result<Option<Record>> {
 }
 
 // The board of the image that follows.
-<<<<<<< HEAD
-fn load(rt: &(impl Input + Print), asked: u64) -> io::Result<Board> {
-    let mut text = [0u8; 4096];
-    let n = read_text(rt, &mut text, asked)?;
-    let loaded = image::load(front(&text, n));
-    let board = loaded.unwrap_or(Board::EMPTY);
-    answers::load(rt, loaded.is_some(), board)?;
-=======
 fn load(rt: &(impl Input + Print + AllocGlobal), asked: u64) -> io::Result<Board> {
     let text = read_text(rt, asked)?;
     let loaded = image::load(&text);
-    let board = loaded.board;
-    answers::load(rt, loaded.ok, board)?;
->>>>>>> b552e06 (asked: records and texts read whole, by slices and iterators; no proof is written by hand)
+    let board = loaded.unwrap_or(Board::EMPTY);
+    answers::load(rt, loaded.is_some(), board)?;
     Ok(board)
 }
 
