@@ -2,29 +2,8 @@
 ghost use Rattle.std.specs.Prelude.{◌<◌};
 
 use crate::text;
-use itoa::Buffer;
-
-// The place in the expected lines, the number of lines, and the line of the first difference, 0 if there is none.
-#[derive(Clone, Copy)]
-pub struct Hosted {
-    pub at: usize,
-    pub lines: u64,
-    pub bad: u64,
-}
-
-// Whether all so far stood in the expected text, and the place after it.
-#[derive(Clone, Copy)]
-struct Found {
-    ok: bool,
-    at: usize,
-}
-
-// A byte as a number.
-fn wide(b: u8) -> u64
-    ensures { result < 256 }
-{
-    b as u64
-}
+use crate::text::Compared;
+use std::alloc::{AllocError, Global};
 
 // The Adler-32 of some bytes.
 fn adler(s: &[u8]) -> u64
@@ -32,76 +11,33 @@ fn adler(s: &[u8]) -> u64
 {
     let mut a: u64 = 1;
     let mut b: u64 = 0;
-    let mut i: usize = 0;
-    while i < s.len() {
-        a = (a + wide(s[i])) % 65521;
+    for byte in s {
+        a = (a + u64::from(*byte)) % 65521;
         b = (b + a) % 65521;
-        i += 1;
     }
     b * 65536 + a
 }
 
-// A number in decimal, and a byte after it, at the place that was found.
-fn number_then(f: Found, n: u64, then: u8, expected: &[u8]) -> Found {
-    let mut buffer = Buffer::new();
-    let digits = buffer.format(n).as_bytes();
-    let k = digits.len();
-    let at = f.at;
-    let end = text::sum(at, k);
-    let last = [then];
-    if !text::stands(digits, k, expected, at) {
-        return Found { ok: false, at };
-    }
-    if !text::stands(&last, 1, expected, end) {
-        return Found { ok: false, at };
-    }
-    Found {
-        ok: f.ok,
-        at: text::sum(end, 1),
-    }
-}
-
-// One call, whose answer and sums are held to the expected line.
-fn step(s: Hosted, image: &mut [u8; image::IMAGE_LEN], line: &[u8], expected: &[u8]) -> Hosted {
+// One call, and what is said of it: its answer and the sums of the image and the journal after it.
+fn said(
+    alloc: Global,
+    image: &mut [u8; image::IMAGE_LEN],
+    line: &[u8],
+) -> Result<String, AllocError> {
     let mut journal = [170u8; journal::JOURNAL_ROOM];
     let answer = host::lock_board_line(image, line, &mut journal, 0);
-    let start = Found { ok: true, at: s.at };
-    let one = number_then(start, answer, 32, expected);
-    let two = number_then(one, adler(image), 32, expected);
-    let three = number_then(two, adler(&journal), 10, expected);
-    let lines = text::more(s.lines);
-    Hosted {
-        at: three.at,
-        lines,
-        bad: text::first(s.bad, three.ok, lines),
-    }
+    let image_sum = adler(image);
+    let journal_sum = adler(&journal);
+    format!(in alloc; "{answer} {image_sum} {journal_sum}\n")
 }
 
-// Expected lines that are left over are a difference too.
-fn ended(s: Hosted, expected: &[u8]) -> Hosted {
-    let at = s.at;
-    let lines = s.lines;
-    Hosted {
-        at,
-        lines,
-        bad: text::first(s.bad, at == expected.len(), text::more(lines)),
-    }
-}
-
-// All lines of the input, from the empty board's image on.
-pub fn replay(input: &[u8], expected: &[u8]) -> Hosted {
+// All lines of the input, from the empty board's image on: the first that is said to do something else than expected.
+pub fn replay(alloc: Global, input: &[u8], expected: &[u8]) -> Result<Option<u64>, AllocError> {
     let mut image = [0u8; image::IMAGE_LEN];
-    let mut s = Hosted {
-        at: 0,
-        lines: 0,
-        bad: 0,
-    };
-    let mut from: usize = 0;
-    while from < input.len() {
-        let end = text::line_end(input, from);
-        let cut = text::cut(from, end);
-        s = step(s, &mut image, &input[from..cut], expected);
-        from = end + 1;
+    let mut compared = Compared::with(expected);
+    for line in input.split_inclusive(text::ends_line) {
+        let said = said(alloc, &mut image, text::cut(line))?;
+        compared = compared.gave(said.as_bytes());
     }
-    ended(s, expected)
+    Ok(compared.bad_to_end())
 }

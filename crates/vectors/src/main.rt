@@ -6,134 +6,88 @@ mod load;
 mod program;
 mod text;
 
-use hosted::Hosted;
 use program::Replayed;
 use std::fs::Files;
 use std::io;
 
 // The sets so far, their lines, and how many sets are equal to what they expect.
-#[derive(Clone, Copy)]
+#[derive(Clone, Copy, Default)]
 struct Totals {
     sets: u64,
     lines: u64,
     equal: u64,
 }
 
+// The totals with one set more.
+fn counted(t: Totals, lines: u64, equal: bool) -> Totals {
+    Totals {
+        sets: t.sets.saturating_add(1),
+        lines: t.lines.saturating_add(lines),
+        equal: t.equal.saturating_add(u64::from(equal)),
+    }
+}
+
 // Says that there is no difference, or at which line.
-fn write_difference(rt: &impl Print, bad: u64, differs: &str) -> io::Result<()> {
-    if bad == 0 {
-        return rt.print(" equal");
+fn write_difference(rt: &impl Print, bad: Option<u64>, differs: &str) -> io::Result<()> {
+    match bad {
+        None => rt.print(" equal"),
+        Some(line) => print!(rt; "{differs}{line}"),
     }
-    print!(rt; "{differs}{bad}")
 }
 
-// Whether a set came out as it expects.
-fn is_equal(program: Replayed, host: Hosted) -> bool {
-    if 0 < program.bad {
-        return false;
-    }
-    if 0 < host.bad {
-        return false;
-    }
-    program.order
-}
-
-// The line of a set.
-fn write_set(rt: &impl Print, program: Replayed, host: Hosted) -> io::Result<()> {
+// The line of a set: its name is written already.
+fn write_set(rt: &impl Print, program: Replayed, hosted: Option<u64>) -> io::Result<()> {
     print!(rt; ": {} lines, journal", program.lines)?;
     write_difference(rt, program.bad, " differs at line ")?;
     if !program.order {
         rt.print(", order differs")?;
     }
     rt.print(", images")?;
-    write_difference(rt, host.bad, " differ at line ")?;
+    write_difference(rt, hosted, " differ at line ")?;
     rt.println("")
-}
-
-// The totals with one set more.
-fn counted(t: Totals, lines: u64, equal: bool) -> Totals {
-    let sets = text::more(t.sets);
-    let all = text::total(t.lines, lines);
-    let before = t.equal;
-    if equal {
-        let now = text::more(before);
-        return Totals {
-            sets,
-            lines: all,
-            equal: now,
-        };
-    }
-    Totals {
-        sets,
-        lines: all,
-        equal: before,
-    }
 }
 
 // Replays a set in both ways.
 fn replay(
-    rt: &impl Print,
+    rt: &(impl Print + AllocGlobal),
     t: Totals,
     input: &[u8],
     output: &[u8],
     sums: &[u8],
 ) -> io::Result<Totals> {
-    let program = program::replay(input, output);
-    let host = hosted::replay(input, sums);
-    write_set(rt, program, host)?;
-    Ok(counted(t, program.lines, is_equal(program, host)))
-}
-
-// A set with a file that is missing or too long.
-fn unread(rt: &impl Print, t: Totals) -> io::Result<Totals> {
-    rt.println(": a file cannot be read")?;
-    Ok(counted(t, 0, false))
+    let program = program::replay(rt.alloc(), input, output)?;
+    let hosted = hosted::replay(rt.alloc(), input, sums)?;
+    write_set(rt, program, hosted)?;
+    let equal = program.bad.is_none() && program.order && hosted.is_none();
+    Ok(counted(t, program.lines, equal))
 }
 
 // Reads the files of a set and replays it.
-fn take_set(rt: &(impl Files + Print), t: Totals, name: &[u8]) -> io::Result<Totals> {
-    let mut input = [0u8; 32768];
-    let mut output = [0u8; 32768];
-    let mut sums = [0u8; 32768];
+fn take_set(rt: &(impl Files + Print + AllocGlobal), t: Totals, name: &[u8]) -> io::Result<Totals> {
     rt.write_all(name)?;
-    let i = load::load(rt, name, b".in", &mut input);
-    let o = load::load(rt, name, b".out", &mut output);
-    let s = load::load(rt, name, b".host", &mut sums);
-    if !i.ok {
-        return unread(rt, t);
-    }
-    if !o.ok {
-        return unread(rt, t);
-    }
-    if !s.ok {
-        return unread(rt, t);
-    }
-    let asked = load::front(&input, i.len);
-    let expected = load::front(&output, o.len);
-    let hosted = load::front(&sums, s.len);
-    replay(rt, t, asked, expected, hosted)
+    let (Some(input), Some(output), Some(sums)) = (
+        load::load(rt, name, ".in"),
+        load::load(rt, name, ".out"),
+        load::load(rt, name, ".host"),
+    ) else {
+        rt.println(": a file cannot be read")?;
+        return Ok(counted(t, 0, false));
+    };
+    replay(rt, t, &input, &output, &sums)
 }
 
 // Every set that the names list.
-fn take_sets(rt: &(impl Files + Print), names: &[u8]) -> io::Result<Totals> {
-    let mut t = Totals {
-        sets: 0,
-        lines: 0,
-        equal: 0,
-    };
-    let mut from: usize = 0;
-    while from < names.len() {
-        let end = text::line_end(names, from);
-        t = take_set(rt, t, &names[from..end])?;
-        from = end + 1;
+fn take_sets(rt: &(impl Files + Print + AllocGlobal), names: &[u8]) -> io::Result<Totals> {
+    let mut t = Totals::default();
+    for line in names.split_inclusive(text::ends_line) {
+        t = take_set(rt, t, text::without_end(line))?;
     }
     Ok(t)
 }
 
 fn main(rt: HostRuntime) -> io::Result<()> {
-    let mut names = [0u8; 32768];
-    let loaded = load::load(&rt, b"names", b"", &mut names);
-    let t = take_sets(&rt, load::front(&names, loaded.len))?;
+    let names = load::load(&rt, b"names", "").unwrap_or(Vec::new(rt.alloc()));
+    let t = take_sets(&rt, &names)?;
     println!(rt;
         "{} sets, {} lines, {} sets equal",
         t.sets, t.lines, t.equal

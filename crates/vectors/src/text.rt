@@ -1,90 +1,61 @@
-// Finds lines and compares bytes.
-ghost use Rattle.std.specs.Prelude.{◌≤◌, length};
+// Lines, and an expected text that is held to what the lines give.
 
-// Where a line that begins at a place ends: at byte 10, or at the end of the text.
-pub fn line_end(s: &[u8], from: usize) -> usize
-    requires { from ≤ length s.now }
-    ensures { (from ≤ result) × (result ≤ length s.now) }
-{
-    let mut i = from;
-    while i < s.len() {
-        if s[i] == 10 {
-            return i;
+// Whether a byte ends a line.
+pub fn ends_line(byte: &u8) -> bool {
+    *byte == b'\n'
+}
+
+// A line without the byte that ends it; the last line may lack that.
+pub fn without_end(line: &[u8]) -> &[u8] {
+    line.strip_suffix(b"\n").unwrap_or(line)
+}
+
+// The line that is asked: "The longest line has 602 bytes; a longer one is cut to 603."
+pub fn cut(line: &[u8]) -> &[u8] {
+    let line = without_end(line);
+    line.get(..request::CUT_LINE).unwrap_or(line)
+}
+
+// The input lines so far, the first of them whose bytes differ from the expected ones, and what is expected of those that follow.
+#[derive(Clone, Copy)]
+pub struct Compared<'a> {
+    pub lines: u64,
+    pub bad: Option<u64>,
+    pub rest: &'a [u8],
+}
+
+impl<'a> Compared<'a> {
+    // No line so far.
+    pub fn with(expected: &'a [u8]) -> Compared<'a> {
+        Compared {
+            lines: 0,
+            bad: None,
+            rest: expected,
         }
-        i += 1;
     }
-    i
-}
 
-// Where a line is cut: "The longest line has 602 bytes; a longer one is cut to 603."
-pub fn cut(from: usize, end: usize) -> usize
-    requires { from ≤ end }
-    ensures { (from ≤ result) × (result ≤ end) }
-{
-    if request::CUT_LINE < end - from {
-        return from + request::CUT_LINE;
-    }
-    end
-}
-
-// Whether the first n bytes of a part stand in a text at a place.
-pub fn stands(part: &[u8], n: usize, text: &[u8], at: usize) -> bool {
-    if part.len() < n {
-        return false;
-    }
-    if text.len() < at {
-        return false;
-    }
-    if text.len() - at < n {
-        return false;
-    }
-    let mut i: usize = 0;
-    while i < n {
-        if part[i] != text[at + i] {
-            return false;
+    // One line more, which gave some bytes.
+    pub fn gave(self, bytes: &[u8]) -> Compared<'a> {
+        let lines = self.lines.saturating_add(1);
+        match self.rest.strip_prefix(bytes) {
+            Some(rest) => Compared {
+                lines,
+                bad: self.bad,
+                rest,
+            },
+            None => Compared {
+                lines,
+                bad: self.bad.or(Some(lines)),
+                rest: self.rest.get(bytes.len()..).unwrap_or(b""),
+            },
         }
-        i += 1;
     }
-    true
-}
 
-// The sum, where both numbers are small, and else the first.
-pub fn sum(a: usize, b: usize) -> usize {
-    if 1000000 < a {
-        return a;
+    // The first line that differs, where expected bytes that are left over are a difference too.
+    pub fn bad_to_end(self) -> Option<u64> {
+        if self.rest.is_empty() {
+            return self.bad;
+        }
+        self.bad.or(Some(self.lines.saturating_add(1)))
     }
-    if 1000000 < b {
-        return a;
-    }
-    a + b
-}
-
-// One more, up to a million.
-pub fn more(n: u64) -> u64 {
-    if n < 1000000 {
-        return n + 1;
-    }
-    n
-}
-
-// The sum of two counts of lines, up to a million and a million.
-pub fn total(a: u64, b: u64) -> u64 {
-    if 1000000 < a {
-        return a;
-    }
-    if 1000000 < b {
-        return a;
-    }
-    a + b
-}
-
-// The line of the first difference so far, 0 if there is none.
-pub fn first(bad: u64, ok: bool, line: u64) -> u64 {
-    if 0 < bad {
-        return bad;
-    }
-    if ok {
-        return 0;
-    }
-    line
 }

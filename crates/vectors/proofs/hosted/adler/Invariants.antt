@@ -1,0 +1,6 @@
+-- Both sums stay below the prime.
+use Rattle.std.proofs.Common.{◌<◌}
+use Rattle.vectors.proofs.hosted.adler.Given as goal
+
+abbrev pub invariant-loop-byte : goal.invariant-loop-byte
+invariant-loop-byte l = (l.a < 65521) × (l.b < 65521)
