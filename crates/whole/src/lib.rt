@@ -4,11 +4,11 @@
 // That a set is one word is known here alone.
 ghost use Rattle.std.specs.Prelude.{◌≡◌, ◌-◌, ◌≤◌, ◌<◌, length, get_or};
 ghost use Rattle.files.specs.Words.{word_count, set_of};
-ghost use Rattle.store.specs.Sets.{place_count, IsStore, set_in};
+ghost use Rattle.store.specs.Sets.{place_count, set_in};
 ghost use Rattle.store.specs.Store.{no_seat, program_with, programs_from, board_of};
 
 use files::FileSet;
-use rules::{Board, Program};
+use rules::{Board, Mode, Program};
 use store::sets::Sets;
 use store::{Rest, Seat, sets};
 
@@ -22,7 +22,7 @@ fn set_of(s: &[u64]) -> FileSet
 
 // The set in place k.
 pub fn set_at(sets: &Sets, k: usize) -> FileSet
-    requires { (k < place_count) × IsStore sets.now }
+    requires { k < place_count }
     ensures { result ≡ set_in sets.now k }
 {
     set_of(&sets[k])
@@ -30,15 +30,15 @@ pub fn set_at(sets: &Sets, k: usize) -> FileSet
 
 // Program p, with a seat.
 fn program(sets: &Sets, p: u8, seat: Seat) -> Program
-    requires { ((1 ≤ p) × (p ≤ 32)) × IsStore sets.now }
+    requires { (1 ≤ p) × (p ≤ 32) }
     ensures { result ≡ program_with sets.now (p - 1) seat }
 {
-    let v = sets::writable_at(p);
-    let q = sets::readable_at(p);
-    let j = sets::inquirable_at(p);
-    let w = sets::writing_at(p);
-    let r = sets::reading_at(p);
-    let i = sets::inquiring_at(p);
+    let v = sets::claim_at(Mode::Write, p);
+    let q = sets::claim_at(Mode::Read, p);
+    let j = sets::claim_at(Mode::Inquiry, p);
+    let w = sets::open_at(Mode::Write, p);
+    let r = sets::open_at(Mode::Read, p);
+    let i = sets::open_at(Mode::Inquiry, p);
     let writable = set_at(sets, v);
     let readable = set_at(sets, q);
     let inquirable = set_at(sets, j);
@@ -63,7 +63,6 @@ fn program(sets: &Sets, p: u8, seat: Seat) -> Program
 
 // The programs.
 fn programs(sets: &Sets, seats: [Seat; 32]) -> [Program; 32]
-    requires { IsStore sets.now }
     ensures { result ≡ programs_from sets.now (λ i. get_or seats i no_seat) 32 0 }
 {
     let absent = Program::ABSENT;
@@ -79,7 +78,6 @@ fn programs(sets: &Sets, seats: [Seat; 32]) -> [Program; 32]
 
 // The board.
 pub fn board(sets: &Sets, rest: Rest) -> Board
-    requires { IsStore sets.now }
     ensures { result ≡ board_of sets.now rest }
 {
     let seats = rest.seats;
