@@ -25,7 +25,7 @@ pub fn set_at(sets: &Sets, k: usize) -> FileSet
     requires { k < place_count }
     ensures { result ≡ set_in sets.now k }
 {
-    set_of(&sets[k])
+    set_of(sets::row(sets, k))
 }
 
 // Program p, with a seat.
@@ -33,31 +33,16 @@ fn program(sets: &Sets, p: u8, seat: Seat) -> Program
     requires { (1 ≤ p) × (p ≤ 32) }
     ensures { result ≡ program_with sets.now (p - 1) seat }
 {
-    let v = sets::claim_at(Mode::Write, p);
-    let q = sets::claim_at(Mode::Read, p);
-    let j = sets::claim_at(Mode::Inquiry, p);
-    let w = sets::open_at(Mode::Write, p);
-    let r = sets::open_at(Mode::Read, p);
-    let i = sets::open_at(Mode::Inquiry, p);
-    let writable = set_at(sets, v);
-    let readable = set_at(sets, q);
-    let inquirable = set_at(sets, j);
-    let writing = set_at(sets, w);
-    let reading = set_at(sets, r);
-    let inquiring = set_at(sets, i);
-    let standing = seat.standing;
-    let file = seat.file;
-    let item = seat.item;
     Program {
-        writable,
-        readable,
-        inquirable,
-        writing,
-        reading,
-        inquiring,
-        standing,
-        file,
-        item,
+        writable: set_at(sets, sets::claim_at(Mode::Write, p)),
+        readable: set_at(sets, sets::claim_at(Mode::Read, p)),
+        inquirable: set_at(sets, sets::claim_at(Mode::Inquiry, p)),
+        writing: set_at(sets, sets::open_at(Mode::Write, p)),
+        reading: set_at(sets, sets::open_at(Mode::Read, p)),
+        inquiring: set_at(sets, sets::open_at(Mode::Inquiry, p)),
+        standing: seat.standing,
+        file: seat.file,
+        item: seat.item,
     }
 }
 
@@ -65,13 +50,9 @@ fn program(sets: &Sets, p: u8, seat: Seat) -> Program
 fn programs(sets: &Sets, seats: [Seat; 32]) -> [Program; 32]
     ensures { result ≡ programs_from sets.now (λ i. get_or seats i no_seat) 32 0 }
 {
-    let absent = Program::ABSENT;
-    let mut ps = [absent; 32];
-    let mut i: usize = 0;
-    while i < 32 {
-        let seat = seats[i];
-        ps[i] = program(sets, (i + 1) as u8, seat);
-        i += 1;
+    let mut ps = [Program::ABSENT; 32];
+    for i in 0..32 {
+        ps[i] = program(sets, (i + 1) as u8, seats[i]);
     }
     ps
 }
@@ -84,17 +65,14 @@ pub fn board(sets: &Sets, rest: Rest) -> Board
     let programs = programs(sets, seats);
     let waiting = rest.waiting;
     let entry = rest.entry;
-    let favoured = rest.favoured;
-    let initial = rest.initial;
-    let leaves = rest.leaves;
     let passed = rest.passed;
     Board {
         programs,
         waiting,
         entry,
-        favoured,
-        initial,
-        leaves,
+        favoured: rest.favoured,
+        initial: rest.initial,
+        leaves: rest.leaves,
         passed,
     }
 }
