@@ -10,6 +10,7 @@ ghost use Rattle.rules.specs.Calls.{newcomer, admit, hold, hold_for, open_file, 
 ghost use Rattle.rules.specs.Calls.{count_cancel, withdrawn, cancel, call_with, call_of, checked, accepted, apply};
 ghost use Rattle.theory.specs.Loose.{Good};
 ghost use Rattle.parts.specs.Entries.{IsEntries, no_entries};
+ghost use Rattle.store.specs.Sets.{IsStore};
 ghost use Rattle.store.specs.Store.{board_of};
 ghost use Rattle.apply.specs.Replies.{unordered, ComesTo, Carries, InForm, entering, waiting_for};
 
@@ -63,9 +64,10 @@ fn new_program(claims: Claims, s: Standing) -> Program
 // p runs, and the count of each waiting program goes up.
 fn put_running(sets: &mut Sets, rest: Rest, p: u8, claims: Claims) -> Rest
     requires { ((1 ≤ p) × (p ≤ 32)) × Good (board_of sets.old rest)
-        × (checked (board_of sets.old rest) (entering p claims) ≡ Ok tt) }
+        × (checked (board_of sets.old rest) (entering p claims) ≡ Ok tt) × IsStore sets.old }
     ensures result_after { board_of sets.new result
         ≡ admit (board_of sets.old rest) p claims.writable claims.readable claims.inquirable }
+    ensures store { IsStore sets.new }
 {
     let runs = new_program(claims, Standing::Running);
     let c = store::sets::put(sets, rest, p, runs);
@@ -77,9 +79,11 @@ fn put_running(sets: &mut Sets, rest: Rest, p: u8, claims: Claims) -> Rest
 
 // p is held, at the end of the entry line.
 fn put_held(sets: &mut Sets, rest: Rest, p: u8, claims: Claims) -> Rest
-    requires { ((1 ≤ p) × (p ≤ 32)) × ((rest.entry ≡ padded 0 (names rest.entry)) × (length (names rest.entry) < 32)) }
+    requires { ((1 ≤ p) × (p ≤ 32)) × ((rest.entry ≡ padded 0 (names rest.entry)) × (length (names rest.entry) < 32))
+        × IsStore sets.old }
     ensures result_after { board_of sets.new result
         ≡ hold (board_of sets.old rest) p claims.writable claims.readable claims.inquirable }
+    ensures store { IsStore sets.new }
 {
     let held = new_program(claims, Standing::Held);
     Rest {
@@ -98,7 +102,7 @@ fn hold_for(
     w: u8,
 ) -> Changed
     requires { ((1 ≤ p) × (p ≤ 32)) × Good (board_of sets.old rest)
-        × (checked (board_of sets.old rest) (entering p claims) ≡ Ok tt) × ((1 ≤ w) × (w ≤ 32))
+        × (checked (board_of sets.old rest) (entering p claims) ≡ Ok tt) × ((1 ≤ w) × (w ≤ 32)) × IsStore sets.old
         × (lines.old ≡ no_entries) }
     ensures comes_to { ComesTo sets.new lines.new result
         (hold_for (board_of sets.old rest) p claims.writable claims.readable claims.inquirable w) }
@@ -114,7 +118,7 @@ fn hold_for(
 // otherwise p runs.
 fn do_enter(sets: &mut Sets, rest: Rest, lines: &mut Entries, p: u8, claims: Claims) -> Changed
     requires { ((1 ≤ p) × (p ≤ 32)) × Good (board_of sets.old rest)
-        × (checked (board_of sets.old rest) (entering p claims) ≡ Ok tt) × (lines.old ≡ no_entries) }
+        × (checked (board_of sets.old rest) (entering p claims) ≡ Ok tt) × IsStore sets.old × (lines.old ≡ no_entries) }
     ensures comes_to { ComesTo sets.new lines.new result (accepted (board_of sets.old rest) (entering p claims)) }
     ensures in_form { InForm sets.new lines.new result }
 {
@@ -134,7 +138,8 @@ fn do_enter(sets: &mut Sets, rest: Rest, lines: &mut Entries, p: u8, claims: Cla
 
 // p waits for f, at the end of the waiting line: for the record n of the file g, or, if both are 0, for f itself.
 fn put_waiting(sets: &Sets, rest: Rest, p: u8, f: u16, g: u16, n: u16) -> Rest
-    requires { ((1 ≤ p) × (p ≤ 32)) × ((rest.waiting ≡ padded 0 (names rest.waiting)) × (length (names rest.waiting) < 32)) }
+    requires { ((1 ≤ p) × (p ≤ 32)) × ((rest.waiting ≡ padded 0 (names rest.waiting)) × (length (names rest.waiting) < 32))
+        × IsStore sets.now }
     ensures { board_of sets.now result ≡ waiting_for (board_of sets.now rest) p f g n }
 {
     let seat = Seat {
@@ -150,7 +155,8 @@ fn put_waiting(sets: &Sets, rest: Rest, p: u8, f: u16, g: u16, n: u16) -> Rest
 
 // Open: WAIT if another program has f in conflicting use; UNSAFE if no order comes back with f given; otherwise GIVEN.
 fn do_open(sets: &mut Sets, rest: Rest, lines: &mut Entries, p: u8, f: u16) -> Changed
-    requires { ((1 ≤ p) × (p ≤ 32)) × Good (board_of sets.old rest) × (open_check (board_of sets.old rest) p f ≡ Ok tt) × (lines.old ≡ no_entries) }
+    requires { ((1 ≤ p) × (p ≤ 32)) × Good (board_of sets.old rest) × (open_check (board_of sets.old rest) p f ≡ Ok tt)
+        × IsStore sets.old × (lines.old ≡ no_entries) }
     ensures comes_to { ComesTo sets.new lines.new result (open_file (board_of sets.old rest) p f) }
     ensures in_form { InForm sets.new lines.new result }
 {
@@ -179,7 +185,7 @@ fn do_open(sets: &mut Sets, rest: Rest, lines: &mut Entries, p: u8, f: u16) -> C
 
 // The running program p with the record n of f in use, or with none if both are 0.
 fn put_record(sets: &Sets, rest: Rest, p: u8, f: u16, n: u16) -> Rest
-    requires { (1 ≤ p) × (p ≤ 32) }
+    requires { ((1 ≤ p) × (p ≤ 32)) × IsStore sets.now }
     ensures { board_of sets.now result
         ≡ set_program (board_of sets.now rest) p (set_item (at (board_of sets.now rest) p) f n) }
 {
@@ -193,7 +199,8 @@ fn put_record(sets: &Sets, rest: Rest, p: u8, f: u16, n: u16) -> Rest
 
 // Fetch: "It waits (WAIT) while another has that record, else gets it (GIVEN)."
 fn do_fetch(sets: &Sets, rest: Rest, lines: &mut Entries, p: u8, f: u16, n: u16) -> Changed
-    requires { ((1 ≤ p) × (p ≤ 32)) × Good (board_of sets.now rest) × (fetch_check (board_of sets.now rest) p f n ≡ Ok tt) × (lines.old ≡ no_entries) }
+    requires { ((1 ≤ p) × (p ≤ 32)) × Good (board_of sets.now rest) × (fetch_check (board_of sets.now rest) p f n ≡ Ok tt)
+        × IsStore sets.now × (lines.old ≡ no_entries) }
     ensures comes_to { ComesTo sets.now lines.new result (fetch (board_of sets.now rest) p f n) }
     ensures entries { IsEntries lines.new × Carries (board_of sets.now result.progress.rest) result.order }
 {
@@ -209,7 +216,8 @@ fn do_fetch(sets: &Sets, rest: Rest, lines: &mut Entries, p: u8, f: u16, n: u16)
 
 // Return: the record in use is in use no longer, and "the oldest waiter for the record gets it (GIVEN), then the board settles".
 fn do_return(sets: &mut Sets, rest: Rest, lines: &mut Entries, p: u8) -> Changed
-    requires { ((1 ≤ p) × (p ≤ 32)) × Good (board_of sets.old rest) × (return_check (board_of sets.old rest) p ≡ Ok tt) × (lines.old ≡ no_entries) }
+    requires { ((1 ≤ p) × (p ≤ 32)) × Good (board_of sets.old rest) × (return_check (board_of sets.old rest) p ≡ Ok tt)
+        × IsStore sets.old × (lines.old ≡ no_entries) }
     ensures comes_to { ComesTo sets.new lines.new result (return_item (board_of sets.old rest) p) }
     ensures in_form { InForm sets.new lines.new result }
 {
@@ -222,7 +230,8 @@ fn do_return(sets: &mut Sets, rest: Rest, lines: &mut Entries, p: u8) -> Changed
 
 // Close: f is open no longer.
 fn do_close(sets: &mut Sets, rest: Rest, lines: &mut Entries, p: u8, f: u16) -> Changed
-    requires { ((1 ≤ p) × (p ≤ 32)) × Good (board_of sets.old rest) × (close_check (board_of sets.old rest) p f ≡ Ok tt) × (lines.old ≡ no_entries) }
+    requires { ((1 ≤ p) × (p ≤ 32)) × Good (board_of sets.old rest) × (close_check (board_of sets.old rest) p f ≡ Ok tt)
+        × IsStore sets.old × (lines.old ≡ no_entries) }
     ensures comes_to { ComesTo sets.new lines.new result (close_file (board_of sets.old rest) p f) }
     ensures in_form { InForm sets.new lines.new result }
 {
@@ -234,7 +243,8 @@ fn do_close(sets: &mut Sets, rest: Rest, lines: &mut Entries, p: u8, f: u16) -> 
 
 // Drop: f leaves p's claim.
 fn do_drop(sets: &mut Sets, rest: Rest, lines: &mut Entries, p: u8, f: u16) -> Changed
-    requires { ((1 ≤ p) × (p ≤ 32)) × Good (board_of sets.old rest) × (open_check (board_of sets.old rest) p f ≡ Ok tt) × (lines.old ≡ no_entries) }
+    requires { ((1 ≤ p) × (p ≤ 32)) × Good (board_of sets.old rest) × (open_check (board_of sets.old rest) p f ≡ Ok tt)
+        × IsStore sets.old × (lines.old ≡ no_entries) }
     ensures comes_to { ComesTo sets.new lines.new result (drop_file (board_of sets.old rest) p f) }
     ensures in_form { InForm sets.new lines.new result }
 {
@@ -260,7 +270,8 @@ fn counted(sets: &Sets, rest: Rest) -> Rest
 
 // Leave: all its files and claims go; "a leave returns it too", the record in use.
 fn do_leave(sets: &mut Sets, rest: Rest, lines: &mut Entries, p: u8) -> Changed
-    requires { ((1 ≤ p) × (p ≤ 32)) × Good (board_of sets.old rest) × (leave_check (board_of sets.old rest) p ≡ Ok tt) × (lines.old ≡ no_entries) }
+    requires { ((1 ≤ p) × (p ≤ 32)) × Good (board_of sets.old rest) × (leave_check (board_of sets.old rest) p ≡ Ok tt)
+        × IsStore sets.old × (lines.old ≡ no_entries) }
     ensures comes_to { ComesTo sets.new lines.new result (leave (board_of sets.old rest) p) }
     ensures in_form { InForm sets.new lines.new result }
 {
@@ -290,8 +301,9 @@ fn cancel_counted(sets: &Sets, rest: Rest, p: u8) -> Rest
 
 // The program goes, out of its line, and its count is 0.
 fn withdraw(sets: &mut Sets, rest: Rest, p: u8, s: Standing) -> Rest
-    requires { ((1 ≤ p) × (p ≤ 32)) × (rest.leaves ≤ 32) }
+    requires { ((1 ≤ p) × (p ≤ 32)) × (rest.leaves ≤ 32) × IsStore sets.old }
     ensures result_after { board_of sets.new result ≡ withdrawn (board_of sets.old rest) p s }
+    ensures store { IsStore sets.new }
 {
     match s {
         Standing::Absent | Standing::Running => rest,
@@ -310,7 +322,8 @@ fn withdraw(sets: &mut Sets, rest: Rest, p: u8, s: Standing) -> Rest
 
 // Cancel: the program goes, with its files and claims.
 fn do_cancel(sets: &mut Sets, rest: Rest, lines: &mut Entries, p: u8) -> Changed
-    requires { ((1 ≤ p) × (p ≤ 32)) × Good (board_of sets.old rest) × (cancel_check (board_of sets.old rest) p ≡ Ok tt) × (lines.old ≡ no_entries) }
+    requires { ((1 ≤ p) × (p ≤ 32)) × Good (board_of sets.old rest) × (cancel_check (board_of sets.old rest) p ≡ Ok tt)
+        × IsStore sets.old × (lines.old ≡ no_entries) }
     ensures comes_to { ComesTo sets.new lines.new result (cancel (board_of sets.old rest) p) }
     ensures in_form { InForm sets.new lines.new result }
 {
@@ -324,7 +337,8 @@ fn do_cancel(sets: &mut Sets, rest: Rest, lines: &mut Entries, p: u8) -> Changed
 // The call that is asked for, of the program p, once its checks have passed.
 fn accept(sets: &mut Sets, rest: Rest, lines: &mut Entries, p: u8, a: Asked) -> Changed
     requires { ((1 ≤ p) × (p ≤ 32)) × Good (board_of sets.old rest)
-        × (checked (board_of sets.old rest) (call_with a.verb p a.file a.item a.claims) ≡ Ok tt) × (lines.old ≡ no_entries) }
+        × (checked (board_of sets.old rest) (call_with a.verb p a.file a.item a.claims) ≡ Ok tt)
+        × IsStore sets.old × (lines.old ≡ no_entries) }
     ensures comes_to { ComesTo sets.new lines.new result
         (accepted (board_of sets.old rest) (call_with a.verb p a.file a.item a.claims)) }
     ensures in_form { InForm sets.new lines.new result }
@@ -343,7 +357,7 @@ fn accept(sets: &mut Sets, rest: Rest, lines: &mut Entries, p: u8, a: Asked) -> 
 
 // The call that is asked for, on a sound board; no line is written yet.
 pub fn call(sets: &mut Sets, rest: Rest, lines: &mut Entries, a: Asked) -> Changed
-    requires { (sound (board_of sets.old rest) ≡ true) × (lines.old ≡ no_entries) }
+    requires { (sound (board_of sets.old rest) ≡ true) × IsStore sets.old × (lines.old ≡ no_entries) }
     ensures comes_to { ComesTo sets.new lines.new result (apply (board_of sets.old rest) (call_of a)) }
     ensures in_form { InForm sets.new lines.new result }
 {

@@ -7,6 +7,7 @@ ghost use Rattle.rules.specs.Replies.{reply, refuse};
 ghost use Rattle.rules.specs.Calls.{finish, done};
 ghost use Rattle.theory.specs.Ready.{Ready};
 ghost use Rattle.parts.specs.Entries.{IsEntries, no_entries};
+ghost use Rattle.store.specs.Sets.{IsStore};
 ghost use Rattle.store.specs.Store.{board_of};
 ghost use Rattle.settling.specs.Writing.{written_in};
 ghost use Rattle.apply.specs.Replies.{wrote, ComesTo, Carries, InForm, Handing};
@@ -82,7 +83,7 @@ pub fn refused(sets: &Sets, rest: Rest, lines: &Entries, refusal: Refusal) -> Ch
 
 // DONE, then settle.
 pub fn done(sets: &mut Sets, rest: Rest, lines: &mut Entries, p: u8, f: u16) -> Changed
-    requires { Ready (board_of sets.old rest) × (lines.old ≡ no_entries) }
+    requires { Ready (board_of sets.old rest) × IsStore sets.old × (lines.old ≡ no_entries) }
     ensures comes_to { ComesTo sets.new lines.new result (done (board_of sets.old rest) p f) }
     ensures in_form { InForm sets.new lines.new result }
 {
@@ -92,7 +93,7 @@ pub fn done(sets: &mut Sets, rest: Rest, lines: &mut Entries, p: u8, f: u16) -> 
 
 // DONE, then the record n of f is handed on, then settle.
 pub fn handed_on(sets: &mut Sets, rest: Rest, lines: &mut Entries, p: u8, f: u16, n: u16) -> Changed
-    requires { Handing (board_of sets.old rest) f n × (lines.old ≡ no_entries) }
+    requires { Handing (board_of sets.old rest) f n × IsStore sets.old × (lines.old ≡ no_entries) }
     ensures comes_to { ComesTo sets.new lines.new result (finish (hand_on (board_of sets.old rest) f n) p 0) }
     ensures in_form { InForm sets.new lines.new result }
 {

@@ -2,6 +2,7 @@
 
 // The calls of a C host.
 ghost use Rattle.std.specs.Prelude.{◌≡◌, ◌≤◌, take};
+ghost use Rattle.store.specs.Sets.{IsStore};
 ghost use Rattle.store.specs.Store.{empty_sets};
 ghost use Rattle.host.specs.Host.{read_image, taken_in, refusal_answer, host_answer, host_call, empty_answer, empty_image};
 ghost use Rattle.host.specs.Host.{placed_answer, placed_in, order_answer, order_buffer};
@@ -21,6 +22,7 @@ pub mod writing;
 fn take_image(image: &[u8], sets: &mut Sets) -> Option<Rest>
     requires { sets.old ≡ empty_sets }
     ensures result_after { taken_in sets.new result ≡ read_image image.now }
+    ensures store { IsStore sets.new }
 {
     let rest = image::load_in(image, sets)?;
     if !sound::is_sound(sets, rest) {

@@ -5,7 +5,7 @@
 ghost use Rattle.std.specs.Prelude.{◌≡◌, ◌++◌, map, true, ◌+◌, ◌-◌, ◌*◌, ◌≤◌, ◌<◌, length, get_or, set, drop, IfNone};
 ghost use Rattle.rules.specs.Modes.{by_mode};
 ghost use Rattle.files.specs.Words.{word_count, set_of, words_for};
-ghost use Rattle.store.specs.Sets.{place_count, set_in, SetsOf, PutAt, PutsFrom};
+ghost use Rattle.store.specs.Sets.{place_count, IsStore, set_in, SetsOf, PutAt, PutsFrom};
 ghost use Rattle.store.specs.Store.{no_seat, seat_of, program_with, programs_from, board_of, SeatsTo, empty_sets};
 ghost use Rattle.image.specs.Image.{kind_of, file_byte, used_by, wanted_by, standing_of, file_of, item_of, both_or_none, seat_fits};
 ghost use Rattle.image.specs.Image.{set_section, row_of, row_section, rows_section, inquiry_of, inquiry_section, inquiries_section, joined, rows_agree};
@@ -111,7 +111,7 @@ pub fn put_at(out: &mut [u8], at: usize, src: &[u8])
 // Writes the set in place k from a byte on.
 fn put_set(out: &mut [u8], at: usize, sets: &Sets, k: usize)
     requires size_in_bounds { at + set_section.size ≤ length out.old }
-    requires k_lt_place_count { k < place_count }
+    requires k_lt_place_count { (k < place_count) × IsStore sets.now }
     ensures { out.new ≡ put_at at (set_section.write (set_in sets.now k)) out.old }
 {
     let s = whole::set_at(sets, k);
@@ -121,7 +121,7 @@ fn put_set(out: &mut [u8], at: usize, sets: &Sets, k: usize)
 // Writes the row of program p, with a seat, at the front of a part; the rest keeps its contents.
 fn put_row(out: &mut [u8], sets: &Sets, p: u8, seat: Seat)
     requires size_in_bounds { row_section.size ≤ length out.old }
-    requires le_p { (1 ≤ p) × (p ≤ 32) }
+    requires le_p { ((1 ≤ p) × (p ≤ 32)) × IsStore sets.now }
     ensures { out.new
         ≡ row_section.write (row_of (program_with sets.now (p - 1) seat)) ++ drop row_section.size out.old }
 {
@@ -136,7 +136,7 @@ fn put_row(out: &mut [u8], sets: &Sets, p: u8, seat: Seat)
 // Writes the second row of program p, likewise: J, I, the record in use and the awaited one.
 fn put_inquiry(out: &mut [u8], sets: &Sets, p: u8, seat: Seat)
     requires size_in_bounds { inquiry_section.size ≤ length out.old }
-    requires le_p { (1 ≤ p) × (p ≤ 32) }
+    requires le_p { ((1 ≤ p) × (p ≤ 32)) × IsStore sets.now }
     ensures { out.new
         ≡ inquiry_section.write (inquiry_of (program_with sets.now (p - 1) seat)) ++ drop inquiry_section.size out.old }
 {
@@ -152,6 +152,7 @@ fn put_inquiry(out: &mut [u8], sets: &Sets, p: u8, seat: Seat)
 fn put_programs(rows: &mut [u8], inquiries: &mut [u8], sets: &Sets, seats: [Seat; 32])
     requires rows_len { rows_section.size ≤ length rows.old }
     requires inquiries_len { inquiries_section.size ≤ length inquiries.old }
+    requires store { IsStore sets.now }
     ensures rows_after { rows.new
         ≡ rows_section.write (map row_of (programs_from sets.now (λ i. get_or seats i no_seat) 32 0))
         ++ drop rows_section.size rows.old }
@@ -169,6 +170,7 @@ fn put_programs(rows: &mut [u8], inquiries: &mut [u8], sets: &Sets, seats: [Seat
 // Writes the image of a board into a buffer of its length, section by section.
 fn fill_image(out: &mut [u8], sets: &Sets, rest: Rest)
     requires out_len { length out.old ≡ image_length }
+    requires store { IsStore sets.now }
     ensures { out.new ≡ image_of (board_of sets.now rest) }
 {
     let (front, inquiries) = out.split_at_mut(INQUIRIES_AT);
@@ -185,6 +187,7 @@ fn fill_image(out: &mut [u8], sets: &Sets, rest: Rest)
 
 // Writes the image of a board, sound or not, by its sets and the rest, and says whether it could: a buffer of another length stays as it was.
 pub fn put_image_of(out: &mut [u8], sets: &Sets, rest: Rest) -> bool
+    requires { IsStore sets.now }
     ensures value { result ≡ image_fits out.old }
     ensures out_after { out.new ≡ image_in out.old (board_of sets.now rest) }
 {
@@ -295,9 +298,10 @@ fn row_fits(s: &[u8], x: &[u8]) -> bool
 // Reads a set into place k.
 fn take_set(s: &[u8], sets: &mut Sets, k: usize)
     requires s_len { length s.now ≡ set_section.size }
-    requires k_lt_place_count { k < place_count }
+    requires k_lt_place_count { (k < place_count) × IsStore sets.old }
     ensures sets_after { sets.new ≡ set sets.old k (words_for word_count (set_section.read s.now)) }
     ensures s_value { set_of (words_for word_count (set_section.read s.now)) ≡ set_section.read s.now }
+    ensures store { IsStore sets.new }
 {
     let t = read_set(s);
     words::put(&mut sets[k], t);
@@ -306,7 +310,7 @@ fn take_set(s: &[u8], sets: &mut Sets, k: usize)
 // Reads three sets, by mode: the first into place k, the others 32 and 64 places further.
 fn take_three(a: &[u8], b: &[u8], c: &[u8], sets: &mut Sets, k: usize)
     requires a_len { (length a.now ≡ set_section.size) × (length b.now ≡ set_section.size) × (length c.now ≡ set_section.size) }
-    requires k_bound { k < 128 }
+    requires k_bound { (k < 128) × IsStore sets.old }
     ensures { PutsFrom k (by_mode (set_section.read a.now) (set_section.read b.now) (set_section.read c.now))
         sets.old sets.new }
 {
@@ -318,7 +322,7 @@ fn take_three(a: &[u8], b: &[u8], c: &[u8], sets: &mut Sets, k: usize)
 // Reads the two rows of program p: its sets go into their places.
 fn read_sets(s: &[u8], x: &[u8], sets: &mut Sets, p: u8)
     requires s_len { (length s.now ≡ row_section.size) × (length x.now ≡ inquiry_section.size) }
-    requires le_p { (1 ≤ p) × (p ≤ 32) }
+    requires le_p { ((1 ≤ p) × (p ≤ 32)) × IsStore sets.old }
     ensures { PutAt (joined (row_section.read s.now) (inquiry_section.read x.now)) (p - 1)
         sets.old sets.new }
 {
@@ -390,6 +394,7 @@ fn rows_fit(s: &[u8]) -> bool
 // Reads the rows of an image: the sets go into their places, and the seats come back.
 fn read_rows(s: &[u8], sets: &mut Sets) -> [Seat; 32]
     requires s_len { length s.now ≡ image_length }
+    requires store { IsStore sets.old }
     ensures seats_to { SeatsTo (image_section.read s.now) 32 result }
     ensures sets_of { SetsOf (image_section.read s.now) sets.new }
 {
@@ -421,6 +426,7 @@ pub fn load_in(image: &[u8], sets: &mut Sets) -> Option<Rest>
     requires { sets.old ≡ empty_sets }
     ensures result_after { loaded_in sets.new result ≡ loaded_of image.now }
     ensures untouched { IfNone result (sets.new ≡ empty_sets) }
+    ensures store { IsStore sets.new }
 {
     if image.len() != IMAGE_LEN {
         return None;

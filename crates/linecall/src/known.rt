@@ -4,6 +4,7 @@ ghost use Rattle.std.specs.Prelude.{◌≡◌, true, ◌+◌, ◌*◌, ◌≤◌
 ghost use Rattle.rules.specs.Soundness.{sound};
 ghost use Rattle.journal.specs.Journal.{journal_line, journal_room, written};
 ghost use Rattle.parts.specs.Entries.{IsEntries, no_entries};
+ghost use Rattle.store.specs.Sets.{IsStore};
 ghost use Rattle.store.specs.Store.{board_of};
 ghost use Rattle.settling.specs.Writing.{written_in};
 ghost use Rattle.apply.specs.Replies.{replied, ComesTo, InForm};
@@ -81,7 +82,7 @@ fn write_lines(
 
 // What a line comes to: its direct call, or a refusal.
 fn reply_to(sets: &mut Sets, rest: Rest, lines: &mut Entries, q: Result<Asked, Refusal>) -> Changed
-    requires { (sound (board_of sets.old rest) ≡ true) × (lines.old ≡ no_entries) }
+    requires { (sound (board_of sets.old rest) ≡ true) × IsStore sets.old × (lines.old ≡ no_entries) }
     ensures comes_to { ComesTo sets.new lines.new result (reply_to (board_of sets.old rest) q) }
     ensures in_form { InForm sets.new lines.new result }
 {
@@ -100,7 +101,7 @@ pub fn line(
     journal: &mut [u8],
     place: u64,
 ) -> Served
-    requires { (sound (board_of sets.old rest) ≡ true) × (lines.old ≡ no_entries) }
+    requires { (sound (board_of sets.old rest) ≡ true) × IsStore sets.old × (lines.old ≡ no_entries) }
     ensures comes_to { ComesTo sets.new lines.new result.changed
         (line_call (board_of sets.old rest) line.now journal.old place).reply }
     ensures place_value { result.place ≡ (line_call (board_of sets.old rest) line.now journal.old place).place }

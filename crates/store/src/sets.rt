@@ -157,7 +157,7 @@ pub fn take(b: Board, sets: &mut Sets) -> Rest
 pub fn put(sets: &mut Sets, rest: Rest, p: u8, q: Program) -> Rest
     requires { (1 ≤ p) × (p ≤ 32) }
     ensures result_after { board_of sets.new result ≡ set_program (board_of sets.old rest) p q }
-    ensures value { (result ≡ put_seat rest p (seat_of q)) }
+    ensures value { (result ≡ put_seat rest p (seat_of q)) × IsStore sets.new }
 {
     put_sets(sets, usize::from(p - 1), q);
     crate::put_seat(rest, p, seat_of(q))
