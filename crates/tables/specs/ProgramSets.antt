@@ -49,6 +49,14 @@ lowest_of s = get_or (first (has_program s) everyone) 0
 abbrev pub IsLowest : ProgramSet → ℕ → Type 0
 IsLowest s p = (1 ≤ p) × (p ≤ 32) × (has_program s p ≡ true) × ((q : ℕ) → q < p → has_program s q ≡ false)
 
+-- r has those of s that pass a test, and no others, where `comes` says what the test of each comes to
+abbrev pub PassedBy : (ℕ → Bool → Type 0) → ProgramSet → ProgramSet → Type 0
+PassedBy comes s r = ((p : ℕ) → has_program s p ≡ true → comes p (has_program r p)) × ((p : ℕ) → has_program s p ≡ false → has_program r p ≡ false)
+
+-- the same of all programs
+abbrev pub AllPassedBy : (ℕ → Bool → Type 0) → ProgramSet → Type 0
+AllPassedBy comes r = (p : ℕ) → 1 ≤ p → p ≤ 32 → comes p (has_program r p)
+
 -- a step of a walk gave r, and left t of what was left, s: its lowest, and the others; or nothing where nothing was left
 abbrev pub GivesLowest : Members → Option ℕ → Members → Type 0
 GivesLowest s r t = MatchOption r (s.left.bits ≡ 0) (λ p. IsLowest s.left p × (t.left ≡ without_program s.left p))

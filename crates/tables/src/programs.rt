@@ -1,9 +1,9 @@
 // Sets of programs, by value, and a walk over one: `for p in set`, the lowest first.
-ghost use Rattle.std.specs.Prelude.{◌≡◌, ◌≢◌, true, false, ◌≤◌, length};
+ghost use Rattle.std.specs.Prelude.{◌≡◌, ◌≢◌, ◌≤◌, length};
 ghost use Rattle.files.specs.Bits.{is_number};
 ghost use Rattle.laws.specs.Lists.{keep};
 ghost use Rattle.rules.specs.Boards.{everyone};
-ghost use Rattle.tables.specs.ProgramSets.{has_program, with_program, without_program, programs_meet, union_of, common_of, less_of, lowest_of, IsLowest, GivesLowest, programs_left};
+ghost use Rattle.tables.specs.ProgramSets.{has_program, with_program, without_program, programs_meet, union_of, common_of, less_of, lowest_of, IsLowest, PassedBy, AllPassedBy, GivesLowest, programs_left};
 
 use crate::{Members, ProgramSet};
 
@@ -105,8 +105,7 @@ impl ProgramSet {
     // The programs of the set that pass a test, which each of them is put to once.
     pub fn filter<F: Fn(u8) -> bool>(self, test: F) -> ProgramSet
         requires { (p : _) → 1 ≤ p → p ≤ 32 → F.pre test p }
-        ensures tested { (p : _) → has_program self p ≡ true → F.post test p (has_program result p) }
-        ensures no_others { (p : _) → has_program self p ≡ false → has_program result p ≡ false }
+        ensures { PassedBy (F.post test) self result }
     {
         let mut passed = ProgramSet::EMPTY;
         for p in self {
@@ -118,7 +117,7 @@ impl ProgramSet {
     // The programs that pass a test, which each is put to once.
     pub fn those<F: Fn(u8) -> bool>(test: F) -> ProgramSet
         requires { (p : _) → 1 ≤ p → p ≤ 32 → F.pre test p }
-        ensures { (p : _) → 1 ≤ p → p ≤ 32 → F.post test p (has_program result p) }
+        ensures { AllPassedBy (F.post test) result }
     {
         let mut passed = ProgramSet::EMPTY;
         for p in 1..=32 {

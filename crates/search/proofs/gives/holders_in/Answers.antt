@@ -8,4 +8,4 @@ use Rattle.search.proofs.gives.holders_in.Goals as goal
 pub returns : goal.returns
 returns c =
     passing c.args.set c.filter.result (λ x. has_program (row_of c.args.rows.now x) c.args.p) (search rules)
-    (λ x e. search (rules, c.filter.ensures.tested x e)) c.filter.ensures.no_others
+    (λ x e. search (rules, c.filter.ensures.0 x e)) c.filter.ensures.1

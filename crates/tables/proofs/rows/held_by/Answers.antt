@@ -6,4 +6,4 @@ use Rattle.tables.proofs.rows.held_by.Goals as goal
 
 pub returns : goal.returns
 returns c =
-    passing c.args.set c.filter.result (λ x. holds_one c.args.sets.now x c.args.p) (search rules) (λ x e. search (rules, c.filter.ensures.tested x e)) c.filter.ensures.no_others
+    passing c.args.set c.filter.result (λ x. holds_one c.args.sets.now x c.args.p) (search rules) (λ x e. search (rules, c.filter.ensures.0 x e)) c.filter.ensures.1
