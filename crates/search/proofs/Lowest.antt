@@ -9,7 +9,7 @@ use Prim.Native.Nat.{ℕ, ◌-◌}
 use native.Mathlib.Omega.{arith}
 use lib.Dec.{eqb}
 use borrow.Author.Tests.{eqb-true, eqb-false}
-use Rattle.laws.specs.Tests.{by_test, never, no_true, and_left, and_right, and_both}
+use Rattle.laws.specs.Tests.{by_test, never, no_true, and_right, and_both}
 use Rattle.files.specs.Bits.{has_bit}
 use Rattle.files.proofs.Bits.{zero_has, has-bit, without-number-same, without-number-other}
 use Rattle.laws.specs.Lists.{with_found}
@@ -23,9 +23,6 @@ module _ (counts : List ℕ) (left : ProgramSet) where
   -- whoever has the count 0 is not tried yet, and whoever is not tried yet is left
   abbrev pub Untried : ProgramSet → Type 0
   Untried rest = ((q : ℕ) → at_zero counts left q ≡ true → has_program rest q ≡ true) × ((q : ℕ) → has_program rest q ≡ true → has_program left q ≡ true)
-
-  pub untried_start : Untried left
-  untried_start = (λ q e. and_left (has_program left q) (eqb (count_of counts q) 0) e, λ q e. e)
 
   pub untried_more : (rest : ProgramSet) (p : ℕ) → Untried rest → eqb (count_of counts p) 0 ≡ false → Untried (without_program rest p)
   untried_more rest p (f, g) n = (

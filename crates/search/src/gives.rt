@@ -48,9 +48,9 @@ pub fn in_use(sets: &Sets, u: Uses, p: u8, f: u16) -> bool
     }
 }
 
-// Whether giving f to p is safe, where `holders` tells who of a set holds a program back: whether an order comes back, on a board that
-// has one. Those that hold p back, directly or through others, are found one after another, until one claims f so that p would hold it
-// back, or there are no more. Who is found is asked for no more: each ordered pair is asked for at most once.
+// Whether giving f to p is safe, where `holders` tells who of a set holds a program back. Those that hold p back, directly or through
+// others, are found one after another, until one claims f so that p would hold it back, or there are no more. Who is found is asked
+// for no more: each ordered pair is asked for at most once.
 fn is_safe_from<F: Fn(u8, ProgramSet) -> ProgramSet>(
     sets: &Sets,
     admitted: ProgramSet,
@@ -80,7 +80,8 @@ fn is_safe_from<F: Fn(u8, ProgramSet) -> ProgramSet>(
     true
 }
 
-// Whether giving f to p is safe: who holds back whom is tested, each ordered pair at most once.
+// Whether giving f to p is safe: on a board that has an order, whether one comes back. Who holds back whom is tested, each ordered pair at
+// most once.
 pub fn is_safe(sets: &Sets, admitted: ProgramSet, p: u8, f: u16) -> bool
     requires { (1 ≤ p) × (p ≤ 32) }
     ensures { result ≡ safe_in sets.now admitted p f }
