@@ -31,8 +31,7 @@ fn reply_to(b: Board, a: Asked) -> Reply
     }
     let mut lines = [[0u16; NUMBERS]; LINES];
     let changed = apply::call(&mut sets, rest, &mut lines, a);
-    let order = j.order;
-    reply::complete(&sets, &lines, changed, order)
+    reply::complete(&sets, &lines, changed, j.order)
 }
 
 // The direct call that is asked for, with the loop that its answer carries.
@@ -54,10 +53,10 @@ pub fn enter(b: Board, program: u64, claims: Claims) -> Answered
         b,
         Asked {
             verb: Verb::Enter,
-            program: program,
+            program,
             file: 0,
             item: 0,
-            claims: claims,
+            claims,
         },
     )
 }
@@ -70,10 +69,10 @@ fn call_file(b: Board, verb: Verb, program: u64, file: u64, item: u64) -> Answer
     call(
         b,
         Asked {
-            verb: verb,
-            program: program,
-            file: file,
-            item: item,
+            verb,
+            program,
+            file,
+            item,
             claims: Claims::NONE,
         },
     )
