@@ -1,44 +1,43 @@
 -- Laws of one waiter given its file, on the board and in its arrays. Assumes nothing.
 use mathlib.Core.Path.{◌≡◌, refl, sym, ap, ◌∙◌, subst}
 use mathlib.Core.Logic.{◌≢◌}
-use mathlib.Core.Bool.{true, cond}
-use mathlib.Core.List.Memᴰ
+use mathlib.Core.Bool.{Bool, true, false, cond, ◌&&◌}
 use mathlib.Core.List.{List, [], ◌∷◌}
 use Prim.Native.Nat.{ℕ, zero, suc, ◌+◌, ◌-◌, ◌≤◌, ◌<◌}
-use native.Mathlib.Numerals.{add-one}
 use native.Mathlib.Omega.{arith}
 use lib.Dec.{eqb}
 use lib.ListN.{length, get_or, set, drop}
 use lib.Seq.{get_or-set_same, get_or-set_other}
 use borrow.Author.Tests.{eqb-true, eqb-false}
-use Rattle.laws.specs.Tests.{by_test, and_left}
+use Rattle.laws.specs.Tests.{by_test}
 use Rattle.rules.specs.declared.Standing.{Standing}
 use Rattle.rules.specs.declared.Program.{Program}
 use Rattle.rules.specs.declared.Board.{Board}
-use Rattle.rules.specs.declared.Word.{Word}
 use Rattle.rules.specs.declared.Line.{Line}
-use Rattle.laws.specs.Lists.{all, names, without}
-use Rattle.rules.specs.Boards.{no_program, at, awaited, is_program, is_admitted, set_program, set_waiting, set_favour, set_standing, uncount, opening}
+use Rattle.laws.specs.Lists.{names, without}
+use Rattle.rules.specs.Boards.{no_program, at, awaited, awaited_of, is_admitted, set_program, set_waiting, set_favour, set_standing, uncount, opening}
 use Rattle.rules.specs.Orders.{with_given}
-use Rattle.rules.specs.Settling.{line, unfavour, resume, try_give}
-use Rattle.laws.specs.Laws.{◌∈◌, Pairs, here, each_all}
-use Rattle.theory.specs.Programs.{Is, of_is, Sized, standing_same}
-use Rattle.theory.specs.Loose.{Loose, waiting_in}
+use Rattle.rules.specs.Settling.{unfavour, resume, pass}
+use Rattle.theory.specs.Programs.{Is, Sized, standing_same}
+use Rattle.theory.specs.Loose.{waiting_in}
 use Rattle.theory.specs.Settling.{can_serve}
 use Rattle.tables.specs.declared.ProgramSet.{ProgramSet}
 use Rattle.store.specs.declared.Rest.{Rest}
+use Rattle.store.specs.declared.Seat.{Seat}
 use Rattle.store.specs.Sets.{Sets, IsStore, SetsOf, given_at}
-use Rattle.store.specs.Store.{board_of}
-use Rattle.store.proofs.Boards.{board-at}
+use Rattle.store.specs.Store.{board_of, seat_at}
+use Rattle.parts.specs.Entries.{Entries, IsEntries}
 use Rattle.store.proofs.Changing.{seat_board, served-board}
 use Rattle.store.proofs.Given.{sets-given}
 use Rattle.tables.proofs.Given.{packed-same}
 use Rattle.search.specs.declared.Uses.{Uses}
 use Rattle.tables.specs.Boards.{admits, admitted_set}
-use Rattle.search.specs.Gives.{uses_of, uses_in}
-use Rattle.lines.proofs.Laws.{names-on, names_end}
-use Rattle.settling.specs.Writing.{Written, Fits, Ready, NextGiven, serve, served_rest, asked_by, AskedOf, Asks, NextFor}
-use Rattle.settling.proofs.Laws.{PassAt, pass_to, pass-range, pass-next, give_fits, give_some}
+use Rattle.search.specs.Gives.{uses_in}
+use Rattle.search.specs.Gives.{give_in}
+use Rattle.settling.specs.declared.Progress.{Progress}
+use Rattle.settling.specs.Writing.{Written, written_in, after, Fits, serve, served_rest, give_to}
+use Rattle.settling.proofs.Lines.{name-in}
+use Rattle.settling.proofs.Laws.{PassAt, pass-over, pass-range, pass-next, give_fits, give_some, waiter-range, waiter-can, waiter-over, seat-is}
 
 -- the board with the waiter p given f
 abbrev pub given_to : Board → ℕ → ℕ → Board
@@ -66,7 +65,7 @@ module _ (c : Board) (p f : ℕ) (z : Sized c.programs) (i : Is p) where
       get_or-set_other c.programs (p - 1) (x - 1) (serve (at c p) f) no_program (omega arith)
 
   -- as the rules say it
-  given_is : given_to c p f ≡ unfavour (resume (with_given c p f) p) p
+  pub given_is : given_to c p f ≡ unfavour (resume (with_given c p f) p) p
   unfolding unfavour resume with_given
   given_is = let h = place in
       rw (
@@ -77,17 +76,11 @@ module _ (c : Board) (p f : ℕ) (z : Sized c.programs) (i : Is p) where
       (by_test (eqb c.favoured p) (λ t. rw t) (λ t. rw t))
 
   -- the admitted programs are the same
-  admitted-given : admits c p ≡ true → admitted_set (given_to c p f) ≡ admitted_set c
+  pub admitted-given : admits c p ≡ true → admitted_set (given_to c p f) ≡ admitted_set c
   unfolding admitted_set
   admitted-given a = packed-same (admits (given_to c p f)) (admits c) 32 (λ x h k. by_test (eqb x p)
       (λ t. let d : x ≡ p = eqb-true x p t in rw d (ap (λ (q : Program). is_admitted q.standing) given-here ∙ sym a))
       (λ t. ap (λ (q : Program). is_admitted q.standing) (given-there x (record { least = h; most = k }) (eqb-false x p t))))
-
-  -- the next ones wait for the same files
-  asks-given : (ps asked : List ℕ) → Ready c (p ∷ ps) → Asks c (p ∷ ps) asked → Asks (given_to c p f) ps asked
-  unfolding Pairs
-  asks-given ps asked r a x m = a x (Memᴰ.tail m)
-      ∙ sym (ap asked_by (given-there x (r.2 x (Memᴰ.tail m)).0 (λ d. r.1.0 x m (sym d))))
 
 -- the sets with the file given, and the rest with the waiter served, are that board
 pub served_is : (sets : Sets) (r : Rest) (p f : ℕ) → IsStore sets → length r.seats ≡ 32 → Is p
@@ -140,95 +133,80 @@ handed_is sets r p s n i = ap (λ (x : List Program). let c = board_of sets r in
 sets-served : (c : Board) (p f : ℕ) (sets : Sets) → Sized c.programs → Is p → SetsOf c sets → SetsOf (given_to c p f) (given_at sets p f)
 sets-served c p f sets z i s = sets-given c (given_to c p f) (serve (at c p) f) p f sets z i refl (standing_same (opening (at c p) f) Standing.Running) s
 
--- ---- the pass, with the arrays
+-- ---- the pass, with the sets
 
--- the waiters from place k on are still to be asked, s is what was written before that, and the arrays are those of its board
-pub record At (w : Written) (l asked : List ℕ) (k : ℕ) (s : Written) (sets : Sets) (u : Uses) : Type 0 where
-  pub passed : PassAt w l k s
-  pub sets_are : SetsOf s.board sets
-  pub uses_are : u ≡ uses_of s.board sets
-  pub asks : Asks s.board (names (drop k l)) asked
+-- the waiters of line l from place k on are still to be asked, s is what was written before that, and u is what is open then
+pub record Passing (w : Written) (l : List ℕ) (k : ℕ) (sets : Sets) (lines : Entries) (s : Progress) (a : ProgramSet) (u : Uses) : Type 0 where
+  pub store : IsStore sets
+  pub entries : IsEntries lines
+  pub admits_are : a ≡ admitted_set (board_of sets s.rest)
+  pub uses_are : u ≡ uses_in a sets
+  pub passed : PassAt w l k (written_in sets lines s)
 
--- all that wait are asked
-pub asks_all : (sets : Sets) (r : Rest) (asked : List ℕ) → Loose (board_of sets r) → AskedOf r asked
-    → Asks (board_of sets r) (names (board_of sets r).waiting) asked
-asks_all sets r asked k a p m = let i = (k.waits.of p m).0 in let x = i.least in let y = i.most in
-    a.1 (p - 1) (omega arith) ∙ sym (ap asked_by (board-at sets r p x y))
+-- nobody is left
+pub pass-end : {w : Written} {l : List ℕ} {k : ℕ} {sets : Sets} {lines : Entries} {s : Progress} {a : ProgramSet} {u : Uses}
+    → Passing w l k sets lines s a u → names (drop k l) ≡ [] → written_in sets lines s ≡ after w (pass (names l) w.board)
+pass-end {w} {l} {k} {sets} {lines} {s} i e = pass-over w (written_in sets lines s) l k i.passed e
 
-pub asks_none : (b : Board) (l asked : List ℕ) → length l ≡ 32 → Asks b (names (drop 32 l)) asked
-asks_none b l asked n p m = absurd (Memᴰ.not-nil (subst (λ (ps : List ℕ). p ∈ ps) (names_end l 32 (omega arith)) m))
+module _ {w : Written} {l : List ℕ} {k : ℕ} {sets : Sets} {lines : Entries} {s : Progress} {a : ProgramSet} {u : Uses} (i : Passing w l k sets lines s a u)
+    (h : k < length l) (ne : get_or l k 0 ≢ 0) where
+  abbrev p : ℕ
+  p = get_or l k 0
 
-pub ready_programs : (b : Board) (ps : List ℕ) → Ready b ps → all is_program ps ≡ true
-ready_programs b ps r = each_all is_program ps (λ p m. of_is p (r.2 p m).0)
+  abbrev b : Board
+  b = board_of sets s.rest
 
--- and an open would give the waiter at place k its file, or the line is at its end
-pub record Found (w : Written) (l asked : List ℕ) (k : ℕ) (s : Written) (sets : Sets) (u : Uses) : Type 0 where
-  pub here : At w l asked k s sets u
-  pub within : k ≤ 32
-  pub gives : k < 32 → (get_or l k 0 ≢ 0) × (can_serve s.board (get_or l k 0) ≡ true)
+  -- the waiter is a program
+  pub passing-range : (1 ≤ get_or l k 0) × (get_or l k 0 ≤ 32)
+  passing-range = waiter-range sets s.rest (names (drop k l)) p i.passed.0 (name-in l k h ne)
 
-module _ (w s : Written) (l asked : List ℕ) (sets : Sets) (u : Uses) (k j : ℕ) (a : At w l asked k s sets u) (x : NextFor sets asked u l k j) where
-  next-at : NextGiven s.board l k j × Asks s.board (names (drop j l)) asked
-  next-at = x s.board a.sets_are a.uses_are a.passed.0 a.asks
+  is : Is (get_or l k 0)
+  is = record { least = passing-range.0; most = passing-range.1 }
 
-  pub next-found : Found w l asked j s sets u
-  next-found = record {
-    here = record { passed = pass_to w s l k j a.passed next-at.0; sets_are = a.sets_are; uses_are = a.uses_are; asks = next-at.1 };
-    within = next-at.0.within;
-    gives = next-at.0.gives;
-  }
+  -- by its seat
+  module _ (q : Seat) (t : Bool) (qe : q ≡ seat_at s.rest (get_or l k 0)) (te : t ≡ eqb q.item 0 && give_in sets u (get_or l k 0) (awaited_of q.standing)) where
+    can : t ≡ can_serve (board_of sets s.rest) (get_or l k 0)
+    can = waiter-can sets s.rest (names (drop k l)) p i.passed.0 (name-in l k h ne) u t i.store
+        (i.uses_are ∙ ap (λ (y : ProgramSet). uses_in y sets) i.admits_are)
+        (te ∙ ap (λ (x : Seat). eqb x.item 0 && give_in sets u p (awaited_of x.standing)) qe)
 
-module _ (w s : Written) (l asked : List ℕ) (sets : Sets) (u : Uses) (j : ℕ) (a : Found w l asked j s sets u) (m : length l ≡ 32) (h : j < 32) where
-  pass-at : PassAt w l j s
-  pass-at = a.here.passed
+    -- the waiter is not given its file
+    pub passing-over : t ≡ false → Passing w l (k + 1) sets lines s a u
+    passing-over z = let o = waiter-over b l k h ne (sym can ∙ z) i.passed.0 in record {
+      store = i.store;
+      entries = i.entries;
+      admits_are = i.admits_are;
+      uses_are = i.uses_are;
+      passed = (
+        o.0,
+        subst (Fits (written_in sets lines s)) o.1 i.passed.1,
+        i.passed.2 ∙ ap (after (written_in sets lines s)) o.1,
+        i.passed.3,
+      );
+    }
 
-  ne : get_or l j 0 ≢ 0
-  ne = (a.gives h).0
+    module _ (y : t ≡ true) where
+      -- its line fits
+      pub passing-fits : s.count < 32
+      passing-fits = give_fits (written_in sets lines s) b p _ (sym can ∙ y) (pass-range w (written_in sets lines s) l k h ne i.passed).1
 
-  can : can_serve s.board (get_or l j 0) ≡ true
-  can = (a.gives h).1
+      admitted : admits (board_of sets s.rest) (get_or l k 0) ≡ true
+      admitted = waiting_in (at b p).standing (i.passed.0.2 p (name-in l k h ne)).1
 
-  range : ((1 ≤ get_or l j 0) × (get_or l j 0 ≤ 32)) × Fits s (try_give s.board (get_or l j 0) (awaited s.board (get_or l j 0)))
-  range = pass-range w s l j (omega arith) ne pass-at
-
-  -- a waiter is a program, and its line fits
-  pub give-range : (1 ≤ get_or l j 0) × (get_or l j 0 ≤ 32) × (s.count < 32)
-  give-range = (range.0.0, range.0.1, give_fits s s.board _ _ can range.1)
-
-  is : Is (get_or l j 0)
-  is = record { least = range.0.0; most = range.0.1 }
-
-  ready : Ready s.board (get_or l j 0 ∷ names (drop (suc j) l))
-  ready = subst (Ready s.board) (names-on l j (omega arith) ne) pass-at.0
-
-  asks-here : Asks s.board (get_or l j 0 ∷ names (drop (suc j) l)) asked
-  asks-here = subst (λ (ps : List ℕ). Asks s.board ps asked) (names-on l j (omega arith) ne) a.here.asks
-
-  -- the waiter awaits no record, and the file that is asked for it
-  asked_is : get_or asked (get_or l j 0 - 1) 0 ≡ awaited s.board (get_or l j 0)
-  asked_is = asks-here (get_or l j 0) here ∙ rw (and_left (eqb (at s.board (get_or l j 0)).item 0) _ can)
-
-  admitted : admits s.board (get_or l j 0) ≡ true
-  admitted = waiting_in (at s.board (get_or l j 0)).standing (ready.2 (get_or l j 0) here).1
-
-  size : Sized s.board.programs
-  size = ready.0.base.size
-
-  -- the waiter is given its file
-  pub give-next : (v : Uses) → v ≡ uses_in u.admitted (given_at sets (get_or l j 0) (get_or asked (get_or l j 0 - 1) 0))
-      → At w l asked (j + 1) (state_of (given_to s.board (get_or l j 0) (get_or asked (get_or l j 0 - 1) 0))
-      (set s.lines s.count (line Word.Given (get_or l j 0) (get_or asked (get_or l j 0 - 1) 0))) (s.count + 1))
-      (given_at sets (get_or l j 0) (get_or asked (get_or l j 0 - 1) 0)) v
-  give-next v e = record {
-    passed = pass-next w s l j (omega arith) ne pass-at _
-        (ap (λ (g : ℕ). state_of (given_to s.board (get_or l j 0) g) (set s.lines s.count (line Word.Given (get_or l j 0) g)) (s.count + 1))
-        asked_is
-        ∙ ap (λ (y : Board). state_of y (set s.lines s.count (line Word.Given (get_or l j 0) (awaited s.board (get_or l j 0)))) (s.count + 1))
-        (given_is s.board (get_or l j 0) (awaited s.board (get_or l j 0)) size is)
-        ∙ give_some s s.board (get_or l j 0) (awaited s.board (get_or l j 0)) can);
-    sets_are = sets-served s.board (get_or l j 0) (get_or asked (get_or l j 0 - 1) 0) sets size is a.here.sets_are;
-    uses_are = e ∙ ap (λ (y : ProgramSet). uses_in y (given_at sets (get_or l j 0) (get_or asked (get_or l j 0 - 1) 0)))
-        (ap (λ (y : Uses). y.admitted) a.here.uses_are
-        ∙ sym (admitted-given s.board (get_or l j 0) (get_or asked (get_or l j 0 - 1) 0) size is admitted));
-    asks = rw (add-one j) (asks-given s.board (get_or l j 0) (get_or asked (get_or l j 0 - 1) 0) size is (names (drop (suc j) l)) asked ready asks-here);
-  }
+      -- the waiter is given its file
+      pub passing-given : (x : Sets) (m : Entries) (n : Progress) (v : Uses)
+          → written_in x m n ≡ after (written_in sets lines s) (give_to (board_of sets s.rest) (get_or l k 0) (awaited_of q.standing))
+          → IsStore x → IsEntries m → v ≡ uses_in a x → Passing w l (k + 1) x m n a v
+      passing-given x m n v e st en ve = record {
+        store = st;
+        entries = en;
+        admits_are = i.admits_are ∙ sym (ap admitted_set (ap (λ (x : Written). x.board) d ∙ sym (given_is b p (awaited b p) i.passed.0.0.base.size is))
+            ∙ admitted-given b p (awaited b p) i.passed.0.0.base.size is admitted);
+        uses_are = ve;
+        passed = pass-next w (written_in sets lines s) l k h ne i.passed (written_in x m n)
+            (d ∙ give_some (written_in sets lines s) b p (awaited b p) (sym can ∙ y));
+      }
+        where
+          d : written_in x m n ≡ after (written_in sets lines s) (give_to (board_of sets s.rest) (get_or l k 0) (awaited (board_of sets s.rest) (get_or l k 0)))
+          d = e ∙ ap (λ (x : Seat). after (written_in sets lines s) (give_to b p (awaited_of x.standing)))
+              (qe ∙ sym (seat-is sets s.rest (names (drop k l)) p i.passed.0 (name-in l k h ne)))

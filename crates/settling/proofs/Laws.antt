@@ -1,43 +1,43 @@
 -- Laws of settling. Assumes nothing.
 use mathlib.Core.Path.{◌≡◌, refl, sym, ap, ◌∙◌, subst}
 use mathlib.Core.Logic.{◌≢◌}
-use mathlib.Core.Bool.{Bool, true, false, not, cond, ◌&&◌}
+use mathlib.Core.Bool.{Bool, true, false, not, ◌&&◌}
 use mathlib.Core.List.Memᴰ
 use mathlib.Core.List.{List, [], ◌∷◌, ◌++◌}
-use mathlib.Core.Option
-use mathlib.Core.Option.{none, some}
-use Prim.Native.Nat.{ℕ, suc, ◌+◌, ◌-◌, ◌≤◌, ◌<◌}
+use mathlib.Core.Option.{Option, none, some}
+use Rattle.std.specs.Prelude.{Some, None}
+use Rattle.std.proofs.lemmas.Option.{none-some}
+use Prim.Native.Nat.{ℕ, suc, ◌+◌, ◌≤◌, ◌<◌}
 use native.Mathlib.Nat.{add-zero, add_assoc}
 use native.Mathlib.Numerals.{add-one}
 use native.Mathlib.Omega.{arith}
 use lib.ListN.{length, get_or, set, drop, length-append}
-use lib.Seq.{sets, get_or-set_same, get_or-set_other}
+use lib.Seq.{sets}
 use lib.Dec.{eqb}
 use borrow.Author.Tests.{eq-eqb, ne_eqb, eqb-true, eqb-false}
-use Rattle.laws.specs.Tests.{by_option, by_test}
-use Rattle.files.proofs.Bits.{least}
+use Rattle.laws.specs.Tests.{by_test}
 use Rattle.rules.specs.declared.Program.{Program}
 use Rattle.rules.specs.declared.Board.{Board}
-use Rattle.rules.specs.declared.Word.{Word}
 use Rattle.laws.specs.Lists.{all, first, names}
-use Rattle.rules.specs.Boards.{at, awaited, awaited_of, has_open, is_program, is_waiting}
-use Rattle.rules.specs.Orders.{with_given, can_give}
-use Rattle.rules.specs.Settling.{Step, line, still, and_then, unfavour, resume, try_give, pass, candidate, favour, run_held, choose, settle}
+use Rattle.rules.specs.Boards.{at, awaited, awaited_of, has_open, is_program, is_waiting, wants}
+use Rattle.rules.specs.Orders.{can_give}
+use Rattle.rules.specs.Settling.{Step, still, and_then, try_give, pass, candidate, favour, run_held, choose, settle}
 use Rattle.laws.specs.Laws.{◌∈◌, Pairs, here, each_all, first_some}
 use Rattle.theory.specs.Programs.{Is, of_is}
 use Rattle.theory.specs.Loose.{waiting_file, waiting_in, waits_in, Loose, Counts}
 use Rattle.theory.specs.Settling.{can_serve, pass-passed}
-use Rattle.theory.specs.Calls.{claims_file}
 use Rattle.theory.specs.Sound.{loose_apart, loose_order}
 use Rattle.store.specs.declared.Seat.{Seat}
 use Rattle.store.specs.declared.Rest.{Rest}
-use Rattle.store.specs.Sets.{Sets, SetsOf}
-use Rattle.store.specs.Store.{no_seat, seat_of}
+use Rattle.store.specs.Sets.{Sets, IsStore}
+use Rattle.store.specs.Store.{seat_of, seat_at, board_of}
+use Rattle.store.proofs.Boards.{board-at, board-sets}
 use Rattle.search.specs.declared.Uses.{Uses}
 use Rattle.search.specs.Gives.{uses_of, used_in, give_in}
 use Rattle.search.proofs.Used.{used_by_lem, give_by}
-use Rattle.lines.proofs.Laws.{names-on, names_end}
-use Rattle.settling.specs.Writing.{Written, Ready, NextGiven, after, Fits, unused, asked_in, AskedTo, Asks}
+use Rattle.lines.proofs.Laws.{names-on}
+use Rattle.settling.specs.Writing.{Written, Ready, after, Fits, give_to, unused, seat_wants, as_option}
+use Rattle.settling.proofs.Lines.{first_none_left}
 
 -- ---- lines after lines
 
@@ -65,12 +65,7 @@ unfolding try_give
 give_fits w b p f e h = let k : w.count + 1 ≤ 32 = rw e at h in omega arith
 
 pub give_some : (w : Written) (b : Board) (p f : ℕ) → eqb (at b p).item 0 && can_give b p f ≡ true
-    → ◌≡◌ {A = Written} (record {
-      board = unfavour (resume (with_given b p f) p) p;
-      lines = set w.lines w.count
-          (line Word.Given p f);
-      count = w.count + 1;
-    }) (after w (try_give b p f))
+    → after w (give_to b p f) ≡ after w (try_give b p f)
 unfolding try_give
 give_some w b p f e = rw e
 
@@ -139,109 +134,61 @@ module _ (w s : Written) (l : List ℕ) (k : ℕ) (h : k < length l) (ne : get_o
       ))
 
 -- the waiting line of a loose board
-pub ready_all : (b : Board) → Loose b → Ready b (names b.waiting)
-ready_all b k = (k, k.waits.once, k.waits.of)
+pub ready_all : (sets : Sets) (r : Rest) → Loose (board_of sets r) → Ready (board_of sets r) (names r.waiting)
+unfolding board_of
+ready_all sets r k = (k, k.waits.once, k.waits.of)
 
--- the next waiter that is given its file
-pub pass_to : (w s : Written) (l : List ℕ) (k j : ℕ) → PassAt w l k s → NextGiven s.board l k j → PassAt w l j s
-pass_to w s l k j i n = (n.ready, subst (Fits s) n.same i.1, i.2 ∙ ap (after s) n.same, i.3)
+-- a waiter, by the sets and the rest of the board
+module _ (sets : Sets) (r : Rest) (ps : List ℕ) (p : ℕ) (k : Ready (board_of sets r) ps) (m : p ∈ ps) where
+  abbrev b : Board
+  b = board_of sets r
 
--- nobody is left to be asked
-pub next-none : (b : Board) (l : List ℕ) (from k : ℕ) → from ≤ 32 → length l ≡ 32 → Ready b (names (drop k l))
-    → pass (names (drop from l)) b ≡ pass (names (drop k l)) b → names (drop k l) ≡ [] → NextGiven b l from 32
-next-none b l from k o n r e d = let z : names (drop k l) ≡ names (drop 32 l) = d ∙ sym (names_end l 32 (omega arith)) in record {
-  onward = o;
-  within = omega arith;
-  ready = subst (Ready b) z r;
-  same = e ∙ ap (λ (ps : List ℕ). pass ps b) z;
-  gives = λ h. absurd (omega arith);
-}
+  waiter-at : Is p × (waits_in (board_of sets r).programs p ≡ true)
+  waiter-at = k.2 p m
 
--- one file more that is waited for
-pub asked_more : (r : Rest) (i : ℕ) (asked : List ℕ) (f : ℕ) → i < 32 → length asked ≡ 32 → AskedTo r i asked
-    → f ≡ asked_in (get_or r.seats i no_seat) → AskedTo r (i + 1) (set asked i f)
-asked_more r i asked f h n a e j m = by_test (eqb j i)
-    (λ t. let z : j ≡ i = eqb-true j i t in rw z (get_or-set_same asked i f 0 (omega arith) ∙ e))
-    (λ t. let z : j ≢ i = eqb-false j i t in get_or-set_other asked i j f 0 z ∙ a j (omega arith))
-
--- from one place to the other nobody is given a file
-abbrev pub Over : Sets → List ℕ → Uses → List ℕ → ℕ → ℕ → Type 0
-Over sets asked u l from k = (b : Board) → SetsOf b sets → u ≡ uses_of b sets → Ready b (names (drop from l))
-    → Asks b (names (drop from l)) asked
-    → Ready b (names (drop k l)) × Asks b (names (drop k l)) asked × (pass (names (drop from l)) b ≡ pass (names (drop k l)) b)
-
-module _ (b : Board) (l : List ℕ) (k : ℕ) (h : k < length l) (ne : get_or l k 0 ≢ 0) (r : Ready b (names (drop k l))) where
-  ready_at : Ready b (get_or l k 0 ∷ names (drop (suc k) l))
-  ready_at = subst (Ready b) (names-on l k h ne) r
-
-  waiter-at : Is (get_or l k 0) × (waits_in b.programs (get_or l k 0) ≡ true)
-  waiter-at = ready_at.2 (get_or l k 0) here
-
-  pub waiter-range : (1 ≤ get_or l k 0) × (get_or l k 0 ≤ 32)
+  pub waiter-range : (1 ≤ p) × (p ≤ 32)
   waiter-range = (waiter-at.0.least, waiter-at.0.most)
 
-  waiter_in : get_or l k 0 ∈ names (drop k l)
-  waiter_in = subst (λ (ps : List ℕ). get_or l k 0 ∈ ps) (sym (names-on l k h ne)) here
+  pub seat-is : seat_of (at (board_of sets r) p) ≡ seat_at r p
+  seat-is = ap seat_of (board-at sets r p waiter-at.0.least waiter-at.0.most)
 
-  -- who awaits no record awaits a file
-  waiter-file : (at b (get_or l k 0)).item ≡ 0 → awaited b (get_or l k 0) ≢ 0
-  waiter-file z = let (f, d) = waiting_file (at b (get_or l k 0)).standing waiter-at.1 in
-      let m = least 64 f (claims_file (at b (get_or l k 0)) f (ready_at.0.asked (get_or l k 0) waiter-at.0 f (d, z)).claimed) in
-      let e : awaited b (get_or l k 0) ≡ f = ap awaited_of d in omega arith
-
-  -- and has it not open
-  waiter-shut : (at b (get_or l k 0)).item ≡ 0 → has_open (at b (get_or l k 0)) (awaited b (get_or l k 0)) ≡ false
-  waiter-shut z = let (f, d) = waiting_file (at b (get_or l k 0)).standing waiter-at.1 in
-      ap (λ (x : ℕ). has_open (at b (get_or l k 0)) x) (ap awaited_of d) ∙ (ready_at.0.asked (get_or l k 0) waiter-at.0 f (d, z)).shut
+  -- who awaits no record awaits a file that it has not open
+  waiter-shut : (at (board_of sets r) p).item ≡ 0 → has_open (at (board_of sets r) p) (awaited (board_of sets r) p) ≡ false
+  waiter-shut z = let (f, d) = waiting_file (at b p).standing waiter-at.1 in
+      ap (λ (x : ℕ). has_open (at b p) x) (ap awaited_of d) ∙ (k.0.asked p waiter-at.0 f (d, z)).shut
 
   -- what the arrays say of the waiter is what the rules say
-  pub waiter-can : (sets : Sets) (asked : List ℕ) (u : Uses) (t : Bool) → SetsOf b sets → u ≡ uses_of b sets → Asks b (names (drop k l)) asked
-      → t ≡ not (eqb (get_or asked (get_or l k 0 - 1) 0) 0) && give_in sets u (get_or l k 0) (get_or asked (get_or l k 0 - 1) 0) → t ≡ can_serve b (get_or l k 0)
-  waiter-can sets asked u t x z a g = let e = a (get_or l k 0) waiter_in in g
-      ∙ ap (λ (f : ℕ). not (eqb f 0) && give_in sets u (get_or l k 0) f) e
-      ∙ by_test (eqb (at b (get_or l k 0)).item 0)
-      (λ d. let n = waiter-file (eqb-true (at b (get_or l k 0)).item 0 d) in
-      rw (d, ne_eqb (awaited b (get_or l k 0)) 0 n) (give_by sets u (get_or l k 0) (awaited b (get_or l k 0)) _ waiter-range.0 waiter-range.1 refl b x z
-      (loose_apart b ready_at.0) (loose_order b ready_at.0) (waiting_in (at b (get_or l k 0)).standing waiter-at.1)
-      (waiter-shut (eqb-true (at b (get_or l k 0)).item 0 d))))
-      (λ d. rw d)
+  module _ (u : Uses) (t : Bool) (s : IsStore sets) (z : u ≡ uses_of (board_of sets r) sets) where
+    pub waiter-can : t ≡ eqb (seat_at r p).item 0 && give_in sets u p (awaited_of (seat_at r p).standing) → t ≡ can_serve (board_of sets r) p
+    waiter-can g = g
+        ∙ ap (λ (y : Seat). eqb y.item 0 && give_in sets u p (awaited_of y.standing)) (sym seat-is)
+        ∙ by_test (eqb (at b p).item 0)
+        (λ d. ap (λ (y : Bool). eqb (at b p).item 0 && y)
+        (give_by sets u p (awaited b p) _ waiter-range.0 waiter-range.1 refl b (board-sets sets r s) z
+        (loose_apart b k.0) (loose_order b k.0) (waiting_in (at b p).standing waiter-at.1)
+        (waiter-shut (eqb-true (at b p).item 0 d))))
+        (λ d. rw d)
 
-  pub asks-left : (asked : List ℕ) → Asks b (names (drop k l)) asked → Asks b (names (drop (k + 1) l)) asked
-  asks-left asked a = rw (add-one k) (λ p m. a p (subst (λ (ps : List ℕ). p ∈ ps) (sym (names-on l k h ne)) (Memᴰ.tail m)))
+    pub waiter-unused : t ≡ eqb (seat_at r p).item 0 && not (used_in sets u p (awaited_of (seat_at r p).standing))
+        → t ≡ unused (board_of sets r) p
+    waiter-unused g = g
+        ∙ ap (λ (y : Seat). eqb y.item 0 && not (used_in sets u p (awaited_of y.standing))) (sym seat-is)
+        ∙ by_test (eqb (at b p).item 0)
+        (λ d. ap (λ (y : Bool). eqb (at b p).item 0 && not y)
+        (used_by_lem sets u p (awaited b p) _ waiter-range.0 waiter-range.1 refl b (board-sets sets r s) z (loose_apart b k.0)
+        (waiter-shut (eqb-true (at b p).item 0 d))))
+        (λ d. rw d)
 
-  pub waiter-unused : (sets : Sets) (u : Uses) (s : Seat) (t : Bool) → SetsOf b sets → u ≡ uses_of b sets → seat_of (at b (get_or l k 0)) ≡ s
-      → t ≡ eqb s.item 0 && not (used_in sets u (get_or l k 0) (awaited_of s.standing)) → t ≡ unused b (get_or l k 0)
-  waiter-unused sets u s t x z e g = g
-      ∙ ap (λ (y : Seat). eqb y.item 0 && not (used_in sets u (get_or l k 0) (awaited_of y.standing))) (sym e)
-      ∙ by_test (eqb (at b (get_or l k 0)).item 0)
-      (λ d. ap (λ (y : Bool). eqb (at b (get_or l k 0)).item 0 && not y)
-      (used_by_lem sets u (get_or l k 0) (awaited b (get_or l k 0)) _ waiter-range.0 waiter-range.1 refl b x z (loose_apart b ready_at.0)
-      (waiter-shut (eqb-true (at b (get_or l k 0)).item 0 d))))
-      (λ d. rw d)
-
-  pub ready-left : Ready b (names (drop (k + 1) l))
-  unfolding Pairs
-  ready-left = rw (add-one k) (ready_at.0, ready_at.1.1, λ p m. ready_at.2 p (Memᴰ.tail m))
-
-  -- a waiter that is not given its file is passed over
-  pub waiter-over : can_serve b (get_or l k 0) ≡ false
-      → Ready b (names (drop (k + 1) l)) × (pass (names (drop k l)) b ≡ pass (names (drop (k + 1) l)) b)
-  unfolding pass try_give Pairs
-  waiter-over e = rw (add-one k) (
-    (ready_at.0, ready_at.1.1, λ p m. ready_at.2 p (Memᴰ.tail m)),
-    ap (λ (ps : List ℕ). pass ps b) (names-on l k h ne) ∙ rw e,
-  )
+-- a waiter that is not given its file is passed over
+pub waiter-over : (b : Board) (l : List ℕ) (k : ℕ) → k < length l → get_or l k 0 ≢ 0 → can_serve b (get_or l k 0) ≡ false
+    → Ready b (names (drop k l)) → Ready b (names (drop (k + 1) l)) × (pass (names (drop k l)) b ≡ pass (names (drop (k + 1) l)) b)
+unfolding pass try_give Pairs
+waiter-over b l k h ne e r = let a = subst (Ready b) (names-on l k h ne) r in rw (add-one k) (
+  (a.0, a.1.1, λ p m. a.2 p (Memᴰ.tail m)),
+  ap (λ (ps : List ℕ). pass ps b) (names-on l k h ne) ∙ rw e,
+)
 
 -- ---- the waiter to be favoured
-
-pub first_names_on : (t : ℕ → Bool) (l : List ℕ) (k : ℕ) → k < length l → get_or l k 0 ≢ 0
-    → first t (names (drop k l)) ≡ cond (t (get_or l k 0)) (some (get_or l k 0)) (first t (names (drop (suc k) l)))
-unfolding first
-first_names_on t l k h ne = rw (names-on l k h ne)
-
-pub first_none_left : (t : ℕ → Bool) (l : List ℕ) → l ≡ [] → first t l ≡ none
-unfolding first
-first_none_left t l e = rw e
 
 pub all_held : (b : Board) → Loose b → all is_program (names b.entry) ≡ true
 all_held b k = each_all is_program (names b.entry) (λ p m. of_is p (k.helds.of p m).0)
@@ -249,27 +196,18 @@ all_held b k = each_all is_program (names b.entry) (λ p m. of_is p (k.helds.of 
 pub all_waiting : (b : Board) → Loose b → all is_program (names b.waiting) ≡ true
 all_waiting b k = each_all is_program (names b.waiting) (λ p m. of_is p (k.waits.of p m).0)
 
--- n is the first waiter that passes the test, or 0
-module _ (b : Board) (t : ℕ → Bool) (n : ℕ) (k : Loose b) (e : n ≡ Option.get_or (first t (names b.waiting)) 0) where
-  first-is : (p : ℕ) → first t (names b.waiting) ≡ some p → Is p
-  first-is p y = (k.waits.of p (first_some t (names b.waiting) p y).0).0
+-- what a search gives back is what the rules find
+pub found_some : (o : Option ℕ) (p : ℕ) → Some p ≡ as_option o → o ≡ some p
+found_some none p e = absurd (none-some p (sym e))
+found_some (some q) p e = cc
 
-  pub nobody-first : n ≡ 0 → first t (names b.waiting) ≡ none
-  nobody-first z = by_option (first t (names b.waiting)) (λ y. y)
-      (λ p y. let m = (first-is p y).least in let q : n ≡ p = rw y at e in absurd (omega arith))
+pub found-none : (o : Option ℕ) → None ≡ as_option o → o ≡ none
+found-none none e = refl
+found-none (some q) e = absurd (none-some q e)
 
-  pub somebody_first : n ≢ 0 → (first t (names b.waiting) ≡ some n) × ((1 ≤ n) × (n ≤ 32))
-  somebody_first z = by_option (first t (names b.waiting)) (λ y. let q : n ≡ 0 = rw y at e in absurd (z q))
-      (λ p y. let q : n ≡ p = rw y at e in let i = first-is p y in let l = i.least in let m = i.most in
-      (y ∙ ap some (sym q), (omega arith, omega arith)))
-
-pub candidate-none : (b : Board) (n : ℕ) → Loose b → n ≡ Option.get_or (candidate b) 0 → n ≡ 0 → candidate b ≡ none
-unfolding candidate
-candidate-none b n k e z = nobody-first b (unused b) n k e z
-
-pub candidate_some : (b : Board) (n : ℕ) → Loose b → n ≡ Option.get_or (candidate b) 0 → n ≢ 0 → (candidate b ≡ some n) × ((1 ≤ n) × (n ≤ 32))
-unfolding candidate
-candidate_some b n k e z = somebody_first b (unused b) n k e z
+-- and the waiter that is found is a program
+pub waiter_is : (b : Board) (t : ℕ → Bool) (p : ℕ) → Loose b → first t (names b.waiting) ≡ some p → Is p
+waiter_is b t p k e = (k.waits.of p (first_some t (names b.waiting) p e).0).0
 
 -- ---- choosing
 
@@ -356,3 +294,12 @@ settle-still w k e d = ap (λ (l : List ℕ). let s = pass l w.board in and_then
 pub settle-nobody : (w : Written) → Loose w.board → names w.board.waiting ≡ [] → names w.board.entry ≡ []
     → w ≡ after w (settle w.board)
 settle-nobody w k e d = after-still w ∙ ap (after w) (sym (settle-still w k e d))
+
+-- whether a program waits for a record, by its seat
+pub waiter_wants : (sets : Sets) (r : Rest) (p f n : ℕ) (t : Bool) → (1 ≤ p) × (p ≤ 32) → t ≡ seat_wants (seat_at r p) f n → t ≡ wants (at (board_of sets r) p) f n
+waiter_wants sets r p f n t i e = e ∙ sym (ap (λ (q : Program). wants q f n) (board-at sets r p i.0 i.1))
+
+-- the waiter to be favoured is a program
+pub candidate-range : (b : Board) (p : ℕ) → Loose b → candidate b ≡ some p → (1 ≤ p) × (p ≤ 32)
+unfolding candidate
+candidate-range b p k e = let i = waiter_is b (unused b) p k e in (i.least, i.most)

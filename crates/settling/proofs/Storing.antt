@@ -1,5 +1,5 @@
 -- Laws of a step on the sets and the rest of a board, with its line where it stands. Assumes nothing.
-use mathlib.Core.Path.{◌≡◌, refl, sym, ap, ap₂, subst, ◌∙◌}
+use mathlib.Core.Path.{◌≡◌, sym, ap, ap₂, subst, ◌∙◌}
 use mathlib.Core.List.{List}
 use mathlib.Core.Option.{Option, some}
 use Prim.Native.Nat.{ℕ, ◌+◌, ◌≤◌}
@@ -9,21 +9,18 @@ use Rattle.rules.specs.declared.Standing.{Standing}
 use Rattle.rules.specs.declared.Board.{Board}
 use Rattle.rules.specs.declared.Line.{Line}
 use Rattle.rules.specs.declared.Word.{Word}
-use Rattle.rules.specs.Boards.{at, awaited, admitted, tallied, tally, set_program, set_standing, set_entry}
+use Rattle.rules.specs.Boards.{at, awaited, admitted, tallied, tally, set_entry}
 use Rattle.rules.specs.Settling.{favour, admit_held, hand_to, hand_on, still, line, line_of}
 use Rattle.theory.specs.Programs.{Is}
+use Rattle.theory.specs.Loose.{Loose}
 use Rattle.parts.specs.Entries.{Entries, IsEntries, entry_of, lines_in}
 use Rattle.parts.proofs.Lined.{lines-set, entries_set}
 use Rattle.store.specs.declared.Rest.{Rest}
-use Rattle.store.specs.Sets.{Sets, IsStore}
+use Rattle.store.specs.Sets.{Sets, IsStore, given_at}
 use Rattle.store.specs.Store.{with_entry, with_favour, with_passed, seated_at, board_of}
 use Rattle.store.proofs.Changing.{seat_board}
-use Rattle.settling.specs.declared.Progress.{Progress}
-use Rattle.settling.specs.Writing.{Written, written_in, after, admit_one, served_rest, record_waiter}
-use Rattle.settling.proofs.Giving.{handed_is}
-
-abbrev pub progress : Rest → ℕ → Progress
-progress r n = record { rest = r; count = n }
+use Rattle.settling.specs.Writing.{Written, progress, written_in, after, give_to, admit_one, served_rest, record_waiter}
+use Rattle.settling.proofs.Giving.{handed_is, served_is, given_is}
 
 -- a line more
 pub one_line : (lines : Entries) (n : ℕ) (l : Line) (e : List ℕ) → e ≡ entry_of l → lines_in (set lines n e) ≡ set (lines_in lines) n l
@@ -44,6 +41,14 @@ module _ (sets : Sets) (lines : Entries) (r : Rest) (n p : ℕ) (e : List ℕ) w
   favour-done f m k d w x a = same-written _ _ _ _ (n + 1)
       (ap (λ (x : ℕ). board_of sets (with_favour r p x 0)) a)
       (one_line lines n (line_of Word.Favour p f m) e d ∙ ap₂ (λ (y z : ℕ). set (lines_in lines) n (line_of Word.Favour p y z)) w x)
+
+  -- the waiter p is given f
+  pub give-done : (x : Sets) (y : Rest) (f : ℕ) → Loose (board_of sets r) → IsStore sets → length r.seats ≡ 32 → (1 ≤ p) × (p ≤ 32) → e ≡ entry_of (line Word.Given p f)
+      → x ≡ given_at sets p f → y ≡ served_rest r p
+      → written_in x (set lines n e) (progress y (n + 1)) ≡ after (written_in sets lines (progress r n)) (give_to (board_of sets r) p f)
+  give-done x y f o s z i d g a = let q : Is p = record { least = i.0; most = i.1 } in same-written _ _ _ _ (n + 1)
+      (ap₂ board_of g a ∙ served_is sets r p f s z q ∙ given_is (board_of sets r) p f o.base.size q)
+      (one_line lines n (line Word.Given p f) e d)
 
   -- the waiter p gets the record m of f
   pub handed-done : (y : Rest) (f m : ℕ) → IsStore sets → length r.seats ≡ 32 → Is p → e ≡ entry_of (line_of Word.Given p f m)

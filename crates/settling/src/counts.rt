@@ -1,11 +1,10 @@
 // The counts: for each waiting program, how many were admitted since it began to wait.
 ghost use Rattle.std.specs.Prelude.{◌≡◌, true, cond, ◌+◌, ◌<◌};
-ghost use Rattle.std.proofs.Math.Option.{get_or};
 ghost use Rattle.laws.specs.Lists.{all, names};
 ghost use Rattle.rules.specs.Boards.{is_program, is_waiting, tallied};
 ghost use Rattle.rules.specs.Settling.{overdue};
 ghost use Rattle.store.specs.Store.{board_of};
-ghost use Rattle.settling.specs.Writing.{CountsFew};
+ghost use Rattle.settling.specs.Writing.{CountsFew, as_option};
 
 use rules::Standing;
 use store::Rest;
@@ -17,9 +16,10 @@ fn one_more(s: Standing, n: u8) -> u8
     ensures { result ≡ cond (is_waiting s) (n + 1) 0 }
 {
     if parts::standings::is_waiting(s) {
-        return n + 1;
+        n + 1
+    } else {
+        0
     }
-    0
 }
 
 // The counts when one more is admitted: that of each waiting program goes up by 1, and is 0 for all others.
@@ -28,33 +28,19 @@ pub fn tally(sets: &Sets, rest: Rest) -> [u8; 32]
     ensures { result ≡ tallied (board_of sets.now rest) }
 {
     let mut counts = [0u8; 32];
-    let mut i: usize = 0;
-    while i < 32 {
-        let seat = rest.seats[i];
-        let s = seat.standing;
-        counts[i] = one_more(s, rest.passed[i]);
-        i += 1;
+    for i in 0..32 {
+        counts[i] = one_more(rest.seats[i].standing, rest.passed[i]);
     }
     counts
 }
 
-// The oldest waiter whose count is 8, or 0.
-pub fn oldest_overdue(sets: &Sets, rest: Rest) -> u8
+// The oldest waiter whose count is 8.
+pub fn oldest_overdue(sets: &Sets, rest: Rest) -> Option<u8>
     requires { all is_program (names rest.waiting) ≡ true }
-    ensures { result ≡ get_or (overdue (board_of sets.now rest)) 0 }
+    ensures { result ≡ as_option (overdue (board_of sets.now rest)) }
 {
-    let line = rest.waiting;
-    let mut k: usize = 0;
-    while k < 32 {
-        let p = line[k];
-        if p == 0 {
-            return 0;
-        }
-        let i = tables::boards::place_of(p);
-        if rest.passed[i] == 8 {
-            return p;
-        }
-        k += 1;
-    }
-    0
+    crate::oldest(
+        rest.waiting,
+        |p| rest.passed[tables::boards::place_of(p)] == 8,
+    )
 }

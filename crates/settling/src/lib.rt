@@ -1,9 +1,9 @@
 #![tactic(auto)]
 
 // Settling, on the sets of the programs, which are lent, and the rest of the board; each line is written where it stands.
-ghost use Rattle.std.specs.Prelude.{◌≡◌, true, not, cond, ◌&&◌, eqb, ◌+◌, ◌≤◌, ◌<◌, length, get_or, drop};
-ghost use Rattle.std.proofs.Math.Option;
-ghost use Rattle.laws.specs.Lists.{all, names};
+ghost use Rattle.std.specs.Prelude.{◌≡◌, ℕ, Bool, true, not, ◌&&◌, eqb, ◌+◌, ◌≤◌, ◌<◌, set};
+ghost use Rattle.laws.specs.Lists.{all, first, names};
+ghost use Rattle.laws.specs.Laws.{◌∈◌};
 ghost use Rattle.rules.specs.Boards.{awaited_of, is_program};
 ghost use Rattle.rules.specs.Settling.{line_of, pass, hand_on, candidate, favour, run_held, choose, settle};
 ghost use Rattle.theory.specs.Loose.{Loose, Counts};
@@ -11,7 +11,7 @@ ghost use Rattle.parts.specs.Entries.{IsEntries, entry_of};
 ghost use Rattle.store.specs.Sets.{IsStore};
 ghost use Rattle.store.specs.Store.{board_of};
 ghost use Rattle.search.specs.Gives.{used_in, give_in};
-ghost use Rattle.settling.specs.Writing.{written_in, after, Fits, admit_one, CountsFew, served_rest, asked_file, seat_wants, record_waiter, AskedOf, NextFor};
+ghost use Rattle.settling.specs.Writing.{progress, written_in, after, Fits, give_to, admit_one, CountsFew, served_rest, seat_wants, record_waiter, Tests, as_option};
 
 use parts::entries;
 use parts::entries::{Entries, Entry};
@@ -35,21 +35,11 @@ pub fn line_of(word: Word, p: u8, f: u16, n: u16) -> Entry
 {
     entries::entry_of(Line {
         word,
-        program: p as u16,
+        program: u16::from(p),
         file: f,
         refusal: 0,
         item: n,
     })
-}
-
-// A favoured program that is given its file, or gets its record, is favoured no longer: the number, or 0 if p was favoured.
-fn unless_favoured(favoured: u8, p: u8, n: u8) -> u8
-    ensures { result ≡ cond (eqb favoured p) 0 n }
-{
-    if favoured == p {
-        return 0;
-    }
-    n
 }
 
 // The waiter p is given its file, or gets its record: it runs, out of the waiting line, with a count of 0, and is favoured no longer.
@@ -57,72 +47,55 @@ fn served(rest: Rest, p: u8) -> Rest
     requires { (1 ≤ p) × (p ≤ 32) }
     ensures { result ≡ served_rest rest p }
 {
-    let i = (p - 1) as usize;
-    let line = rest.waiting;
-    let waiting = lines::remove(line, p);
-    let favoured = rest.favoured;
     let mut r = store::seated(rest, p, Standing::Running);
-    r.waiting = waiting;
-    r.favoured = unless_favoured(favoured, p, favoured);
-    r.initial = unless_favoured(favoured, p, rest.initial);
-    r.leaves = unless_favoured(favoured, p, rest.leaves);
-    r.passed[i] = 0;
+    r.waiting = lines::remove(rest.waiting, p);
+    r.passed[(p - 1) as usize] = 0;
+    if r.favoured == p {
+        r.favoured = 0;
+        r.initial = 0;
+        r.leaves = 0;
+    }
     r
 }
 
-// The file that the program in a seat waits for; 0 if it waits for none, or for a record.
-fn asked_by(seat: Seat) -> u16
-    ensures { result ≡ asked_file seat.standing seat.item }
+// One line more is written, after `count` lines, on the way to this rest.
+fn write_line(lines: &mut Entries, count: u8, line: Entry, rest: Rest) -> Progress
+    requires { (count < 32) × IsEntries lines.old }
+    ensures value { result ≡ progress rest (count + 1) }
+    ensures lines_after { lines.new ≡ set lines.old count line }
+    ensures entries { IsEntries lines.new }
 {
-    if seat.item != 0 {
-        return 0;
-    }
-    let s = seat.standing;
-    parts::standings::awaited(s)
-}
-
-// The files that the programs wait for, each in its program's place; "Settling's pass skips those who wait for a record."
-fn fill_asked(rest: Rest, asked: &mut [u16; 32])
-    requires { length asked.old ≡ 32 }
-    ensures { AskedOf rest asked.new }
-{
-    let mut i: usize = 0;
-    while i < 32 {
-        let seat = rest.seats[i];
-        asked[i] = asked_by(seat);
-        i += 1;
+    lines[count as usize] = line;
+    Progress {
+        rest,
+        count: count + 1,
     }
 }
 
-// Whether an open would now give p the file that it asks for; not if it asks for none.
-fn can_serve(sets: &Sets, uses: Uses, p: u8, f: u16) -> bool
+// Whether an open would now give p, which waits in this seat, its file; not if it waits for a record: "Settling's pass skips those who
+// wait for a record."
+fn can_serve(sets: &Sets, uses: Uses, p: u8, seat: Seat) -> bool
     requires { ((1 ≤ p) × (p ≤ 32)) × IsStore sets.now }
-    ensures { result ≡ not (eqb f 0) && give_in sets.now uses p f }
+    ensures { result ≡ eqb seat.item 0 && give_in sets.now uses p (awaited_of seat.standing) }
 {
-    if f == 0 {
-        return false;
-    }
-    search::gives::can_give(sets, uses, p, f)
+    let f = parts::standings::awaited(seat.standing);
+    seat.item == 0 && search::gives::can_give(sets, uses, p, f)
 }
 
-// The place of the next waiter, from a place of the line on, to which an open would now give its file; 32 if there is none.
-fn next_given(sets: &Sets, asked: &[u16; 32], uses: Uses, line: [u8; 32], from: usize) -> usize
-    requires { (from ≤ 32) × (all is_program (names (drop from line)) ≡ true) × IsStore sets.now }
-    ensures { (from ≤ result) × (result ≤ 32) × NextFor sets.now asked.now uses line from result }
+// The waiter p is given the file f: a GIVEN line.
+fn give(sets: &mut Sets, lines: &mut Entries, w: Progress, p: u8, f: u16) -> Progress
+    requires { ((1 ≤ p) × (p ≤ 32)) × Loose (board_of sets.old w.rest) × (w.count < 32) × IsStore sets.old × IsEntries lines.old }
+    ensures result_after { written_in sets.new lines.new result
+        ≡ after (written_in sets.old lines.old w) (give_to (board_of sets.old w.rest) p f) }
+    ensures store { IsStore sets.new × IsEntries lines.new }
 {
-    let mut k = from;
-    while k < 32 {
-        let p = line[k];
-        if p == 0 {
-            return 32;
-        }
-        let i = tables::boards::place_of(p);
-        if can_serve(sets, uses, p, asked[i]) {
-            return k;
-        }
-        k += 1;
-    }
-    32
+    store::sets::give(sets, p, f);
+    write_line(
+        lines,
+        w.count,
+        line_of(Word::Given, p, f, 0),
+        served(w.rest, p),
+    )
 }
 
 // Once through the waiting line, from the oldest: a GIVEN line for each waiter that is given its file.
@@ -134,26 +107,20 @@ fn pass_line(sets: &mut Sets, lines: &mut Entries, w: Progress) -> Progress
         ≡ after (written_in sets.old lines.old w) (pass (names w.rest.waiting) (board_of sets.old w.rest)) }
     ensures store { IsStore sets.new × IsEntries lines.new }
 {
-    let mut c = w.rest;
-    let line = c.waiting;
-    let mut asked = [0u16; 32];
-    fill_asked(c, &mut asked);
-    let admitted = tables::boards::admitted_seats(c);
+    let admitted = tables::boards::admitted_seats(w.rest);
     let mut uses = search::gives::uses_in(admitted, sets);
-    let mut n = w.count;
-    let mut j = next_given(sets, &asked, uses, line, 0);
-    while j < 32 {
-        let p = line[j];
-        let i = (p - 1) as usize;
-        let f = asked[i];
-        c = served(c, p);
-        lines[n as usize] = line_of(Word::Given, p, f, 0);
-        n += 1;
-        store::sets::give(sets, p, f);
-        uses = search::gives::uses_in(admitted, sets);
-        j = next_given(sets, &asked, uses, line, j + 1);
+    let mut s = w;
+    for p in w.rest.waiting {
+        if p == 0 {
+            return s;
+        }
+        let seat = s.rest.seats[tables::boards::place_of(p)];
+        if can_serve(sets, uses, p, seat) {
+            s = give(sets, lines, s, p, parts::standings::awaited(seat.standing));
+            uses = search::gives::uses_in(admitted, sets);
+        }
     }
-    Progress { rest: c, count: n }
+    s
 }
 
 // Whether the program p, which waits in this seat, waits for a file, in no conflicting use, and not for a record.
@@ -161,40 +128,41 @@ fn is_unused(sets: &Sets, uses: Uses, p: u8, seat: Seat) -> bool
     requires { ((1 ≤ p) × (p ≤ 32)) × IsStore sets.now }
     ensures { result ≡ eqb seat.item 0 && not (used_in sets.now uses p (awaited_of seat.standing)) }
 {
-    let item = seat.item;
-    if item != 0 {
-        return false;
-    }
-    let s = seat.standing;
-    let f = parts::standings::awaited(s);
-    !search::gives::in_use(sets, uses, p, f)
+    let f = parts::standings::awaited(seat.standing);
+    seat.item == 0 && !search::gives::in_use(sets, uses, p, f)
 }
 
-// The oldest waiter whose file is in no conflicting use, or 0: waits for a record "are never favoured for want of an order".
-fn oldest_unused(sets: &Sets, rest: Rest) -> u8
+// The oldest of a line that passes a test: on each of the line that the test is asked about, it says what `t` says.
+fn oldest<F: Fn(u8) -> bool>(line: [u8; 32], test: F) -> Option<u8>
+    requires { (p : ℕ) → p ∈ names line → F.pre test p }
+    ensures { (t : ℕ → Bool) → Tests (F.post test) t (names line) → result ≡ as_option (first t (names line)) }
+{
+    for p in line {
+        if p == 0 {
+            return None;
+        }
+        if test(p) {
+            return Some(p);
+        }
+    }
+    None
+}
+
+// The oldest waiter whose file is in no conflicting use: waits for a record "are never favoured for want of an order".
+fn oldest_unused(sets: &Sets, rest: Rest) -> Option<u8>
     requires { Loose (board_of sets.now rest) × IsStore sets.now }
-    ensures { result ≡ Option.get_or (candidate (board_of sets.now rest)) 0 }
+    ensures { result ≡ as_option (candidate (board_of sets.now rest)) }
 {
     let line = rest.waiting;
     if line[0] == 0 {
-        return 0;
+        return None;
     }
     let admitted = tables::boards::admitted_seats(rest);
     let uses = search::gives::uses_in(admitted, sets);
-    let mut k: usize = 0;
-    while k < 32 {
-        let p = line[k];
-        if p == 0 {
-            return 0;
-        }
-        let i = tables::boards::place_of(p);
-        let seat = rest.seats[i];
-        if is_unused(sets, uses, p, seat) {
-            return p;
-        }
-        k += 1;
-    }
-    0
+    oldest(
+        line,
+        |p| is_unused(sets, uses, p, rest.seats[tables::boards::place_of(p)]),
+    )
 }
 
 // The waiter p becomes favoured, with the number admitted and a leave count of 0: a FAVOUR line, with the record if it awaits one.
@@ -204,60 +172,36 @@ pub fn favour_waiter(sets: &Sets, lines: &mut Entries, w: Progress, p: u8) -> Pr
         ≡ after (written_in sets.now lines.old w) (favour (board_of sets.now w.rest) p) }
     ensures entries { IsEntries lines.new }
 {
-    let mut c = w.rest;
-    let seat = store::seat_at(c, p);
-    let s = seat.standing;
+    let seat = store::seat_at(w.rest, p);
+    let f = parts::standings::awaited(seat.standing);
     let n = seat.item;
-    let f = parts::standings::awaited(s);
-    let admitted = tables::boards::admitted_seats(c);
-    c.favoured = p;
-    c.initial = admitted.count();
-    c.leaves = 0;
-    let k = w.count;
-    lines[k as usize] = line_of(Word::Favour, p, f, n);
-    Progress {
-        rest: c,
-        count: k + 1,
-    }
+    let admitted = tables::boards::admitted_seats(w.rest);
+    let mut rest = w.rest;
+    rest.favoured = p;
+    rest.initial = admitted.count();
+    rest.leaves = 0;
+    write_line(lines, w.count, line_of(Word::Favour, p, f, n), rest)
 }
 
 // Whether the program in a seat waits for the record n of f.
 fn waits_for(seat: Seat, f: u16, n: u16) -> bool
     ensures { result ≡ seat_wants seat f n }
 {
-    let s = seat.standing;
-    if !parts::standings::is_waiting(s) {
-        return false;
-    }
-    if seat.item == 0 {
-        return false;
-    }
-    if seat.file != f {
-        return false;
-    }
-    seat.item == n
+    parts::standings::is_waiting(seat.standing)
+        && seat.item != 0
+        && seat.file == f
+        && seat.item == n
 }
 
-// The oldest waiter for the record n of f, or 0.
-fn oldest_for(sets: &Sets, rest: Rest, f: u16, n: u16) -> u8
+// The oldest waiter for the record n of f.
+fn oldest_for(sets: &Sets, rest: Rest, f: u16, n: u16) -> Option<u8>
     requires { all is_program (names rest.waiting) ≡ true }
-    ensures { result ≡ Option.get_or (record_waiter (board_of sets.now rest) f n) 0 }
+    ensures { result ≡ as_option (record_waiter (board_of sets.now rest) f n) }
 {
-    let line = rest.waiting;
-    let mut k: usize = 0;
-    while k < 32 {
-        let w = line[k];
-        if w == 0 {
-            return 0;
-        }
-        let i = tables::boards::place_of(w);
-        let seat = rest.seats[i];
-        if waits_for(seat, f, n) {
-            return w;
-        }
-        k += 1;
-    }
-    0
+    oldest(
+        rest.waiting,
+        |p| waits_for(rest.seats[tables::boards::place_of(p)], f, n),
+    )
 }
 
 // "the oldest waiter for the record gets it (GIVEN)": the record n of f, which nobody has in use any more, is handed on.
@@ -267,18 +211,15 @@ pub fn hand_on(sets: &Sets, lines: &mut Entries, w: Progress, f: u16, n: u16) ->
         ≡ after (written_in sets.now lines.old w) (hand_on (board_of sets.now w.rest) f n) }
     ensures entries { IsEntries lines.new }
 {
-    let b = w.rest;
-    let p = oldest_for(sets, b, f, n);
-    if p == 0 {
+    let Some(p) = oldest_for(sets, w.rest, f, n) else {
         return w;
-    }
-    let c = served(b, p);
-    let k = w.count;
-    lines[k as usize] = line_of(Word::Given, p, f, n);
-    Progress {
-        rest: c,
-        count: k + 1,
-    }
+    };
+    write_line(
+        lines,
+        w.count,
+        line_of(Word::Given, p, f, n),
+        served(w.rest, p),
+    )
 }
 
 // The held program p runs, out of the entry line, and the waiters' counts go up: an ADMIT line.
@@ -288,27 +229,10 @@ fn admit_one(sets: &Sets, lines: &mut Entries, w: Progress, p: u8) -> Progress
         ≡ after (written_in sets.now lines.old w) (admit_one (board_of sets.now w.rest) p) }
     ensures entries { IsEntries lines.new }
 {
-    let b = w.rest;
-    let line = b.entry;
-    let held = lines::remove(line, p);
-    let mut c = store::seated(b, p, Standing::Running);
-    c.entry = held;
-    let passed = counts::tally(sets, c);
-    c.passed = passed;
-    let n = w.count;
-    lines[n as usize] = line_of(Word::Admit, p, 0, 0);
-    Progress {
-        rest: c,
-        count: n + 1,
-    }
-}
-
-// The oldest of the entry line, or 0.
-fn first_held(rest: Rest) -> u8
-    ensures { result ≡ get_or rest.entry 0 0 }
-{
-    let line = rest.entry;
-    line[0]
+    let mut rest = store::seated(w.rest, p, Standing::Running);
+    rest.entry = lines::remove(w.rest.entry, p);
+    rest.passed = counts::tally(sets, rest);
+    write_line(lines, w.count, line_of(Word::Admit, p, 0, 0), rest)
 }
 
 // The held programs run, one after another from the oldest, until a waiter's count is 8: that one is then favoured.
@@ -321,14 +245,14 @@ fn admit_held(sets: &Sets, lines: &mut Entries, w: Progress) -> Progress
     ensures entries { IsEntries lines.new }
 {
     let mut s = w;
-    let mut p = first_held(s.rest);
-    while p != 0 {
-        let overdue = counts::oldest_overdue(sets, s.rest);
-        if overdue != 0 {
+    for p in w.rest.entry {
+        if p == 0 {
+            return s;
+        }
+        if let Some(overdue) = counts::oldest_overdue(sets, s.rest) {
             return favour_waiter(sets, lines, s, overdue);
         }
         s = admit_one(sets, lines, s, p);
-        p = first_held(s.rest);
     }
     s
 }
@@ -341,16 +265,13 @@ fn choose_next(sets: &Sets, lines: &mut Entries, w: Progress) -> Progress
         ≡ after (written_in sets.now lines.old w) (choose (board_of sets.now w.rest)) }
     ensures entries { IsEntries lines.new }
 {
-    let b = w.rest;
-    let favoured = b.favoured;
-    if favoured != 0 {
+    if w.rest.favoured != 0 {
         return w;
     }
-    let p = oldest_unused(sets, b);
-    if p == 0 {
-        return admit_held(sets, lines, w);
+    match oldest_unused(sets, w.rest) {
+        Some(p) => favour_waiter(sets, lines, w, p),
+        None => admit_held(sets, lines, w),
     }
-    favour_waiter(sets, lines, w, p)
 }
 
 // Settle, where somebody waits or is held.
@@ -373,14 +294,8 @@ pub fn settled(sets: &mut Sets, lines: &mut Entries, w: Progress) -> Progress
         ≡ after (written_in sets.old lines.old w) (settle (board_of sets.old w.rest)) }
     ensures store { IsStore sets.new × IsEntries lines.new }
 {
-    let b = w.rest;
-    let waiting = b.waiting;
-    if waiting[0] != 0 {
-        return settle_lines(sets, lines, w);
+    if w.rest.waiting[0] == 0 && w.rest.entry[0] == 0 {
+        return w;
     }
-    let entry = b.entry;
-    if entry[0] != 0 {
-        return settle_lines(sets, lines, w);
-    }
-    w
+    settle_lines(sets, lines, w)
 }
