@@ -12,8 +12,15 @@ use Rattle.rules.specs.Settling.{Step, line, and_then, favour, overdue, admit_he
 use Rattle.laws.specs.Laws.{◌∈◌, NoRepeat, here, without_first}
 use Rattle.theory.specs.Loose.{Loose, Counts}
 use Rattle.theory.specs.Settling.{Admitted, admit-held, run-one, run_stop}
-use Rattle.settling.specs.Writing.{Written, after, Fits, admit_one}
-use Rattle.settling.proofs.Laws.{after_then, after-still}
+use Rattle.settling.specs.Writing.{Written, after, Fits, admit_one, as_option}
+use Rattle.std.specs.Prelude.{Some}
+use Rattle.settling.proofs.Laws.{after_then, after-still, found_some, waiter_is}
+use Rattle.settling.proofs.Counting.{due}
+
+-- the oldest waiter whose count is 8, if there is one, is a program
+pub overdue_some : (b : Board) (p : ℕ) → Loose b → Some p ≡ as_option (overdue b) → (overdue b ≡ some p) × ((1 ≤ p) × (p ≤ 32))
+unfolding overdue
+overdue_some b p k e = let o = found_some (overdue b) p e in let i = waiter_is b (due b) p k o in (o, (i.least, i.most))
 
 -- those held are still to run, from s on
 pub record Admitting (w s : Written) : Type 0 where

@@ -15,11 +15,7 @@ use Rattle.rules.specs.Boards.{is_waiting, passed_by, tallied}
 use Rattle.theory.specs.Counts.{tallied-at}
 use Rattle.theory.specs.Sizes.{tallied_32}
 use Rattle.store.specs.Sets.{in_place}
-use mathlib.Core.Option.{some}
-use Rattle.rules.specs.Settling.{overdue}
-use Rattle.theory.specs.Loose.{Loose}
 use Rattle.settling.specs.Writing.{CountsFew}
-use Rattle.settling.proofs.Laws.{waiter_is}
 
 -- the count of p is 8
 abbrev pub due : Board → ℕ → Bool
@@ -48,8 +44,3 @@ pub tally_all : (b : Board) (counts : List ℕ) → length counts ≡ 32 → Tal
 tally_all b counts m t = ext_get_or 0 counts (tallied b) (m ∙ sym (tallied_32 b)) (λ i h.
     t i (omega arith) ∙ sym (let e : suc i - 1 ≡ i = omega arith in
     rw e at (tallied-at b (suc i) (record { least = omega arith; most = omega arith }))))
-
--- the waiter whose count is 8 is a program
-pub overdue-range : (b : Board) (p : ℕ) → Loose b → overdue b ≡ some p → (1 ≤ p) × (p ≤ 32)
-unfolding overdue
-overdue-range b p k e = let i = waiter_is b (due b) p k e in (i.least, i.most)

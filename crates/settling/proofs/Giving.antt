@@ -13,22 +13,20 @@ use Rattle.laws.specs.Tests.{by_test}
 use Rattle.rules.specs.declared.Standing.{Standing}
 use Rattle.rules.specs.declared.Program.{Program}
 use Rattle.rules.specs.declared.Board.{Board}
-use Rattle.rules.specs.declared.Line.{Line}
 use Rattle.laws.specs.Lists.{names, without}
 use Rattle.rules.specs.Boards.{no_program, at, awaited, awaited_of, is_admitted, set_program, set_waiting, set_favour, set_standing, uncount, opening}
 use Rattle.rules.specs.Orders.{with_given}
 use Rattle.rules.specs.Settling.{unfavour, resume, pass}
-use Rattle.theory.specs.Programs.{Is, Sized, standing_same}
+use Rattle.theory.specs.Programs.{Is, Sized}
 use Rattle.theory.specs.Loose.{waiting_in}
 use Rattle.theory.specs.Settling.{can_serve}
 use Rattle.tables.specs.declared.ProgramSet.{ProgramSet}
 use Rattle.store.specs.declared.Rest.{Rest}
 use Rattle.store.specs.declared.Seat.{Seat}
-use Rattle.store.specs.Sets.{Sets, IsStore, SetsOf, given_at}
+use Rattle.store.specs.Sets.{Sets, IsStore, given_at}
 use Rattle.store.specs.Store.{board_of, seat_at}
 use Rattle.parts.specs.Entries.{Entries, IsEntries}
 use Rattle.store.proofs.Changing.{seat_board, served-board}
-use Rattle.store.proofs.Given.{sets-given}
 use Rattle.tables.proofs.Given.{packed-same}
 use Rattle.search.specs.declared.Uses.{Uses}
 use Rattle.tables.specs.Boards.{admits, admitted_set}
@@ -44,9 +42,6 @@ abbrev pub given_to : Board → ℕ → ℕ → Board
 given_to c p f = let n : ℕ → ℕ = (λ k. cond (eqb c.favoured p) 0 k) in
     uncount (set_favour (set_waiting (set_program c p (serve (at c p) f)) (without p (names c.waiting)))
     (n c.favoured) (n c.initial) (n c.leaves)) p
-
-abbrev pub state_of : Board → List Line → ℕ → Written
-state_of c ls n = record { board = c; lines = ls; count = n }
 
 set-set : {A : Type 0} (l : List A) (i : ℕ) (a b : A) → set (set l i a) i b ≡ set l i b
 set-set [] i a b = refl
@@ -127,11 +122,6 @@ handed_is sets r p s n i = ap (λ (x : List Program). let c = board_of sets r in
     }) (without p (names c.waiting))) (m c.favoured) (m c.initial) (m c.leaves)) p)
     (ap (λ (b : Board). b.programs) (seat_board sets r p i.least i.most s Standing.Running n))
     ∙ resumed_is (board_of sets r) p
-
--- ---- the sets, with a file given
-
-sets-served : (c : Board) (p f : ℕ) (sets : Sets) → Sized c.programs → Is p → SetsOf c sets → SetsOf (given_to c p f) (given_at sets p f)
-sets-served c p f sets z i s = sets-given c (given_to c p f) (serve (at c p) f) p f sets z i refl (standing_same (opening (at c p) f) Standing.Running) s
 
 -- ---- the pass, with the sets
 

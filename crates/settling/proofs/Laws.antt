@@ -190,9 +190,6 @@ waiter-over b l k h ne e r = let a = subst (Ready b) (names-on l k h ne) r in rw
 
 -- ---- the waiter to be favoured
 
-pub all_held : (b : Board) → Loose b → all is_program (names b.entry) ≡ true
-all_held b k = each_all is_program (names b.entry) (λ p m. of_is p (k.helds.of p m).0)
-
 pub all_waiting : (b : Board) → Loose b → all is_program (names b.waiting) ≡ true
 all_waiting b k = each_all is_program (names b.waiting) (λ p m. of_is p (k.waits.of p m).0)
 

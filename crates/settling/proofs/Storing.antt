@@ -1,5 +1,5 @@
 -- Laws of a step on the sets and the rest of a board, with its line where it stands. Assumes nothing.
-use mathlib.Core.Path.{◌≡◌, sym, ap, ap₂, subst, ◌∙◌}
+use mathlib.Core.Path.{◌≡◌, sym, ap, ap₂, ◌∙◌}
 use mathlib.Core.List.{List}
 use mathlib.Core.Option.{Option, some}
 use Prim.Native.Nat.{ℕ, ◌+◌, ◌≤◌}
@@ -13,8 +13,8 @@ use Rattle.rules.specs.Boards.{at, awaited, admitted, tallied, tally, set_entry}
 use Rattle.rules.specs.Settling.{favour, admit_held, hand_to, hand_on, still, line, line_of}
 use Rattle.theory.specs.Programs.{Is}
 use Rattle.theory.specs.Loose.{Loose}
-use Rattle.parts.specs.Entries.{Entries, IsEntries, entry_of, lines_in}
-use Rattle.parts.proofs.Lined.{lines-set, entries_set}
+use Rattle.parts.specs.Entries.{Entries, entry_of, lines_in}
+use Rattle.parts.proofs.Lined.{lines-set}
 use Rattle.store.specs.declared.Rest.{Rest}
 use Rattle.store.specs.Sets.{Sets, IsStore, given_at}
 use Rattle.store.specs.Store.{with_entry, with_favour, with_passed, seated_at, board_of}
@@ -25,9 +25,6 @@ use Rattle.settling.proofs.Giving.{handed_is, served_is, given_is}
 -- a line more
 pub one_line : (lines : Entries) (n : ℕ) (l : Line) (e : List ℕ) → e ≡ entry_of l → lines_in (set lines n e) ≡ set (lines_in lines) n l
 one_line lines n l e d = ap (λ (x : List ℕ). lines_in (set lines n x)) d ∙ lines-set lines n l
-
-pub one_entry : (lines : Entries) (n : ℕ) (l : Line) (e : List ℕ) → e ≡ entry_of l → IsEntries lines → IsEntries (set lines n e)
-one_entry lines n l e d s = subst IsEntries (ap (set lines n) (sym d)) (entries_set lines n l s)
 
 pub same-written : (b c : Board) (k l : List Line) (n : ℕ) → b ≡ c → k ≡ l
     → ◌≡◌ {A = Written} (record { board = b; lines = k; count = n }) (record { board = c; lines = l; count = n })

@@ -2,8 +2,7 @@ use Rattle.std.proofs.Common.{◌≡◌, sym, ◌∙◌, refl, length, add-one, 
 use Rattle.lines.proofs.Laws.{names-on, names_stop, names_end}
 use Rattle.store.specs.Store.{board_of}
 use Rattle.settling.proofs.Laws.{all_waiting, found_some, found-none}
-use Rattle.settling.proofs.Counting.{overdue-range}
-use Rattle.settling.proofs.Admitting.{admitted_all, first_range, overdue-fits, overdue-is, one-fits, one_more}
+use Rattle.settling.proofs.Admitting.{overdue_some, admitted_all, first_range, overdue-fits, overdue-is, one-fits, one_more}
 use Rattle.settling.proofs.admit_held.Goals as goal
 
 pub loop-p-init : goal.loop-p-init
@@ -16,11 +15,8 @@ oldest_overdue-requires c = all_waiting (board_of c.args.sets.now c.loop-p.s.res
 
 pub favour_waiter-requires : goal.favour_waiter-requires
 favour_waiter-requires c = let m : length c.args.w.rest.entry ≡ 32 = search rules in let i = c.loop-p.invariant in
-    let o = found_some _ c.in-Some.overdue (sym c.in-Some.is ∙ c.oldest_overdue.ensures) in (
-      overdue-range (board_of c.args.sets.now c.loop-p.s.rest) c.in-Some.overdue i.0.loose o,
-      overdue-fits i.0 _ _ (i.2 ∙ names-on c.args.w.rest.entry c.loop-p.p-index (omega arith) c.if-p-eq0.false) c.in-Some.overdue o,
-      i.1,
-    )
+    let o = overdue_some (board_of c.args.sets.now c.loop-p.s.rest) c.in-Some.overdue i.0.loose (sym c.in-Some.is ∙ c.oldest_overdue.ensures) in
+    (o.1, overdue-fits i.0 _ _ (i.2 ∙ names-on c.args.w.rest.entry c.loop-p.p-index (omega arith) c.if-p-eq0.false) c.in-Some.overdue o.0, i.1)
 
 pub returns-in-Some-clause-result_after : goal.returns-in-Some-clause-result_after
 unfolding board_of
