@@ -1,4 +1,5 @@
 // The counts: for each waiting program, how many were admitted since it began to wait.
+// The sets are lent for the contracts alone: a ghost value in their place could not be the caller's own sets.
 ghost use Rattle.std.specs.Prelude.{◌≡◌, true, cond, ◌+◌, ◌<◌};
 ghost use Rattle.laws.specs.Lists.{all, names};
 ghost use Rattle.rules.specs.Boards.{is_program, is_waiting, tallied};

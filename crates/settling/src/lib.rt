@@ -132,7 +132,7 @@ fn is_unused(sets: &Sets, uses: Uses, p: u8, seat: Seat) -> bool
     seat.item == 0 && !search::gives::in_use(sets, uses, p, f)
 }
 
-// The oldest of a line that passes a test: on each of the line that the test is asked about, it says what `t` says.
+// The oldest of a line that passes a test.
 fn oldest<F: Fn(u8) -> bool>(line: [u8; 32], test: F) -> Option<u8>
     requires { (p : ℕ) → p ∈ names line → F.pre test p }
     ensures { (t : ℕ → Bool) → Tests (F.post test) t (names line) → result ≡ as_option (first t (names line)) }
@@ -274,18 +274,6 @@ fn choose_next(sets: &Sets, lines: &mut Entries, w: Progress) -> Progress
     }
 }
 
-// Settle, where somebody waits or is held.
-fn settle_lines(sets: &mut Sets, lines: &mut Entries, w: Progress) -> Progress
-    requires { Loose (board_of sets.old w.rest) × Counts (board_of sets.old w.rest)
-        × Fits (written_in sets.old lines.old w) (settle (board_of sets.old w.rest)) × IsStore sets.old × IsEntries lines.old }
-    ensures result_after { written_in sets.new lines.new result
-        ≡ after (written_in sets.old lines.old w) (settle (board_of sets.old w.rest)) }
-    ensures store { IsStore sets.new × IsEntries lines.new }
-{
-    let s = pass_line(sets, lines, w);
-    choose_next(sets, lines, s)
-}
-
 // Settle: through the waiting line once from the oldest, then favour or run those held.
 pub fn settled(sets: &mut Sets, lines: &mut Entries, w: Progress) -> Progress
     requires { Loose (board_of sets.old w.rest) × Counts (board_of sets.old w.rest)
@@ -297,5 +285,6 @@ pub fn settled(sets: &mut Sets, lines: &mut Entries, w: Progress) -> Progress
     if w.rest.waiting[0] == 0 && w.rest.entry[0] == 0 {
         return w;
     }
-    settle_lines(sets, lines, w)
+    let s = pass_line(sets, lines, w);
+    choose_next(sets, lines, s)
 }
