@@ -126,8 +126,7 @@ fn do_enter(sets: &mut Sets, rest: Rest, lines: &mut Entries, p: u8, claims: Cla
         let c = put_held(sets, rest, p, claims);
         return replies::answered(sets, c, lines, Word::Held, p, 0, 0, Answer::Held);
     }
-    let overdue = settling::counts::oldest_overdue(sets, rest);
-    if overdue != 0 {
+    if let Some(overdue) = settling::counts::oldest_overdue(sets, rest) {
         return hold_for(sets, rest, lines, p, claims, overdue);
     }
     let c = put_running(sets, rest, p, claims);
