@@ -7,22 +7,23 @@ use mathlib.Core.Logic.{◌≢◌}
 use mathlib.Core.Bool.{Bool, true, false, not, ◌&&◌}
 use mathlib.Core.List.Memᴰ
 use mathlib.Core.List.{List, [], ◌∷◌, ◌++◌}
-use mathlib.Core.Option
-use mathlib.Core.Option.{Option, none, some}
+use mathlib.Core.Option.{none, some}
 use lib.Dec.{eqb}
 use lib.ListN.{length, get_or, set, take, drop, length-set, length-drop}
 use lib.Seq.{drop-cons, drop-set-lt, get_or-set_same, take_at, take-length, length-take-le}
-use borrow.Author.Tests.{eqb-true, eqb-false, eq-eqb, ne_eqb, lt-leb}
+use borrow.Author.Tests.{eqb-true, eqb-false, eq-eqb, ne_eqb, lt-leb, ltb-true, ltb-false}
+use Rattle.std.specs.Prelude.{nat_lt, position, Some, None}
+use Rattle.std.specs.List.{position_or_len}
 use Rattle.laws.specs.Tests.{by_test, by_option, never, and_left, and_right, and_both, no_true, true_not, same_test, and_false}
 use Rattle.files.specs.Bits.{has_bit}
-use Rattle.files.proofs.Bits.{least, most, has-bit, zero_has, without-number-same, without-number-other}
+use Rattle.files.proofs.Bits.{most, has-bit, zero_has, without-number-same, without-number-other}
 use Rattle.rules.specs.declared.Board.{Board}
-use Rattle.laws.specs.Lists.{any, all, first, found, rising, listed}
-use Rattle.rules.specs.declared.Mode.TheVariants.{Write}
+use Rattle.laws.specs.Lists.{any, all, found, rising, listed}
+use Rattle.rules.specs.Modes.{Write}
 use Rattle.rules.specs.Boards.{is_program, is_admitted, everyone, at, admitted, claims, set_program, opening}
 use Rattle.rules.specs.Orders.{carried, with_given}
 use Rattle.rules.specs.Digraph.{is_in, step, reaches, is_loop_of, is_loop_with}
-use Rattle.laws.specs.Laws.{◌∈◌, Pairs, NoRepeat, by_mem, here, all-each, some-any, first_some, keep_mem, mem_keep, length_keep, length-rising, first_keep}
+use Rattle.laws.specs.Laws.{◌∈◌, Pairs, NoRepeat, by_mem, here, all-each, some-any, keep_mem, mem_keep, length_keep, length-rising, first_keep}
 use Rattle.theory.specs.Order.{held_in}
 use Rattle.theory.specs.Calls.{claims_file}
 use Rattle.theory.specs.Programs.{Is, is_of, of_is, mem-everyone}
@@ -41,7 +42,7 @@ use Rattle.tables.specs.ProgramSets.{has_program, without_program, common_of, Is
 use Rattle.tables.specs.Tables.{packed, row_of}
 use Rattle.tables.proofs.Laws.{packed-has, common_has, first_at, first_no, set_is}
 use Rattle.digraph.specs.Rows.{rows_saying, matrix_of, cell}
-use Rattle.digraph.specs.Loops.{list_of, goes, place_of, lowest_holder}
+use Rattle.digraph.specs.Loops.{list_of, goes, lowest_holder}
 use Rattle.digraph.proofs.Laws.{cell_is}
 
 -- ---- the programs of a set
@@ -212,61 +213,52 @@ module _ (rows : List ℕ) (s : ProgramSet) (x : ℕ) (is_x : is_program x ≡ t
       swap false true = refl
       swap false false = refl
 
-  pub holder_at : (by : ProgramSet) (y : ℕ) → by ≡ common_of (without_program (row_of rows x) x) s → IsLowest by y → y ≡ lowest_holder rows s x
+  pub holder_at : (by : ProgramSet) (y : ℕ) → by ≡ common_of (without_program (row_of rows x) x) s → IsLowest by y → lowest_holder rows s x ≡ some y
   unfolding lowest_holder everyone
-  holder_at by y e (a, b, h, l) = sym (ap (λ (o : Option ℕ). Option.get_or o 0) (first_keep (has_program s) holds everyone
-      ∙ first_at (λ y. has_program s y && holds y) 32 1 y a (omega arith) (sym (is y) ∙ h) (λ q k m. sym (is q) ∙ l q m)))
+  holder_at by y e (a, b, h, l) = first_keep (has_program s) holds everyone
+      ∙ first_at (λ y. has_program s y && holds y) 32 1 y a (omega arith) (sym (is y) ∙ h) (λ q k m. sym (is q) ∙ l q m)
     where
       is : (q : ℕ) → has_program by q ≡ has_program s q && holds q
       is q = ap (λ (z : ProgramSet). has_program z q) e ∙ by-has q
 
-  pub holder_no : (by : ProgramSet) → by ≡ common_of (without_program (row_of rows x) x) s → by.bits ≡ 0 → 0 ≡ lowest_holder rows s x
+  pub holder_no : (by : ProgramSet) → by ≡ common_of (without_program (row_of rows x) x) s → by.bits ≡ 0 → lowest_holder rows s x ≡ none
   unfolding lowest_holder everyone
-  holder_no by e z = sym (ap (λ (o : Option ℕ). Option.get_or o 0) (first_keep (has_program s) holds everyone
+  holder_no by e z = first_keep (has_program s) holds everyone
       ∙ first_no (λ y. has_program s y && holds y) 32 1 (λ q. sym (ap (λ (w : ProgramSet). has_program w q) e ∙ by-has q)
-      ∙ no_true (has_program by q) (λ u. never (has-bit 32 by.bits q u) (ap (λ (m : ℕ). has_bit m (q - 1)) z ∙ zero_has (q - 1))))))
-
-  holder_none : (y : ℕ) → y ≡ lowest_holder rows s x → y ≡ 0 → first holds (list_of s) ≡ none
-  unfolding lowest_holder
-  holder_none y e z = by_option (first holds (list_of s)) (λ u. u)
-      (λ q u. let i = (set_is s q (of_mem s q (first_some holds (list_of s) q u).0)).least in let w : y ≡ q = rw u at e in absurd (omega arith))
-
-  holder_some : (y : ℕ) → y ≡ lowest_holder rows s x → y ≢ 0 → first holds (list_of s) ≡ some y
-  unfolding lowest_holder
-  holder_some y e n = by_option (first holds (list_of s)) (λ u. let w : y ≡ 0 = rw u at e in absurd (n w))
-      (λ q u. let w : y ≡ q = rw u at e in u ∙ ap some (sym w))
+      ∙ no_true (has_program by q) (λ u. never (has-bit 32 by.bits q u) (ap (λ (m : ℕ). has_bit m (q - 1)) z ∙ zero_has (q - 1))))
 
 -- ---- places
 
-pub place_hit : (at : List ℕ) (j y : ℕ) → j < length at → get_or at j 0 ≡ y → place_of y (drop j at) ≡ 0
-unfolding place_of
-place_hit at j y h e = ap (place_of y) (drop-cons at j 0 h) ∙ rw (eq-eqb y (get_or at j 0) (sym e))
+-- the first place of y in the list, or its length
+abbrev place : ℕ → List ℕ → ℕ
+place y c = position_or_len (λ z. eqb z y) c
 
-pub place_miss : (at : List ℕ) (j y : ℕ) → j < length at → get_or at j 0 ≢ y → place_of y (drop j at) ≡ suc (place_of y (drop (j + 1) at))
-unfolding place_of
-place_miss at j y h n = ap (place_of y) (drop-cons at j 0 h) ∙ rw (ne_eqb y (get_or at j 0) (λ e. n (sym e)), add-one j)
+place_some : (y : ℕ) (c : List ℕ) (i : ℕ) → position (λ z. eqb z y) c ≡ Some i → (i ≡ place y c) × (i < length c)
+place_some y c i e = by_test (nat_lt (place y c) (length c))
+    (λ t. let z : place y c ≡ i = let d = rw t at e in cc in (sym z, let h = ltb-true (place y c) (length c) t in omega arith))
+    (λ t. let d = rw t at e in cc)
 
-pub place_end : (at : List ℕ) (j y : ℕ) → length at ≤ j → place_of y (drop j at) ≡ 0
-unfolding place_of
-place_end at j y h = ap (place_of y) (drop_all at j h)
+place-none : (y : ℕ) (c : List ℕ) → position (λ z. eqb z y) c ≡ None → length c ≤ place y c
+place-none y c e = by_test (nat_lt (place y c) (length c)) (λ t. let d = rw t at e in cc) (λ t. ltb-false (place y c) (length c) t)
 
-place-listed : (y : ℕ) (c : List ℕ) → place_of y c < length c → listed y c ≡ true
-unfolding place_of listed any
+place-listed : (y : ℕ) (c : List ℕ) → place y c < length c → listed y c ≡ true
+unfolding listed any
 place-listed y [] h = absurd (omega arith)
-place-listed y (x ∷ c) h = by_test (eqb y x) (λ u. rw u) (λ u. rw u (place-listed y c (let i = rw u at h in omega arith)))
+place-listed y (x ∷ c) h = by_test (eqb x y) (λ u. rw (eq-eqb y x (sym (eqb-true x y u))))
+    (λ u. rw (ne_eqb y x (λ d. eqb-false x y u (sym d))) (place-listed y c (let i = rw u at h in omega arith)))
 
-place_unlisted : (y : ℕ) (c : List ℕ) → length c ≤ place_of y c → listed y c ≡ false
-unfolding place_of listed any
+place_unlisted : (y : ℕ) (c : List ℕ) → length c ≤ place y c → listed y c ≡ false
+unfolding listed any
 place_unlisted y [] h = refl
-place_unlisted y (x ∷ c) h = by_test (eqb y x) (λ u. absurd (let i = rw u at h in omega arith))
-    (λ u. rw u (place_unlisted y c (let i = rw u at h in omega arith)))
+place_unlisted y (x ∷ c) h = by_test (eqb x y) (λ u. absurd (let i = rw u at h in omega arith))
+    (λ u. rw (ne_eqb y x (λ d. eqb-false x y u (sym d))) (place_unlisted y c (let i = rw u at h in omega arith)))
 
-place_up_to : (y : ℕ) (c : List ℕ) → place_of y c < length c → take (suc (place_of y c)) c ≡ up_to y c
-unfolding place_of up_to
+place_up_to : (y : ℕ) (c : List ℕ) → place y c < length c → take (suc (place y c)) c ≡ up_to y c
+unfolding up_to
 place_up_to y [] h = absurd (omega arith)
-place_up_to y (x ∷ c) h = by_test (eqb y x)
-    (λ u. rw (u, eq-eqb x y (sym (eqb-true y x u))))
-    (λ u. rw (u, ne_eqb x y (λ d. eqb-false y x u (sym d))) (ap (x ∷◌) (place_up_to y c (let i = rw u at h in omega arith))))
+place_up_to y (x ∷ c) h = by_test (eqb x y) (λ u. rw u)
+    (λ u. let w : 1 + place y c ≡ suc (place y c) = omega arith in
+    rw (u, w) (ap (x ∷◌) (place_up_to y c (let i = rw u at h in omega arith))))
 
 drop_set_at : (l : List ℕ) (i x : ℕ) → i < length l → drop i (set l i x) ≡ x ∷ drop (suc i) l
 drop_set_at l i x h = let k : i < length (set l i x) = rw (length-set l i x) h in
@@ -286,33 +278,30 @@ module _ (rows : List ℕ) (s : ProgramSet) (x : ℕ) (is_x : is_program x ≡ t
   unfolding walk
   walk_none n c e = rw e
 
-  pub walk_alone : (n : ℕ) (c : List ℕ) (y : ℕ) → n ≢ 0 → y ≡ lowest_holder rows s x → y ≡ 0 → [] ≡ walk (cell rows) (list_of s) n x c
-  unfolding walk
-  walk_alone zero c y m e z = absurd (m refl)
-  walk_alone (suc n) c y m e z = rw (holder_none rows s x is_x y e z)
+  pub walk_alone : (n : ℕ) (c : List ℕ) → n ≢ 0 → lowest_holder rows s x ≡ none → [] ≡ walk (cell rows) (list_of s) n x c
+  unfolding walk lowest_holder
+  walk_alone zero c m e = absurd (m refl)
+  walk_alone (suc n) c m e = rw e
 
-  module _ (at : List ℕ) (k y j : ℕ) (l : length at ≡ 32) (a : 1 ≤ k) (b : k ≤ 32) (e : y ≡ lowest_holder rows s x) (z : y ≢ 0)
-      (p : j ≡ k + place_of y (drop k at)) where
+  module _ (at : List ℕ) (k y : ℕ) (l : length at ≡ 32) (a : 1 ≤ k) (b : k ≤ 32) (e : lowest_holder rows s x ≡ some y) where
     here-x : drop (k - 1) (set at (k - 1) x) ≡ x ∷ drop k at
     here-x = drop_set_at at (k - 1) x (omega arith) ∙ ap (λ i. x ∷ drop i at) (let w : suc (k - 1) ≡ k = omega arith in w)
 
-    pub walk-found : (n : ℕ) → n ≢ 0 → j < 32 → take (j + 2 - k) (drop (k - 1) (set at (k - 1) x)) ≡ walk (cell rows) (list_of s) n x (drop k at)
-    unfolding walk
-    walk-found zero m h = absurd (m refl)
-    walk-found (suc n) m h =
-        let i : length (drop k at) ≡ length at - k = length-drop k at in
-        let q : place_of y (drop k at) < length (drop k at) = omega arith in
-        let w : j + 2 - k ≡ suc (suc (place_of y (drop k at))) = omega arith in
-        rw (here-x, w, holder_some rows s x is_x y e z, place-listed y (drop k at) q) (ap (x ∷◌) (place_up_to y (drop k at) q))
+    pub walk-found : (n i : ℕ) → n ≢ 0 → position (λ z. eqb z y) (drop k at) ≡ Some i
+        → take (i + 2) (drop (k - 1) (set at (k - 1) x)) ≡ walk (cell rows) (list_of s) n x (drop k at)
+    unfolding walk lowest_holder
+    walk-found zero i m h = absurd (m refl)
+    walk-found (suc n) i m h =
+        let p = place_some y (drop k at) i h in
+        let q : place y (drop k at) < length (drop k at) = omega (arith, p.0, p.1) in
+        let w : i + 2 ≡ suc (suc (place y (drop k at))) = omega (arith, p.0) in
+        rw (here-x, w, e, place-listed y (drop k at) q) (ap (x ∷◌) (place_up_to y (drop k at) q))
 
-    pub walk-on : (n : ℕ) → n ≢ 0 → 32 ≤ j
+    pub walk-on : (n : ℕ) → n ≢ 0 → position (λ z. eqb z y) (drop k at) ≡ None
         → walk (cell rows) (list_of s) (n - 1) y (drop (k - 1) (set at (k - 1) x)) ≡ walk (cell rows) (list_of s) n x (drop k at)
-    unfolding walk
+    unfolding walk lowest_holder
     walk-on zero m h = absurd (m refl)
-    walk-on (suc n) m h =
-        let i : length (drop k at) ≡ length at - k = length-drop k at in
-        let q : length (drop k at) ≤ place_of y (drop k at) = omega arith in
-        rw (here-x, holder_some rows s x is_x y e z, place_unlisted y (drop k at) q, sub-one (suc n))
+    walk-on (suc n) m h = rw (here-x, e, place_unlisted y (drop k at) (place-none y (drop k at) h), sub-one (suc n))
 
 -- ---- a loop found
 
@@ -358,9 +347,9 @@ module _ (b : Board) (rows matrix : List ℕ) (f : rows ≡ rows_saying (step b)
 -- ---- with a file given
 
 module _ (b : Board) (p f : ℕ) (L : List ℕ) where
-  pub no_program_lem : (Is p → ⊥) → is_loop_with b p f L ≡ false
+  pub no_program_lem : is_program p ≡ false → is_loop_with b p f L ≡ false
   unfolding is_loop_with
-  no_program_lem h = rw (no_true (is_program p) (λ t. h (is_of p t)))
+  no_program_lem h = rw h
 
   pub not_claimed : claims (at b p) f ≡ false → is_loop_with b p f L ≡ false
   unfolding is_loop_with

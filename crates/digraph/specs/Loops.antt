@@ -1,7 +1,7 @@
 -- Loops as the code finds and tests them.
 -- Assumes nothing.
-use Rattle.std.specs.Prelude.{ℕ, suc, ◌≤◌, ◌≡◌, ◌⊎◌, ◌≢◌, Bool, true, false, not, cond, ◌&&◌, List, [], ◌∷◌, eqb, take}
-use Rattle.std.proofs.Math.Option.{get_or}
+use Rattle.std.specs.Prelude.{ℕ, ◌≤◌, ◌≡◌, ◌⊎◌, ◌≢◌, Bool, true, false, not, ◌&&◌, List, [], ◌∷◌, eqb, take}
+use Rattle.std.proofs.Math.Option.{Option}
 use Rattle.rules.specs.declared.Board.{Board}
 use Rattle.rules.specs.declared.Line.{Line}
 use Rattle.rules.specs.declared.Reply.{Reply}
@@ -30,14 +30,9 @@ unfoldable pub goes : List ℕ → ProgramSet → ℕ → List ℕ → Bool
 goes rows s z [] = true
 goes rows s z (p ∷ l) = (has_program s p && has_program (row_of rows p) z) && goes rows (without_program s p) p l
 
--- the place of y in the list, or its length
-unfoldable pub place_of : ℕ → List ℕ → ℕ
-place_of y [] = 0
-place_of y (x ∷ c) = cond (eqb y x) 0 (suc (place_of y c))
-
--- the lowest of s that is another than x and holds it back, or 0
-unfoldable pub lowest_holder : List ℕ → ProgramSet → ℕ → ℕ
-lowest_holder rows s x = get_or (first (λ y. not (eqb y x) && cell rows y x) (list_of s)) 0
+-- the lowest of s that is another than x and holds it back
+unfoldable pub lowest_holder : List ℕ → ProgramSet → ℕ → Option ℕ
+lowest_holder rows s x = first (λ y. not (eqb y x) && cell rows y x) (list_of s)
 
 -- a loop of the board where no order exists, and none where one does: "Which loop is free"; it stands in the 32 places
 pub record LoopOf (b : Board) (r : Loop) : Type 0 where

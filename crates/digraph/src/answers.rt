@@ -10,15 +10,7 @@ use rules::{Answer, Board, Line, Reply};
 fn is_unsafe(answer: Answer) -> bool
     ensures { result ≡ is_unsafe answer }
 {
-    match answer {
-        Answer::Admit => false,
-        Answer::Held => false,
-        Answer::Given => false,
-        Answer::Wait => false,
-        Answer::Unsafe => true,
-        Answer::Done => false,
-        Answer::Refuse(_) => false,
-    }
+    matches!(answer, Answer::Unsafe)
 }
 
 // A loop of the board with the file given that the line names.
@@ -26,14 +18,8 @@ fn loop_with(b: Board, line: Line) -> Loop
     ensures { LoopWith b line result }
 {
     let p = line.program;
-    if p == 0 {
-        return Loop::NONE;
-    }
-    if 32 < p {
-        return Loop::NONE;
-    }
     let f = line.file;
-    if 64 < f {
+    if !(1..=32).contains(&p) || 64 < f {
         return Loop::NONE;
     }
     crate::loops::find_given(b, p as u8, f)
@@ -43,10 +29,9 @@ fn loop_with(b: Board, line: Line) -> Loop
 pub fn loop_of(b: Board, r: Reply) -> Loop
     ensures { CarriedBy b r result }
 {
-    let answer = r.answer;
-    if !is_unsafe(answer) {
-        return Loop::NONE;
+    if is_unsafe(r.answer) {
+        loop_with(b, r.lines[0])
+    } else {
+        Loop::NONE
     }
-    let line = r.lines[0];
-    loop_with(b, line)
 }

@@ -17,7 +17,7 @@ use tables::ProgramSet;
 pub mod answers;
 pub mod loops;
 
-// A loop: its programs stand in the first `count` places of `at`.
+// A loop: its programs stand in the first `count` places of `at` (no heap); of no loop `count` is 0, as `LoopOf` and `CarriedBy` say.
 #[derive(Clone, Copy)]
 pub struct Loop {
     pub at: [u8; 32],
@@ -54,8 +54,7 @@ fn fill_steps(sets: &Sets, rest: Rest, rows: &mut [u32; 32])
     requires { (rows.old ≡ replicate 32 0) × IsStore sets.now }
     ensures { rows.new ≡ rows_saying (step (board_of sets.now rest)) }
 {
-    let admitted = tables::boards::admitted_seats(rest);
-    fill_holders(sets, admitted, rows);
+    fill_holders(sets, tables::boards::admitted_seats(rest), rows);
 }
 
 // ---- closing over paths
@@ -64,10 +63,7 @@ fn fill_steps(sets: &Sets, rest: Rest, rows: &mut [u32; 32])
 fn join_row(row: ProgramSet, by: ProgramSet, k: u8) -> ProgramSet
     ensures { result ≡ by_row row by k }
 {
-    if row.has(k) {
-        return row.or(by);
-    }
-    row
+    if row.has(k) { row.or(by) } else { row }
 }
 
 // Each row with those that reach it by way of k; nothing changes if nobody reaches k.
@@ -81,12 +77,8 @@ fn pass(rows: &mut [u32; 32], k: u8)
     if by.bits == 0 {
         return;
     }
-    let mut i: usize = 0;
-    while i < 32 {
-        let row = ProgramSet { bits: rows[i] };
-        let more = join_row(row, by, k);
-        rows[i] = more.bits;
-        i += 1;
+    for row in rows.iter_mut() {
+        *row = join_row(ProgramSet { bits: *row }, by, k).bits;
     }
 }
 
@@ -95,10 +87,8 @@ fn close_rows(rows: &mut [u32; 32])
     requires { length rows.old ≡ 32 }
     ensures { ClosedOver rows.old rows.new }
 {
-    let mut k: u8 = 32;
-    while 0 < k {
+    for k in (1..=32).rev() {
         pass(rows, k);
-        k -= 1;
     }
 }
 

@@ -1,5 +1,6 @@
 // Loops of programs, each holding back the next and the last the first: the test of them, and the search for one.
-ghost use Rattle.std.specs.Prelude.{◌≡◌, true, ◌&&◌, ◌+◌, ◌≤◌, drop, take};
+ghost use Rattle.std.specs.Prelude.{◌≡◌, true, ◌&&◌, ◌+◌, ◌≤◌, drop, take, eqb, position, MatchOption};
+ghost use Rattle.std.proofs.Math.Option.{none, some};
 ghost use Rattle.rules.specs.Orders.{with_given};
 ghost use Rattle.rules.specs.Soundness.{sound};
 ghost use Rattle.rules.specs.Digraph.{step, is_loop_of, is_loop_with};
@@ -9,7 +10,7 @@ ghost use Rattle.tables.specs.ProgramSets.{has_program};
 ghost use Rattle.tables.specs.Tables.{packed, row_of};
 ghost use Rattle.theory.specs.Loops.{walk};
 ghost use Rattle.digraph.specs.Rows.{cell};
-ghost use Rattle.digraph.specs.Loops.{list_of, named, place_of, lowest_holder, LoopFor, LoopOf, LoopOfWaiter};
+ghost use Rattle.digraph.specs.Loops.{list_of, named, lowest_holder, LoopFor, LoopOf, LoopOfWaiter};
 
 use crate::Loop;
 use files::WORDS;
@@ -24,17 +25,21 @@ use tables::ProgramSet;
 // All programs.
 const ALL: ProgramSet = ProgramSet { bits: 4294967295 };
 
+// The row of program p.
+fn row_of(rows: &[u32; 32], p: u8) -> ProgramSet
+    requires { (1 ≤ p) × (p ≤ 32) }
+    ensures { result ≡ row_of rows.now p }
+{
+    ProgramSet {
+        bits: rows[(p - 1) as usize],
+    }
+}
+
 // Whether p is left, and `before` holds it back.
 fn follows(rows: &[u32; 32], left: ProgramSet, before: u8, p: u8) -> bool
     ensures { result ≡ has_program left p && has_program (row_of rows.now p) before }
 {
-    if !left.has(p) {
-        return false;
-    }
-    let row = ProgramSet {
-        bits: rows[(p - 1) as usize],
-    };
-    row.has(before)
+    left.has(p) && row_of(rows, p).has(before)
 }
 
 // Whether the list is a loop: two or more different programs, each holding back the next and the last the first.
@@ -46,51 +51,44 @@ fn is_loop_in(rows: &[u32; 32], l: &[u8]) -> bool
     }
     let mut left = ALL;
     let mut before = l[l.len() - 1];
-    let mut i: usize = 0;
-    while i < l.len() {
-        let p = l[i];
+    for &p in l {
         if !follows(rows, left, before, p) {
             return false;
         }
         left = left.without(p);
         before = p;
-        i += 1;
     }
     true
 }
 
 // ---- the search
 
-// The lowest of the set that is another than x and holds it back, or 0.
-fn lowest_holder(rows: &[u32; 32], set: ProgramSet, x: u8) -> u8
+// The lowest of the set that is another than x and holds it back.
+fn lowest_holder(rows: &[u32; 32], set: ProgramSet, x: u8) -> Option<u8>
     requires { (1 ≤ x) × (x ≤ 32) }
-    ensures { (result ≡ lowest_holder rows.now set x) × (result ≤ 32) }
+    ensures { MatchOption result (lowest_holder rows.now set x ≡ none) (λ y. (lowest_holder rows.now set x ≡ some y) × ((1 ≤ y) × (y ≤ 32))) }
 {
-    let row = ProgramSet {
-        bits: rows[(x - 1) as usize],
-    };
-    let others = row.without(x);
-    let by = others.and(set);
+    let by = row_of(rows, x).without(x).and(set);
     if by.bits == 0 {
-        return 0;
+        None
+    } else {
+        Some(by.lowest())
     }
-    by.lowest()
 }
 
-// The first place from k on that has y, or 32.
-fn place_of(at: [u8; 32], k: usize, y: u8) -> usize
-    requires { k ≤ 32 }
-    ensures { result ≡ k + place_of y (drop k at) }
+// The first place that has y.
+fn place_in(l: &[u8], y: u8) -> Option<usize>
+    ensures { result ≡ position (λ z. eqb z y) l.now }
 {
-    let mut j = k;
-    while j < 32 {
-        let z = at[j];
-        if z == y {
-            return j;
-        }
-        j += 1;
-    }
-    j
+    l.iter().position(|z| *z == y)
+}
+
+// The same among the places from k on.
+fn place_of(at: [u8; 32], k: usize, y: u8) -> Option<usize>
+    requires { k ≤ 32 }
+    ensures { result ≡ position (λ z. eqb z y) (drop k at) }
+{
+    place_in(&at[k..], y)
 }
 
 // The n numbers from place k on, as a loop.
@@ -115,17 +113,15 @@ fn walk_back(rows: &[u32; 32], set: ProgramSet, n: usize, x: u8, at: [u8; 32], k
     if n == 0 {
         return Loop::NONE;
     }
-    let y = lowest_holder(rows, set, x);
-    if y == 0 {
+    let Some(y) = lowest_holder(rows, set, x) else {
         return Loop::NONE;
-    }
-    let j = place_of(at, k, y);
+    };
     let mut next = at;
     next[k - 1] = x;
-    if j < 32 {
-        return loop_at(next, k - 1, j + 2 - k);
+    match place_of(at, k, y) {
+        Some(i) => loop_at(next, k - 1, i + 2),
+        None => walk_back(rows, set, n - 1, y, next, k - 1),
     }
-    walk_back(rows, set, n - 1, y, next, k - 1)
 }
 
 // The programs that are in their own rows: in the closed rows those that reach themselves.
@@ -133,13 +129,8 @@ fn in_own(rows: &[u32; 32]) -> ProgramSet
     ensures { result ≡ packed (λ p. cell rows.now p p) 32 }
 {
     let mut set = ProgramSet::EMPTY;
-    let mut p: u8 = 1;
-    while p <= 32 {
-        let i = (p - 1) as usize;
-        let row = ProgramSet { bits: rows[i] };
-        let yes = row.has(p);
-        set = tables::join(set, p, yes);
-        p += 1;
+    for p in 1..=32 {
+        set = tables::join(set, p, row_of(rows, p).has(p));
     }
     set
 }
@@ -152,8 +143,7 @@ fn find_in(rows: &[u32; 32], matrix: &[u32; 32]) -> Loop
     if set.bits == 0 {
         return Loop::NONE;
     }
-    let x = set.lowest();
-    walk_back(rows, set, 32, x, [0u8; 32], 32)
+    walk_back(rows, set, 32, set.lowest(), [0u8; 32], 32)
 }
 
 // ---- of a board
@@ -209,8 +199,7 @@ fn is_loop_by(b: Board, p: u8, f: u16, l: &[u8]) -> bool
 {
     let mut sets = [[0u64; WORDS]; PLACES];
     let rest = store::sets::take(b, &mut sets);
-    let s = store::standing_at(rest, p);
-    if !standings::is_admitted(s) {
+    if !standings::is_admitted(store::standing_at(rest, p)) {
         return false;
     }
     if !sets::has_claim(&sets, p, f, 0) {
@@ -221,16 +210,11 @@ fn is_loop_by(b: Board, p: u8, f: u16, l: &[u8]) -> bool
 }
 
 // The checker: whether the list is a loop with file f given to program p, for any numbers, of any board.
+#[tactic(auto, using(crate::proofs::LoopLaws::no_program_lem, crate::proofs::LoopLaws::no_file))]
 pub fn is_loop_with(b: Board, p: u64, f: u64, l: &[u8]) -> bool
     ensures { result ≡ is_loop_with b p f l.now }
 {
-    if p == 0 {
-        return false;
-    }
-    if 32 < p {
-        return false;
-    }
-    if 64 < f {
+    if !(1..=32).contains(&p) || 64 < f {
         return false;
     }
     is_loop_by(b, p as u8, f as u16, l)
@@ -241,14 +225,9 @@ pub fn find_for(b: Board, p: u8) -> Loop
     requires { ((1 ≤ p) × (p ≤ 32)) × (sound b ≡ true) }
     ensures { LoopOfWaiter b p result }
 {
-    let i = (p - 1) as usize;
-    let q = b.programs[i];
-    let s = q.standing;
-    if !standings::is_waiting(s) {
+    let q = b.programs[(p - 1) as usize];
+    if q.item != 0 || !standings::is_waiting(q.standing) {
         return Loop::NONE;
     }
-    if q.item != 0 {
-        return Loop::NONE;
-    }
-    find_given(b, p, standings::awaited(s))
+    find_given(b, p, standings::awaited(q.standing))
 }

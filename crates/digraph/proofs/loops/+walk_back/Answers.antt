@@ -1,5 +1,4 @@
--- `walk_back` meets its contract. Assumes nothing.
-use Rattle.std.proofs.Common.{rules, ◌≡◌, ◌∙◌, ◌≤◌, ◌≢◌, drop, ℕ, length, true, arith}
+use Rattle.std.proofs.Common.{sym, rules, ◌≡◌, ◌∙◌, ◌≤◌, ◌≢◌, drop, ℕ, length, true, arith}
 use Rattle.rules.specs.Boards.{is_program}
 use Rattle.theory.specs.Programs.{of_is}
 use Rattle.digraph.proofs.LoopLaws.{walk_none, walk_alone, walk-found, walk-on}
@@ -13,29 +12,24 @@ pub returns-then-n-eq0 : goal.returns-then-n-eq0
 returns-then-n-eq0 t c = let a = c.args in
     (walk_none a.rows.now a.set a.x (is_x a.x c.requires.2.0 c.requires.2.1) a.n (drop a.k a.at) c.if-n-eq0.true, omega arith)
 
-pub returns-then-y-eq0 : goal.returns-then-y-eq0
-returns-then-y-eq0 t c = let a = c.args in let y = c.lowest_holder-y in (
-  walk_alone a.rows.now a.set a.x (is_x a.x c.requires.2.0 c.requires.2.1) a.n (drop a.k a.at) y.result
-      c.if-n-eq0.false y.ensures.0 c.if-y-eq0.true,
-  omega arith,
-)
+pub returns-in_default : goal.returns-in_default
+returns-in_default t c = let a = c.args in
+    (walk_alone a.rows.now a.set a.x (is_x a.x c.requires.2.0 c.requires.2.1) a.n (drop a.k a.at) c.if-n-eq0.false c.in_default.ensures, omega arith)
 
-pub returns-then-j-lt32 : goal.returns-then-j-lt32
-returns-then-j-lt32 t c = let y = c.lowest_holder-y in let a = c.args in
-    let l : length a.at ≡ 32 = search rules in
-    let z : a.n ≢ 0 = c.if-n-eq0.false in (
-      c.loop_at.ensures.0 ∙ walk-found a.rows.now a.set a.x (is_x a.x c.requires.2.0 c.requires.2.1) a.at a.k
-          y.result c.place_of-j.result l (omega arith) (omega arith)
-          y.ensures.0 c.if-y-eq0.false c.place_of-j.ensures a.n z c.if-j-lt32.true,
+pub returns-in-Some-place_of : goal.returns-in-Some-place_of
+returns-in-Some-place_of t c = let a = c.args in
+    let long : length a.at ≡ 32 = search rules in
+    let some : a.n ≢ 0 = c.if-n-eq0.false in (
+      c.loop_at.ensures.0 ∙ walk-found a.rows.now a.set a.x (is_x a.x c.requires.2.0 c.requires.2.1) a.at a.k c.in-Some.y long (omega arith) (omega arith)
+          c.in-Some.ensures.0 a.n c.in-Some-place_of.i some (sym c.in-Some-place_of.ensures),
       c.loop_at.ensures.1,
     )
 
-pub returns : goal.returns
-returns t c = let y = c.lowest_holder-y in let a = c.args in
-    let l : length a.at ≡ 32 = search rules in
-    let z : a.n ≢ 0 = c.if-n-eq0.false in (
-      c.walk_back.ensures.0 ∙ walk-on a.rows.now a.set a.x (is_x a.x c.requires.2.0 c.requires.2.1) a.at a.k
-          y.result c.place_of-j.result l (omega arith) (omega arith) y.ensures.0
-          c.if-y-eq0.false c.place_of-j.ensures a.n z (omega (arith, c.if-j-lt32.false)),
+pub returns-in-None : goal.returns-in-None
+returns-in-None t c = let a = c.args in
+    let long : length a.at ≡ 32 = search rules in
+    let some : a.n ≢ 0 = c.if-n-eq0.false in (
+      c.walk_back.ensures.0 ∙ walk-on a.rows.now a.set a.x (is_x a.x c.requires.2.0 c.requires.2.1) a.at a.k c.in-Some.y long (omega arith) (omega arith)
+          c.in-Some.ensures.0 a.n some (sym c.in-None.ensures),
       c.walk_back.ensures.1,
     )
