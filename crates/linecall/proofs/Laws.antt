@@ -28,13 +28,6 @@ use Rattle.journal.specs.Journal.{journal_line, journal_room, line_bytes, writte
 use Rattle.journal.proofs.Laws.{line-length}
 use Rattle.linecall.specs.LineCall.{highest_place, journal_full, refuse_line, lines_for, reply_to, stopped, posted, line_call}
 
--- check 2
-pub full_far : (room place : ℕ) → highest_place < place → journal_full room place ≡ true
-full_far room place h = rw (lt-ltb highest_place place h)
-
-pub full_near : (room place : ℕ) → place ≤ highest_place → journal_full room place ≡ ltb room (place + journal_room)
-full_near room place h = rw (le-ltb highest_place place h)
-
 -- the lines of a reply that isn't refused
 pub own_lines : (q : Request) (r : Reply) → refusal_of r.answer ≡ 0 → lines_for q r ≡ take r.count r.lines
 unfolding lines_for

@@ -1,6 +1,7 @@
 -- The verbs as one table, and where the columns of a line begin. The reader, the line that asks for a call and the writer are made from these.
 -- Assumes nothing.
-use Rattle.std.specs.Prelude.{ℕ, ◌+◌, ◌*◌, ◌≡◌, refl, List, [], ◌∷◌}
+use Rattle.std.specs.Prelude.{ℕ, ◌+◌, ◌-◌, ◌*◌, ◌≡◌, refl, cond, Option, Some, None, List, [], ◌∷◌, length, get_or}
+use Rattle.files.specs.Bits.{is_number}
 use Rattle.columns.specs.Columns.{word_width, program_width, file_width, record_width}
 use Rattle.rules.specs.declared.Verb.{Verb}
 use Rattle.request.specs.declared.Shape.{Shape}
@@ -26,6 +27,10 @@ row_of Verb.Return = row (82 ∷ 69 ∷ 84 ∷ 85 ∷ 82 ∷ 78 ∷ []) Shape.Al
 -- all verbs, in the order of the papers
 abbrev pub verbs : List Verb
 verbs = Verb.Enter ∷ Verb.Open ∷ Verb.Close ∷ Verb.Drop ∷ Verb.Leave ∷ Verb.Cancel ∷ Verb.Fetch ∷ Verb.Return ∷ []
+
+-- the verb with a number: 1 ENTER, 2 OPEN, 3 CLOSE, 4 DROP, 5 LEAVE, 6 CANCEL, 7 FETCH, 8 RETURN, as they stand in the table; no other number is one
+abbrev pub verb_numbered : ℕ → Option Verb
+verb_numbered n = cond (is_number (length verbs) n) (Some (get_or verbs (n - 1) Verb.Enter)) None
 
 -- the columns of a verb
 abbrev pub verb_columns : Verb → List ℕ

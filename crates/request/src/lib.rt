@@ -5,7 +5,7 @@ ghost use Rattle.std.specs.Prelude.{◌≡◌, ◌+◌, ◌*◌, ◌≤◌, ◌<
 ghost use Rattle.laws.specs.Lists.{all};
 ghost use Rattle.rules.specs.declared.Verb.{Verb};
 ghost use Rattle.columns.specs.Columns.{file_width};
-ghost use Rattle.request.specs.Verbs.{row_of, verbs, verb_columns, shape_of, alone_length, files_at, entry_length};
+ghost use Rattle.request.specs.Verbs.{row_of, verb_numbered, verb_columns, shape_of, alone_length, files_at, entry_length};
 ghost use Rattle.request.specs.Groups.{no_group, joined, group_from};
 ghost use Rattle.request.specs.Requests.{asking, begins, program_field, file_in, count_in, record_in, label_byte, entry_files, entry_counts, entry_line, file_line};
 ghost use Rattle.request.specs.Requests.{record_line};
@@ -119,7 +119,7 @@ pub fn shape_of(v: Verb) -> Shape
 }
 
 // The verbs in the order of the papers.
-pub const VERBS: [Verb; 8] = [
+const VERBS: [Verb; 8] = [
     Verb::Enter,
     Verb::Open,
     Verb::Close,
@@ -130,12 +130,11 @@ pub const VERBS: [Verb; 8] = [
     Verb::Return,
 ];
 
-// The verb at a place of them, the first at 0.
-pub fn verb_at(i: usize) -> Verb
-    requires { i < length verbs }
-    ensures { result ≡ get_or verbs i Verb.Enter }
+// The verb with a number: 1 for the first, 8 for the last.
+pub fn verb_numbered(n: u64) -> Option<Verb>
+    ensures { result ≡ verb_numbered n }
 {
-    VERBS[i]
+    VERBS.get(n.checked_sub(1)? as usize).copied()
 }
 
 // Whether columns 1 to 6 are those of the verb.

@@ -14,17 +14,15 @@ use Rattle.files.proofs.Bits.{is_number_lem, least, most}
 use Rattle.laws.specs.Lists.{all}
 use Rattle.rules.specs.declared.Asked.{Asked}
 use Rattle.rules.specs.Calls.{Call}
-use Rattle.request.specs.declared.Reading.{Reading}
-use Rattle.request.specs.declared.Request.{Request}
+use Rattle.std.specs.Prelude.{Ok, Err, is_ok}
 use Rattle.request.specs.declared.Shape.{Shape}
 use Rattle.request.specs.Verbs.{shape_of, label_width, longest_line}
-use Rattle.request.specs.Requests.{request_call, label_byte, request_of, has_label, is_entry, label_part, label_of, asked_by, line_as, line_for, line_of}
+use Rattle.request.specs.Requests.{Request, request_call, label_byte, request_of, has_label, is_entry, label_part, label_of, asked_by, line_as, line_for, line_of}
 use Rattle.request.specs.Law.{IsLabel, RangeAs, saying}
 use Rattle.request.proofs.Verbs.{call_good}
 use Rattle.request.proofs.Groups.{files-length}
 use Rattle.request.proofs.Lines.{line_read, label_read, read-line}
-use Rattle.writer.specs.declared.Writing.{Writing}
-use Rattle.writer.specs.Writer.{unwritten_number, numbers_good, record_good, is_label, label_good, writing_of, buffer_after}
+use Rattle.writer.specs.Writer.{Writing, unwritten_number, numbers_good, record_good, is_label, label_good, writing_of, buffer_after}
 use Rattle.writer.specs.Law.{ClaimsAs, WritesInto, ReadsBack, WritesBack, Written, WrittenIsTaken, LongestLine}
 use Rattle.writer.specs.Law.{AlwaysWritten, BytesAfterKept, RefusalFillsNothing}
 use Rattle.writer.proofs.Laws.{alone_length_lem, file_length_lem, record_length_lem, enter-length}
@@ -89,12 +87,12 @@ shape_in c = shape_of (asked_by c).verb
 -- ---- what was written
 
 abbrev refusal_in : Writing → ℕ
-refusal_in (Writing.Wrote n) = 0
-refusal_in (Writing.Refused r) = unwritten_number r
+refusal_in (Ok n) = 0
+refusal_in (Err r) = unwritten_number r
 
 abbrev length_in : Writing → ℕ
-length_in (Writing.Wrote n) = n
-length_in (Writing.Refused r) = 0
+length_in (Ok n) = n
+length_in (Err r) = 0
 
 -- a line that was written passed the checks, is as long as was answered, and fits
 record Passed (c : Call) (label buffer : List ℕ) (n : ℕ) : Type 0 where
@@ -104,7 +102,7 @@ record Passed (c : Call) (label buffer : List ℕ) (n : ℕ) : Type 0 where
   long : n ≡ length (line_of c label)
   fits : n ≤ length buffer
 
-passed : (c : Call) (label buffer : List ℕ) (n : ℕ) → writing_of c label buffer ≡ Writing.Wrote n → Passed c label buffer n
+passed : (c : Call) (label buffer : List ℕ) (n : ℕ) → writing_of c label buffer ≡ Ok n → Passed c label buffer n
 unfolding writing_of line_for
 passed c label buffer n h =
     by_test (numbers_good (shape_in c) (asked_by c))
@@ -177,15 +175,15 @@ writes_back l buffer h room =
 
 -- ---- both ways in one
 
-taken_of_written : (l : List ℕ) → Written l → (request_of l).reading ≡ Reading.Taken
+taken_of_written : (l : List ℕ) → Written l → is_ok (request_of l) ≡ true
 taken_of_written l w =
     let c = w.call in
     let k = w.writes l (omega arith) in
     let b = reads_back c w.label l (length l) w.claims k.0 in
     let t : take (length l) (buffer_after c w.label l) ≡ l = ap (take (length l)) k.1 ∙ take_at l (drop (length l) l) (length l) refl in
-    ap (λ (x : List ℕ). (request_of x).reading) (sym t) ∙ ap (λ (q : Request). q.reading) b.0
+    ap (λ (x : List ℕ). is_ok (request_of x)) (sym t) ∙ ap (λ (q : Request). is_ok q) b.0
 
-written_of_taken : (l : List ℕ) → (request_of l).reading ≡ Reading.Taken → Written l
+written_of_taken : (l : List ℕ) → is_ok (request_of l) ≡ true → Written l
 written_of_taken l h =
     record {
       call = request_call (request_of l);

@@ -1,37 +1,36 @@
 -- Laws of rows of bytes and of the files of a set, for the functions of the writer. Assumes nothing.
 use Prim.Native.Nat.{ℕ, suc, ◌+◌, ◌-◌, ◌*◌, ◌≤◌, ◌<◌}
-use mathlib.Core.Path.{◌≡◌, refl, ap, sym, ◌∙◌}
+use mathlib.Core.Path.{◌≡◌, refl, ap, sym, subst, ◌∙◌}
 use mathlib.Core.List.{List, [], ◌∷◌, ◌++◌, append_assoc}
 use mathlib.Core.Bool.{Bool, true, false, cond}
-use lib.Dec.{eqb}
 use lib.ListN.{length, take, drop, length-append, take-append-drop}
 use lib.Seq.{take_at, drop_at, drop-drop, length-take-le}
 use native.Mathlib.Omega.{arith}
-use native.Mathlib.Nat.{add-zero}
+use native.Mathlib.Nat.{add-zero, add-sub_cancel_left}
 use native.Mathlib.Numerals.{add-one}
-use borrow.Author.Tests.{le-ltb, lt-ltb, eq-eqb, ne_eqb}
-use Rattle.laws.specs.Tests.{by_test, and_false}
+use borrow.Author.Tests.{le-ltb, lt-ltb}
+use borrow.Rule.Slice.PartMut.{put_mid}
+use Rattle.laws.specs.Tests.{by_test}
 use Rattle.columns.specs.Columns.{word_width, program_width, file_width, record_width, columns_of}
 use Rattle.columns.specs.Rows.{flat, put_at}
 use Rattle.columns.proofs.Laws.{columns_length}
 use Rattle.columns.proofs.Rows.{flat-length}
-use Rattle.files.specs.declared.FileSet.{FileSet}
 use Rattle.files.specs.Sets.{is_file}
 use Rattle.rules.specs.declared.Verb.{Verb}
 use Rattle.rules.specs.declared.Claims.{Claims}
 use Rattle.rules.specs.declared.Asked.{Asked}
-use Rattle.laws.specs.Lists.{all, keep, rising}
+use Rattle.laws.specs.Lists.{keep, rising}
 use Rattle.rules.specs.Boards.{is_program}
 use Rattle.rules.specs.Calls.{call_of}
 use Rattle.rules.specs.Checks.{is_record}
 use Rattle.request.specs.declared.Shape.{Shape}
 use Rattle.request.specs.Verbs.{verb_columns, shape_of, alone_length, file_length, record_length, label_width, w_at, r_at, j_at, files_at}
 use Rattle.request.specs.Verbs.{entry_length}
-use Rattle.request.specs.Requests.{label_byte, files_of, files_columns, asked_by, line_as, line_for}
+use Rattle.request.specs.Requests.{files_of, files_columns, asked_by, line_as, line_for}
 use Rattle.request.proofs.Verbs.{SameAs, verb_good, verb_length}
 use Rattle.writer.specs.declared.Unwritten.{Unwritten}
-use Rattle.writer.specs.declared.Writing.{Writing}
-use Rattle.writer.specs.Writer.{numbers_good, record_good, is_label, placing, filled, placed_in, writing_as, writing_of, buffer_after}
+use Rattle.std.specs.Prelude.{Ok, Err}
+use Rattle.writer.specs.Writer.{Writing, numbers_good, record_good, placing, filled, placed_in, writing_as, writing_of, buffer_after}
 use Rattle.writer.specs.Rows.{count_if, columns_if, entry_columns, claims_count, claims_columns, entry_writing, entry_filled}
 use Rattle.writer.specs.Rows.{file_writing, file_filled, record_writing, record_filled}
 
@@ -56,6 +55,13 @@ put_more at a b l room =
 pub put_then : (at at' : ℕ) (a b l m r : List ℕ) → at + length a ≤ length l → m ≡ put_at at a l → at' ≡ at + length a → r ≡ put_at at' b m
     → r ≡ put_at at (a ++ b) l
 put_then at at' a b l m r room em ea er = er ∙ rw (ea, em) (put_more at a b l room)
+
+-- a row put at `&mut l[at..at + length row]`
+pub put_all : (at : ℕ) (row l last : List ℕ) → last ≡ row → put_mid at (at + length row - at) l last ≡ put_at at row l
+unfolding put_at
+put_all at row l last e =
+    let w : at + length row - at ≡ length row = add-sub_cancel_left at (length row) in
+    rw (w, e, drop-drop (length row) at l)
 
 -- no row
 pub put-none : (at : ℕ) (l : List ℕ) → put_at at [] l ≡ l
@@ -292,12 +298,12 @@ enter-put a at label L m r size room e em er =
 
 -- the buffer is too short
 pub placed_short : (line buffer : List ℕ) (n : ℕ) → length line ≡ n → length buffer < n
-    → (Writing.Refused Unwritten.BufferShort ≡ placing line buffer) × (buffer ≡ placed_in line buffer)
+    → (Err Unwritten.BufferShort ≡ placing line buffer) × (buffer ≡ placed_in line buffer)
 placed_short line buffer n e h = let t = lt-ltb (length buffer) (length line) (omega arith) in (rw t, rw t)
 
 -- the line was put at the front
 pub placed_all : (line buffer after : List ℕ) (n end : ℕ) → length line ≡ n → n ≤ length buffer → end ≡ n → after ≡ put_at 0 line buffer
-    → (Writing.Wrote end ≡ placing line buffer) × (after ≡ placed_in line buffer)
+    → (Ok end ≡ placing line buffer) × (after ≡ placed_in line buffer)
 unfolding put_at
 placed_all line buffer after n end e h ee ea =
     let t = le-ltb (length buffer) (length line) (omega arith) in
@@ -308,44 +314,16 @@ placed_all line buffer after n end e h ee ea =
 -- ---- the shapes
 
 module _ (a : Asked) (buffer : List ℕ) where
-  pub file-refused : is_file a.file ≡ false → (Writing.Refused Unwritten.OutOfRange ≡ file_writing a buffer) × (buffer ≡ file_filled a buffer)
-  file-refused e = (rw e, rw e)
-
   pub file-placed : (w : Writing) (after : List ℕ) → is_file a.file ≡ true
       → (w ≡ placing (line_as Shape.File a []) buffer) × (after ≡ placed_in (line_as Shape.File a []) buffer)
       → (w ≡ file_writing a buffer) × (after ≡ file_filled a buffer)
   file-placed w after e k = (rw e k.0, rw e k.1)
 
 module _ (a : Asked) (buffer : List ℕ) where
-  pub record_file : is_file a.file ≡ false → (Writing.Refused Unwritten.OutOfRange ≡ record_writing a buffer) × (buffer ≡ record_filled a buffer)
-  record_file e = (rw e, rw e)
-
-  pub record_refused : is_file a.file ≡ true → is_record a.item ≡ false
-      → (Writing.Refused Unwritten.BadRecord ≡ record_writing a buffer) × (buffer ≡ record_filled a buffer)
-  record_refused e n = (rw (e, n), rw (e, n))
-
   pub record_placed : (w : Writing) (after : List ℕ) → is_file a.file ≡ true → is_record a.item ≡ true
       → (w ≡ placing (line_as Shape.Record a []) buffer) × (after ≡ placed_in (line_as Shape.Record a []) buffer)
       → (w ≡ record_writing a buffer) × (after ≡ record_filled a buffer)
   record_placed w after e n k = (rw (e, n) k.0, rw (e, n) k.1)
-
-pub label_size : (label : List ℕ) → (length label ≡ label_width → ⊥) → is_label label ≡ false
-label_size label h = rw (ne_eqb (length label) label_width h)
-
-pub label_bad : (label : List ℕ) → all label_byte label ≡ false → is_label label ≡ false
-label_bad label e = rw e (and_false (eqb (length label) label_width))
-
-pub label_good_lem : (label : List ℕ) → length label ≡ label_width → all label_byte label ≡ true → is_label label ≡ true
-label_good_lem label h e = rw (eq-eqb (length label) label_width h, e)
-
-module _ (a : Asked) (label buffer : List ℕ) where
-  pub entry-refused : is_label label ≡ false → (Writing.Refused Unwritten.BadLabel ≡ entry_writing a label buffer) × (buffer ≡ entry_filled a label buffer)
-  entry-refused e = (rw e, rw e)
-
-  pub entry-placed : (w : Writing) (after : List ℕ) → is_label label ≡ true
-      → (w ≡ placing (line_as Shape.Entry a label) buffer) × (after ≡ placed_in (line_as Shape.Entry a label) buffer)
-      → (w ≡ entry_writing a label buffer) × (after ≡ entry_filled a label buffer)
-  entry-placed w after e k = (rw e k.0, rw e k.1)
 
 -- ---- what a line does not say is not looked at
 
@@ -390,8 +368,12 @@ module _ (a : Asked) (label buffer : List ℕ) where
       let i = record_same (shape_of a.verb) b a k in
       (rw (s, l, n, i) h.0, rw (s, l, n, i) h.1)
 
+  -- the same, where the shape of the verb is known
+  pub shaped : (w : Writing) (after : List ℕ) (s t : Shape) → t ≡ s → t ≡ shape_of a.verb → WroteAs s w after → Wrote w after
+  shaped w after s t e d h = by_shape w after (subst (λ (x : Shape). WroteAs x w after) (sym e ∙ d) h)
+
   -- where the program's number is known
-  pub out_of_range : (s : Shape) → is_program a.program ≡ false → WroteAs s (Writing.Refused Unwritten.OutOfRange) buffer
+  pub out_of_range : (s : Shape) → is_program a.program ≡ false → WroteAs s (Err Unwritten.OutOfRange) buffer
   out_of_range Shape.Entry h = (rw h, rw h)
   out_of_range Shape.File h = (rw h, rw h)
   out_of_range Shape.Record h = (rw h, rw h)

@@ -1,6 +1,6 @@
 -- The writer as the code puts it together: the files of a set one by one, and each shape of line by itself.
 -- Assumes nothing.
-use Rattle.std.specs.Prelude.{ℕ, ◌+◌, Bool, cond, List, [], ◌++◌, length}
+use Rattle.std.specs.Prelude.{ℕ, ◌+◌, Bool, cond, List, [], ◌++◌, Err, length}
 use Rattle.columns.specs.Columns.{program_width, file_width, columns_of}
 use Rattle.files.specs.Sets.{is_file}
 use Rattle.rules.specs.declared.Verb.{Verb}
@@ -11,8 +11,7 @@ use Rattle.request.specs.declared.Shape.{Shape}
 use Rattle.request.specs.Verbs.{verb_columns}
 use Rattle.request.specs.Requests.{files_of, files_columns, line_as}
 use Rattle.writer.specs.declared.Unwritten.{Unwritten}
-use Rattle.writer.specs.declared.Writing.{Writing}
-use Rattle.writer.specs.Writer.{is_label, placing, filled}
+use Rattle.writer.specs.Writer.{Writing, is_label, placing, filled}
 
 -- ---- files
 
@@ -41,7 +40,7 @@ claims_columns c = files_columns (files_of c.writable) ++ (files_columns (files_
 
 -- of a program in range: 6, then 17
 abbrev pub entry_writing : Asked → List ℕ → List ℕ → Writing
-entry_writing a label buffer = cond (is_label label) (placing (line_as Shape.Entry a label) buffer) (Writing.Refused Unwritten.BadLabel)
+entry_writing a label buffer = cond (is_label label) (placing (line_as Shape.Entry a label) buffer) (Err Unwritten.BadLabel)
 
 abbrev pub entry_filled : Asked → List ℕ → List ℕ → List ℕ
 entry_filled a label buffer = filled (entry_writing a label buffer) (line_as Shape.Entry a label) buffer
@@ -50,7 +49,7 @@ entry_filled a label buffer = filled (entry_writing a label buffer) (line_as Sha
 
 -- of a program in range: 8 for the file, then 17
 abbrev pub file_writing : Asked → List ℕ → Writing
-file_writing a buffer = cond (is_file a.file) (placing (line_as Shape.File a []) buffer) (Writing.Refused Unwritten.OutOfRange)
+file_writing a buffer = cond (is_file a.file) (placing (line_as Shape.File a []) buffer) (Err Unwritten.OutOfRange)
 
 abbrev pub file_filled : Asked → List ℕ → List ℕ
 file_filled a buffer = filled (file_writing a buffer) (line_as Shape.File a []) buffer
@@ -61,8 +60,8 @@ file_filled a buffer = filled (file_writing a buffer) (line_as Shape.File a []) 
 abbrev pub record_writing : Asked → List ℕ → Writing
 record_writing a buffer =
     cond (is_file a.file)
-    (cond (is_record a.item) (placing (line_as Shape.Record a []) buffer) (Writing.Refused Unwritten.BadRecord))
-    (Writing.Refused Unwritten.OutOfRange)
+    (cond (is_record a.item) (placing (line_as Shape.Record a []) buffer) (Err Unwritten.BadRecord))
+    (Err Unwritten.OutOfRange)
 
 abbrev pub record_filled : Asked → List ℕ → List ℕ
 record_filled a buffer = filled (record_writing a buffer) (line_as Shape.Record a []) buffer

@@ -1,7 +1,7 @@
 -- The writer of request lines, as definitions: what it answers, and what stands in the lent buffer after it.
 -- The line itself is `line_of` (request/specs/Requests), which the law of the reader speaks of.
 -- Assumes nothing.
-use Rattle.std.specs.Prelude.{ℕ, Bool, true, cond, ◌&&◌, List, ◌++◌, eqb, ltb, length, drop}
+use Rattle.std.specs.Prelude.{ℕ, Bool, true, cond, ◌&&◌, List, ◌++◌, Result, Ok, Err, eqb, ltb, length, drop}
 use Rattle.files.specs.Sets.{is_file}
 use Rattle.laws.specs.Lists.{all}
 use Rattle.rules.specs.Boards.{is_program}
@@ -12,7 +12,10 @@ use Rattle.request.specs.declared.Shape.{Shape}
 use Rattle.request.specs.Verbs.{shape_of, label_width}
 use Rattle.request.specs.Requests.{label_byte, asked_by, line_as, line_of}
 use Rattle.writer.specs.declared.Unwritten.{Unwritten}
-use Rattle.writer.specs.declared.Writing.{Writing}
+
+-- what the writer answers: the length of the line, or the refusal
+abbrev pub Writing : Type 0
+Writing = Result ℕ Unwritten
 
 -- the numbers of the refusals
 abbrev pub unwritten_number : Unwritten → ℕ
@@ -52,12 +55,12 @@ label_good Shape.Alone label = true
 
 -- "It refuses a buffer shorter than the line with 17"; otherwise the line's length
 abbrev pub placing : List ℕ → List ℕ → Writing
-placing line buffer = cond (ltb (length buffer) (length line)) (Writing.Refused Unwritten.BufferShort) (Writing.Wrote (length line))
+placing line buffer = cond (ltb (length buffer) (length line)) (Err Unwritten.BufferShort) (Ok (length line))
 
 -- "Bytes after the line keep their contents, and a refusal fills nothing."
 abbrev pub filled : Writing → List ℕ → List ℕ → List ℕ
-filled (Writing.Wrote n) line buffer = line ++ drop n buffer
-filled (Writing.Refused r) line buffer = buffer
+filled (Ok n) line buffer = line ++ drop n buffer
+filled (Err r) line buffer = buffer
 
 -- the buffer with the line in it, or as it was where it is too short
 abbrev pub placed_in : List ℕ → List ℕ → List ℕ
@@ -70,9 +73,9 @@ abbrev pub writing_as : Shape → Asked → List ℕ → List ℕ → Writing
 writing_as s a label buffer =
     cond (numbers_good s a)
     (cond (record_good s a)
-    (cond (label_good s label) (placing (line_as s a label) buffer) (Writing.Refused Unwritten.BadLabel))
-    (Writing.Refused Unwritten.BadRecord))
-    (Writing.Refused Unwritten.OutOfRange)
+    (cond (label_good s label) (placing (line_as s a label) buffer) (Err Unwritten.BadLabel))
+    (Err Unwritten.BadRecord))
+    (Err Unwritten.OutOfRange)
 
 -- of a call: its line has the shape of its verb
 unfoldable pub writing_of : Call → List ℕ → List ℕ → Writing

@@ -27,13 +27,6 @@ pub enum Unwritten {
     BufferShort,
 }
 
-// What writing comes to: the length of the line that was written, or the refusal.
-#[derive(Clone, Copy)]
-pub enum Writing {
-    Wrote(usize),
-    Refused(Unwritten),
-}
-
 impl Unwritten {
     // The number of the refusal: 01's 8 and 6, 17, and 19 for a record out of range.
     pub fn number(self) -> u8
@@ -56,8 +49,9 @@ fn put(line: &mut [u8], at: usize, row: &[u8]) -> usize
     ensures value { result ≡ at + length row.now }
     ensures line_after { line.new ≡ put_at at row.now line.old }
 {
-    copies::copy(row, &mut line[at..]);
-    at + row.len()
+    let end = at + row.len();
+    line[at..end].copy_from_slice(row);
+    end
 }
 
 // Writes a number in so many columns.
@@ -90,10 +84,8 @@ fn put_files(line: &mut [u8], start: usize, s: FileSet) -> usize
     ensures line_after { line.new ≡ put_at start (files_columns (files_of s)) line.old }
 {
     let mut at = start;
-    let mut f: u16 = 1;
-    while f <= 64 {
+    for f in 1..=64 {
         at = put_file(line, at, s, f);
-        f += 1;
     }
     at
 }
@@ -104,12 +96,9 @@ fn put_claims(line: &mut [u8], start: usize, c: Claims) -> usize
     ensures value { result ≡ start + file_width * claims_count c }
     ensures line_after { line.new ≡ put_at start (claims_columns c) line.old }
 {
-    let v = c.writable;
-    let q = c.readable;
-    let j = c.inquirable;
-    let after_v = put_files(line, start, v);
-    let after_q = put_files(line, after_v, q);
-    put_files(line, after_q, j)
+    let after_v = put_files(line, start, c.writable);
+    let after_q = put_files(line, after_v, c.readable);
+    put_files(line, after_q, c.inquirable)
 }
 
 // One more if f is in the set.
@@ -125,13 +114,12 @@ fn counted(n: u64, s: FileSet, f: u16) -> u64
 
 // How many files a set has.
 fn count(s: FileSet) -> u64
-    ensures { result ≡ length (files_of s) }
+    ensures value { result ≡ length (files_of s) }
+    ensures few { result ≤ 64 }
 {
-    let mut n: u64 = 0;
-    let mut f: u16 = 1;
-    while f <= 64 {
+    let mut n = 0;
+    for f in 1..=64 {
         n = counted(n, s, f);
-        f += 1;
     }
     n
 }
@@ -171,121 +159,101 @@ fn put_entry(
 }
 
 // An ENTER line with a good label.
-fn write_entry(a: Asked, label: &[u8], line: &mut [u8]) -> Writing
+fn write_entry(a: Asked, label: &[u8], line: &mut [u8]) -> Result<usize, Unwritten>
     requires { length label.now ≡ label_width }
     ensures value { result ≡ placing (line_as Shape.Entry a label.now) line.old }
     ensures line_after { line.new ≡ placed_in (line_as Shape.Entry a label.now) line.old }
 {
     let claims = a.claims;
-    let verb = a.verb;
     let w = count(claims.writable);
     let r = count(claims.readable);
     let j = count(claims.inquirable);
     let len = request::FILES_AT + columns::FILE_WIDTH * ((w + r + j) as usize);
     if line.len() < len {
-        return Writing::Refused(Unwritten::BufferShort);
+        return Err(Unwritten::BufferShort);
     }
-    let after_counts = put_entry(line, verb, a.program, label, w, r, j);
-    let end = put_claims(line, after_counts, claims);
-    Writing::Wrote(end)
+    let after_counts = put_entry(line, a.verb, a.program, label, w, r, j);
+    Ok(put_claims(line, after_counts, claims))
 }
 
 // ENTER: the label, then the buffer.
-fn write_enter(a: Asked, label: &[u8], line: &mut [u8]) -> Writing
+fn write_enter(a: Asked, label: &[u8], line: &mut [u8]) -> Result<usize, Unwritten>
     ensures value { result ≡ entry_writing a label.now line.old }
     ensures line_after { line.new ≡ entry_filled a label.now line.old }
 {
     if label.len() != request::LABEL_LEN {
-        return Writing::Refused(Unwritten::BadLabel);
+        return Err(Unwritten::BadLabel);
     }
     if !request::is_label(label) {
-        return Writing::Refused(Unwritten::BadLabel);
+        return Err(Unwritten::BadLabel);
     }
     write_entry(a, label, line)
 }
 
 // OPEN, CLOSE and DROP: the file, then the buffer.
-fn write_file(a: Asked, line: &mut [u8]) -> Writing
+fn write_file(a: Asked, line: &mut [u8]) -> Result<usize, Unwritten>
     ensures value { result ≡ file_writing a line.old }
     ensures line_after { line.new ≡ file_filled a line.old }
 {
-    let file = a.file;
-    if !is_number(file, 64) {
-        return Writing::Refused(Unwritten::OutOfRange);
+    if !is_number(a.file, 64) {
+        return Err(Unwritten::OutOfRange);
     }
     if line.len() < request::FILE_LEN {
-        return Writing::Refused(Unwritten::BufferShort);
+        return Err(Unwritten::BufferShort);
     }
-    let verb = a.verb;
-    let at = put_head(line, verb, a.program);
-    let end = put_number(line, at, columns::FILE_WIDTH, file);
-    Writing::Wrote(end)
+    let at = put_head(line, a.verb, a.program);
+    Ok(put_number(line, at, columns::FILE_WIDTH, a.file))
 }
 
 // FETCH: the file, the record, then the buffer.
-fn write_record(a: Asked, line: &mut [u8]) -> Writing
+fn write_record(a: Asked, line: &mut [u8]) -> Result<usize, Unwritten>
     ensures value { result ≡ record_writing a line.old }
     ensures line_after { line.new ≡ record_filled a line.old }
 {
-    let file = a.file;
-    if !is_number(file, 64) {
-        return Writing::Refused(Unwritten::OutOfRange);
+    if !is_number(a.file, 64) {
+        return Err(Unwritten::OutOfRange);
     }
-    let item = a.item;
-    if !is_number(item, 65535) {
-        return Writing::Refused(Unwritten::BadRecord);
+    if !is_number(a.item, 65535) {
+        return Err(Unwritten::BadRecord);
     }
     if line.len() < request::RECORD_LEN {
-        return Writing::Refused(Unwritten::BufferShort);
+        return Err(Unwritten::BufferShort);
     }
-    let verb = a.verb;
-    let after_program = put_head(line, verb, a.program);
-    let after_file = put_number(line, after_program, columns::FILE_WIDTH, file);
-    let end = put_number(line, after_file, columns::RECORD_WIDTH, item);
-    Writing::Wrote(end)
+    let after_program = put_head(line, a.verb, a.program);
+    let after_file = put_number(line, after_program, columns::FILE_WIDTH, a.file);
+    Ok(put_number(line, after_file, columns::RECORD_WIDTH, a.item))
 }
 
 // LEAVE, CANCEL and RETURN: the buffer.
-fn write_alone(a: Asked, line: &mut [u8]) -> Writing
+fn write_alone(a: Asked, line: &mut [u8]) -> Result<usize, Unwritten>
     ensures value { result ≡ placing (line_as Shape.Alone a []) line.old }
     ensures line_after { line.new ≡ placed_in (line_as Shape.Alone a []) line.old }
 {
     if line.len() < request::ALONE_LEN {
-        return Writing::Refused(Unwritten::BufferShort);
+        return Err(Unwritten::BufferShort);
     }
-    let verb = a.verb;
-    let end = put_head(line, verb, a.program);
-    Writing::Wrote(end)
+    Ok(put_head(line, a.verb, a.program))
 }
 
 // Whether n is one of the numbers 1 to high.
 fn is_number(n: u64, high: u64) -> bool
     ensures { result ≡ is_number high n }
 {
-    if n == 0 {
-        return false;
-    }
-    if high < n {
-        return false;
-    }
-    true
+    1 <= n && n <= high
 }
 
 // Writes the line that asks for the call from the buffer's start, without byte 10, and gives its length.
 // Refused are a program or file out of range, then FETCH's record out of range, then a bad label of ENTER, then a buffer shorter than the line;
 // a refusal writes nothing.
 // What the verb does not use is not looked at.
-pub fn write(a: Asked, label: &[u8], line: &mut [u8]) -> Writing
+pub fn write(a: Asked, label: &[u8], line: &mut [u8]) -> Result<usize, Unwritten>
     ensures value { result ≡ writing_of (call_of a) label.now line.old }
     ensures line_after { line.new ≡ buffer_after (call_of a) label.now line.old }
 {
-    let program = a.program;
-    if !is_number(program, 32) {
-        return Writing::Refused(Unwritten::OutOfRange);
+    if !is_number(a.program, 32) {
+        return Err(Unwritten::OutOfRange);
     }
-    let verb = a.verb;
-    let shape = request::shape_of(verb);
-    match shape {
+    match request::shape_of(a.verb) {
         Shape::Entry => write_enter(a, label, line),
         Shape::File => write_file(a, line),
         Shape::Record => write_record(a, line),
