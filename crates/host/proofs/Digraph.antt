@@ -3,7 +3,7 @@ use Prim.Native.Nat.{ℕ, ◌≤◌, ◌<◌}
 use native.Mathlib.Omega.{arith}
 use mathlib.Core.Path.{◌≡◌, refl, ap, sym, ◌∙◌, subst}
 use mathlib.Core.Logic.{◌≢◌}
-use mathlib.Core.Bool.{Bool, true, false, cond}
+use mathlib.Core.Bool.{Bool, false, cond}
 use mathlib.Core.List.{List, ◌++◌}
 use lib.Dec.{ltb}
 use lib.ListN.{length, drop}
@@ -11,7 +11,7 @@ use lib.Seq.{length-take-le}
 use borrow.Author.Tests.{lt-ltb, le-ltb}
 use Rattle.laws.specs.Tests.{no_true}
 use Rattle.rules.specs.declared.Board.{Board}
-use Rattle.rules.specs.Boards.{is_program, at}
+use Rattle.rules.specs.Boards.{is_program}
 use Rattle.rules.specs.Digraph.{is_loop_with}
 use Rattle.theory.specs.Programs.{Is, is_of, of_is}
 use Rattle.image.specs.Image.{bytes_n}

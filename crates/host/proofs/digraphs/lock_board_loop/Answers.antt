@@ -1,6 +1,4 @@
-use mathlib.Core.Path.{◌≡◌}
 use native.Mathlib.Omega.{arith}
-use borrow.Author.Rules.{rules}
 use Rattle.host.proofs.Laws.{image_read}
 use Rattle.host.proofs.Digraph.{loop_refused, loop_no-program, loop_short, loop_written}
 use Rattle.host.proofs.digraphs.lock_board_loop.Goals as goal
