@@ -7,11 +7,17 @@ use mathlib.Core.Bool.{true, false}
 use mathlib.Core.List.{List, [], ◌∷◌, ◌++◌, append_assoc, append-nil}
 use lib.Dec.{eqb}
 use lib.ListN.{length, take, drop, set, get_or, replicate, length-append, length-take, length-drop, drop_of_length-le, take-append-drop}
-use lib.Seq.{drop-cons, take-add, take-suc, take-suc-set, take-append-add, take-append-le, take-take, take_all, take_at, take-length}
+use lib.Seq.{take-add, take-suc, take-suc-set, take-append-add, take-append-le, take-take, take_all, take_at, take-length}
 use native.Mathlib.Numerals.{add-one}
 use native.Mathlib.Omega.{arith}
 use borrow.Rule.Slice.PartMut.{put_mid}
 use borrow.Author.Tests.{eq-eqb, ne_eqb, le-ltb}
+use Rattle.std.specs.List.{position, position_or_len}
+use Rattle.std.proofs.Common.{Option, Some, None, MatchOption, min, cond, ltb, ◌==◌}
+use Rattle.std.proofs.lemmas.List.Recursion.{is_position_or_len}
+use Rattle.std.proofs.lemmas.Slice.{take-put_mid}
+use Rattle.std.proofs.lemmas.List.{take_min}
+use Rattle.std.proofs.lemmas.Bool.{ltb-true, ltb-false}
 use Rattle.laws.specs.Tests.{by_test}
 use Rattle.rules.specs.declared.Board.{Board}
 use Rattle.rules.specs.Soundness.{sound}
@@ -34,34 +40,44 @@ use Rattle.board.specs.Parts.{fed-append, fed-flushed}
 
 -- ---- where a line ends
 
-pub line_goes_on : (s : List ℕ) (i : ℕ) → i < length s → (get_or s i 0 ≡ 10 → ⊥)
-    → length (first_line (drop i s)) ≡ 1 + length (first_line (drop (i + 1) s))
+-- the bytes before the first byte 10
+line_length : (s : List ℕ) → length (first_line s) ≡ position_or_len (λ x. eqb x 10) s
 unfolding first_line
-line_goes_on s i h n = rw (drop-cons s i 0 h, ne_eqb (get_or s i 0) 10 n, add-one i) (omega arith)
+line_length s =
+    is_position_or_len (λ (l : List ℕ). length (first_line l)) (λ x. eqb x 10) refl (λ x xs. by_test (eqb x 10) (λ e. rw e) (λ e. rw e (omega arith))) s
 
-pub line-ends : (s : List ℕ) (i : ℕ) → i < length s → get_or s i 0 ≡ 10 → length (first_line (drop i s)) ≡ 0
+line_within : (s : List ℕ) → length (first_line s) ≤ length s
 unfolding first_line
-line-ends s i h e = rw (drop-cons s i 0 h, eq-eqb (get_or s i 0) 10 e)
+line_within [] = omega arith
+line_within (x ∷ xs) = let h = line_within xs in by_test (eqb x 10) (λ e. rw e (omega arith)) (λ e. rw e (omega arith))
 
-pub line_out : (s : List ℕ) (i : ℕ) → length s ≤ i → length (first_line (drop i s)) ≡ 0
-unfolding first_line
-line_out s i h = rw (drop_of_length-le s {i = i} h)
+found_at : (k n m : ℕ) (r : Option ℕ) → k ≡ n → k ≤ m → r ≡ cond (ltb n m) (Some n) None → MatchOption r (k ≡ m) (λ i. (i ≡ k) × (i < m))
+found_at k n m r e h er =
+    by_test (ltb n m)
+    (λ t. let q : r ≡ Some n = rw t at er in rw q (sym e, ltb-true n m t))
+    (λ t. let q : r ≡ None = rw t at er in let g : m ≤ n = ltb-false n m t in rw q (omega arith))
+
+pub line_at : (s : List ℕ) (r : Option ℕ) → r ≡ position (λ x. x == 10) s
+    → MatchOption r (length (first_line s) ≡ length s) (λ n. (n ≡ length (first_line s)) × (n < length s))
+line_at s r e = found_at _ (position_or_len (λ x. eqb x 10) s) (length s) r (line_length s) (line_within s) e
 
 -- ---- the bytes kept
 
--- one byte more is kept
-pub keep_more : (kept p part : List ℕ) (n i : ℕ) → n < length kept → i < length part → take n kept ≡ p ++ take i part
-    → take (n + 1) (set kept n (get_or part i 0)) ≡ p ++ take (i + 1) part
-keep_more kept p part n i h k e =
-    rw (add-one n, add-one i, take-suc-set kept n (get_or part i 0) h, e, take-suc part i 0 k) (append_assoc p (take i part) _)
+same_part : (part : List ℕ) (n k : ℕ) → n ≡ min (length part) k → take n part ≡ take k part
+same_part part n k e = ap (λ (m : ℕ). take m part) (let m : n ≡ min k (length part) = omega arith in m) ∙ take_min k part
 
--- where cut_line bytes are kept, and where the part ends
-pub keep_full : (p part : List ℕ) (i : ℕ) → length p + i ≡ cut_line → p ++ take i part ≡ take cut_line (p ++ part)
-keep_full p part i e = sym (take-append-add p part i) ∙ ap (λ (n : ℕ). take n (p ++ part)) e
-
-pub keep_all : (p part : List ℕ) (i : ℕ) → length p + i ≤ cut_line → i ≡ length part → p ++ take i part ≡ take cut_line (p ++ part)
-keep_all p part i h e =
-    rw (e, take-length part) (sym (take_all cut_line (p ++ part) (omega (arith, length-append p part))))
+-- as many bytes of the part as have room
+pub keep_is : (kept part ys : List ℕ) (len n k : ℕ) → ys ≡ take n part → len ≤ cut_line → length kept ≡ cut_line → n ≡ min (length part) (cut_line - len)
+    → take (len + n) (put_mid len k kept ys) ≡ take cut_line (take len kept ++ part)
+keep_is kept part ys len n k y h f e =
+    let l : length (take n part) ≡ n = omega (arith, length-take n part) in
+    let p : length (take len kept) ≡ len = omega (arith, length-take len kept) in
+    let c : length (take len kept) + (cut_line - len) ≡ cut_line = omega arith in
+    ap (λ (x : List ℕ). take (len + n) (put_mid len k kept x)) y
+    ∙ take-put_mid len k kept (take n part) (len + n) (omega arith) (omega arith)
+    ∙ ap (λ (x : List ℕ). take len kept ++ x) (same_part part n (cut_line - len) e)
+    ∙ sym (take-append-add (take len kept) part (cut_line - len))
+    ∙ ap (λ (m : ℕ). take m (take len kept ++ part)) c
 
 -- ---- lines with room in the journal
 
@@ -137,26 +153,56 @@ fed-line b line j (x ∷ l) n h e k =
     (omega (arith, length-take cut_line (line ++ (x ∷ [])))) refl (omega arith)
     ∙ rw (cut_twice cut_line (line ++ (x ∷ [])) (take (length (first_line l)) l), append_assoc line (x ∷ []) (take (length (first_line l)) l))))
 
--- the same in a part of the input, where the line begins at one place and ends at another
-module _ (s : Fed) (b : Board) (line j part : List ℕ) (at end : ℕ)
-    (short : length line ≤ cut_line) (ends : end ≡ at + length (first_line (drop at part))) (so : held b line j ≡ fed s (take at part)) where
-  pub part_ends : end ≡ length part → held b (take cut_line (line ++ take (end - at) (drop at part))) j ≡ fed s (take end part)
+-- the same in a part of the input, where the line begins at a place
+module _ (s : Fed) (b : Board) (line j part : List ℕ) (at : ℕ)
+    (short : length line ≤ cut_line) (within : at ≤ length part) (so : held b line j ≡ fed s (take at part)) where
+  pub part_ends : length (first_line (drop at part)) ≡ length (drop at part)
+      → held b (take cut_line (line ++ drop at part)) j ≡ fed s (take (length part) part)
   part_ends e =
-      let n = length-drop at part in
-      rw (take_all (end - at) (drop at part) (omega arith)) (sym (fed_part b line j (drop at part) short (omega arith))
+      sym (fed_part b line j (drop at part) short e)
       ∙ ap (λ (t : Fed). fed t (drop at part)) so
       ∙ sym (fed-append s (take at part) (drop at part))
-      ∙ ap (fed s) (take-append-drop at part ∙ sym (take_all end part (omega arith))))
+      ∙ ap (fed s) (take-append-drop at part ∙ sym (take-length part))
 
-  pub part_line : end < length part → served (held b (take cut_line (line ++ take (end - at) (drop at part))) j) ≡ fed s (take (end + 1) part)
-  part_line h =
-      let n = length-drop at part in
-      let a : at + suc (end - at) ≡ end + 1 = omega arith in
-      sym (fed-line b line j (drop at part) (end - at) short (omega arith) (omega arith))
-      ∙ ap (λ (t : Fed). fed t (take (suc (end - at)) (drop at part))) so
-      ∙ sym (fed-append s (take at part) (take (suc (end - at)) (drop at part)))
-      ∙ ap (fed s) (sym (take-add at (suc (end - at)) part))
-      ∙ ap (λ (m : ℕ). fed s (take m part)) a
+  pub part_line : (n : ℕ) → n ≡ length (first_line (drop at part)) → n < length (drop at part)
+      → served (held b (take cut_line (line ++ take n (drop at part))) j) ≡ fed s (take (at + (n + 1)) part)
+  part_line n e h =
+      sym (fed-line b line j (drop at part) n short e h)
+      ∙ ap (λ (t : Fed). fed t (take (suc n) (drop at part))) so
+      ∙ sym (fed-append s (take at part) (take (suc n) (drop at part)))
+      ∙ ap (fed s) (sym (take-add at (suc n) part))
+      ∙ ap (λ (m : ℕ). fed s (take (at + m) part)) (sym (add-one n))
+
+-- the same, as the program cuts the part
+module _ (s : Fed) (b : Board) (line j part : List ℕ) (at : ℕ)
+    (short : length line ≤ cut_line) (within : at ≤ length part) (so : held b line j ≡ fed s (take at part)) where
+  left : take (length part - at) (drop at part) ≡ drop at part
+  left = take_all (length part - at) (drop at part) (omega (arith, length-drop at part))
+
+  pub part_over : (kept : List ℕ) (k : ℕ) → None ≡ position (λ x. x == 10) (take (length part - at) (drop at part))
+      → take k kept ≡ take cut_line (line ++ take (length part - at) (drop at part))
+      → held b (take k kept) j ≡ fed s (take (length part) part)
+  part_over kept k e ek =
+      ap (λ (x : List ℕ). held b x j) (ek ∙ ap (λ (x : List ℕ). take cut_line (line ++ x)) left)
+      ∙ part_ends s b line j part at short within so (line_at (drop at part) None (e ∙ ap (position (λ x. x == 10)) left))
+
+  pub part_goes_on : (b' : Board) (kept j' : List ℕ) (n m k : ℕ)
+      → Some n ≡ position (λ x. x == 10) (take (length part - at) (drop at part)) → m ≡ 0 → k ≡ n
+      → held b' [] j' ≡ served (held b (take cut_line (line ++ take k (drop at part))) j)
+      → held b' (take m kept) j' ≡ fed s (take (at + (n + 1)) part)
+  part_goes_on b' kept j' n m k e em ek es =
+      let f : (n ≡ length (first_line (drop at part))) × (n < length (drop at part)) =
+      line_at (drop at part) (Some n) (e ∙ ap (position (λ x. x == 10)) left) in
+      ap (λ (x : ℕ). held b' (take x kept) j') em
+      ∙ es
+      ∙ ap (λ (x : ℕ). served (held b (take cut_line (line ++ take x (drop at part))) j)) ek
+      ∙ part_line s b line j part at short within so n f.0 f.1
+
+  pub line_within_part : (n : ℕ) → Some n ≡ position (λ x. x == 10) (take (length part - at) (drop at part)) → at + (n + 1) ≤ length part
+  line_within_part n e =
+      let f : (n ≡ length (first_line (drop at part))) × (n < length (drop at part)) =
+      line_at (drop at part) (Some n) (e ∙ ap (position (λ x. x == 10)) left) in
+      omega (arith, length-drop at part, f.1)
 
 -- no byte is taken yet, and none was written
 pub part_begins : (b : Board) (line journal part : List ℕ) (place : ℕ) → place ≡ 0 → held b line (take place journal) ≡ fed (held b line []) (take 0 part)
@@ -164,19 +210,19 @@ unfolding fed
 part_begins b line journal part place e = rw e
 
 -- a part of a read is taken, and the journal is written
-pub chunk_begins : (s : Fed) (chunk : List ℕ) → flushed s ≡ flushed (fed s (take 0 chunk))
-unfolding fed
-chunk_begins s chunk = refl
+pub rest_goes_on : (t u v : Fed) (rest : List ℕ) (n : ℕ) → u ≡ fed t (take n rest) → v ≡ flushed u
+    → flushed (fed v (drop n rest)) ≡ flushed (fed t rest)
+rest_goes_on t u v rest n eu ev =
+    ap (λ (w : Fed). flushed (fed w (drop n rest))) ev
+    ∙ sym (ap flushed (fed-flushed u (drop n rest)))
+    ∙ ap flushed (ap (λ (w : Fed). fed w (drop n rest)) eu
+    ∙ sym (fed-append t (take n rest) (drop n rest))
+    ∙ ap (fed t) (take-append-drop n rest))
 
-pub chunk_more : (s t u : Fed) (chunk : List ℕ) (at n : ℕ) → n ≤ length chunk - at → t ≡ flushed (fed s (take at chunk))
-    → u ≡ fed t (take n (take (length chunk - at) (drop at chunk))) → flushed u ≡ flushed (fed s (take (at + n) chunk))
-chunk_more s t u chunk at n h et eu =
-    let f = fed s (take at chunk) in
-    let x = take n (drop at chunk) in
-    let e : u ≡ fed (flushed f) x = eu ∙ rw (take-take n (length chunk - at) (drop at chunk) h, et) in
-    ap flushed e
-    ∙ ap flushed (sym (fed-flushed f x))
-    ∙ ap flushed (sym (fed-append s (take at chunk) x) ∙ ap (fed s) (sym (take-add at n chunk)))
+pub rest_done : (t : Fed) (rest : List ℕ) → length rest ≡ 0 → flushed (fed t rest) ≡ flushed t
+unfolding fed
+rest_done t [] e = refl
+rest_done t (x ∷ xs) e = absurd (omega arith)
 
 -- ---- the end of the input
 

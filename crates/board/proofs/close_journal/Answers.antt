@@ -9,5 +9,5 @@ pub returns-clause-journal_after : goal.returns-clause-journal_after
 returns-clause-journal_after c =
     let l = c.last_line-last in
     let o = c.order_line-len in
-    close_is _ (board_of l.new.sets l.result.rest) l.new.journal o.new.out l.result.out.place o.result
+    close_is _ (board_of l.new.sets l.result.rest) l.new.journal o.new.out l.result.place o.result
     (omega arith) (omega (arith, o.auto.out)) l.ensures.journal_after o.ensures.out_after

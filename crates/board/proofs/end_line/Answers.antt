@@ -11,10 +11,10 @@ pub returns-then-len-eq0-clause-journal_after : goal.returns-then-len-eq0-clause
 returns-then-len-eq0-clause-journal_after c =
     let a = c.args in
     let b = board_of a.sets.now a.s.rest in
-    let j = take a.s.out.place a.journal.now in
+    let j = take a.s.place a.journal.now in
     let k = c.serve_line.ensures in
     let e : take cut_line a.part.now ≡ take cut_line (take a.s.kept a.kept.now ++ a.part.now) = rw c.if-len-eq0.true in
-    call-served b _ a.journal.now a.s.out.place c.requires.rest_value.0 c.requires.place_le_last_place.0
+    call-served b _ a.journal.now a.s.place c.requires.rest_value.0 c.requires.place_le_last_place.0
     c.requires.place_le_last_place.1 _ _ _ k.rest_after k.place_value k.journal_after
     ∙ ap (λ (l : List ℕ). served (held b l j)) (c.cut.ensures ∙ e)
 
@@ -23,8 +23,8 @@ pub returns-clause-journal_after : goal.returns-clause-journal_after
 returns-clause-journal_after c =
     let a = c.args in
     let b = board_of a.sets.now a.s.rest in
-    let j = take a.s.out.place a.journal.now in
+    let j = take a.s.place a.journal.now in
     let k = c.serve_line-2.ensures in
-    call-served b _ a.journal.now a.s.out.place c.requires.rest_value.0 c.requires.place_le_last_place.0
+    call-served b _ a.journal.now a.s.place c.requires.rest_value.0 c.requires.place_le_last_place.0
     c.requires.place_le_last_place.1 _ _ _ k.rest_after k.place_value k.journal_after
     ∙ ap (λ (l : List ℕ). served (held b l j)) c.keep-n.ensures.kept_after

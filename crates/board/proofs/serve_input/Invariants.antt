@@ -10,7 +10,7 @@ use Rattle.board.proofs.serve_input.Given as goal
 abbrev pub invariant-loop : goal.invariant-loop
 invariant-loop g l = record {
   kept_within : l.s.kept ≤ cut_line;
-  written : l.s.out.place ≡ 0;
+  written : l.s.place ≡ 0;
   room_kept : length l.kept ≡ cut_line;
   room_journal : length l.journal ≡ buffer_length;
   is_sound : sound (board_of l.sets l.s.rest) ≡ true;
