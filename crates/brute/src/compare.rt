@@ -1,13 +1,15 @@
 // Compares the search, the matrix and the loop with the brute search on one board, and counts what came of it.
-use super::orders::{Admitted, Tried};
+use super::orders::{Orders, Place, Tried};
 use super::{orders, paths};
 use files::WORDS;
 use rules::Board;
-use search::Search;
+use search::{Order, Search};
+use std::alloc::AllocError;
+use std::fmt;
 use store::sets::PLACES;
 
 // Whether the board has a completion order, whether it has one by rising number, and whether search, matrix and loop agree.
-#[derive(Clone, Copy)]
+#[derive(Clone, Copy, Default)]
 pub struct Outcome {
     pub some: bool,
     pub rising: bool,
@@ -16,123 +18,85 @@ pub struct Outcome {
 
 // Boards, those with a completion order, those of them where the order by rising number is none,
 // those without a completion order, and those on which the brute search and the others differ.
-#[derive(Clone, Copy)]
+#[derive(Clone, Copy, Default)]
 pub struct Tally {
-    pub boards: u64,
-    pub with: u64,
-    pub not_rising: u64,
-    pub without: u64,
-    pub different: u64,
+    boards: u64,
+    with: u64,
+    not_rising: u64,
+    without: u64,
+    different: u64,
 }
 
-// Whether `at` is 0 from place n on.
-fn zero_from(at: [u8; 32], n: usize) -> bool {
-    let mut i: usize = n;
-    while i < 32 {
-        if at[i] != 0 {
-            return false;
+impl Tally {
+    // With what came of one board more.
+    pub fn counted(self, o: Outcome) -> Tally {
+        let not_rising = o.some && !o.rising;
+        Tally {
+            boards: self.boards.saturating_add(1),
+            with: self.with.saturating_add(u64::from(o.some)),
+            not_rising: self.not_rising.saturating_add(u64::from(not_rising)),
+            without: self.without.saturating_add(u64::from(!o.some)),
+            different: self.different.saturating_add(u64::from(!o.agrees)),
         }
-        i += 1;
     }
-    true
+
+    // With what came of other boards.
+    pub fn and(self, t: Tally) -> Tally {
+        Tally {
+            boards: self.boards.saturating_add(t.boards),
+            with: self.with.saturating_add(t.with),
+            not_rising: self.not_rising.saturating_add(t.not_rising),
+            without: self.without.saturating_add(t.without),
+            different: self.different.saturating_add(t.different),
+        }
+    }
 }
 
-// Whether the order found, the first n of `at`, is the first of all completion orders, and one of them.
-fn right_order(t: Tried, count: usize, n: usize, at: [u8; 32]) -> bool {
-    if n != count {
-        return false;
+impl fmt::Display for Tally {
+    fn fmt<W: fmt::Write>(&self, f: &mut fmt::Formatter<W>) -> fmt::Result {
+        let Tally {
+            boards,
+            with,
+            not_rising,
+            without,
+            different,
+        } = *self;
+        write!(
+            f,
+            "{boards} boards, {with} with an order, {not_rising} of these not rising, {without} without, {different} differences"
+        )
     }
-    if t.expected != 1 {
-        return false;
-    }
-    if !t.first {
-        return false;
-    }
-    zero_from(at, n)
+}
+
+// Whether the order found, the first `count` of `at`, is the first of all completion orders, and one of them.
+fn right_order(t: Tried, places: &[Place], count: usize, at: &[u8; 32]) -> bool {
+    count == places.len()
+        && t.expected == 1
+        && t.first
+        && at.iter().skip(count).all(|name| *name == 0)
 }
 
 // Whether the search's answer is what the brute search found.
-fn right_answer(kind: Search, t: Tried, count: usize, at: [u8; 32]) -> bool {
-    match kind {
-        Search::Found(n) => right_order(t, count, n, at),
+fn right_answer(order: Order, t: Tried, places: &[Place]) -> bool {
+    match order.kind {
+        Search::Found(count) => right_order(t, places, count, &order.at),
         Search::Stuck => t.orders == 0,
     }
 }
 
-// Whether all agree on a board: the search, the matrix and the loop.
-fn all_agree(b: Board, a: Admitted, kind: Search, t: Tried, at: [u8; 32]) -> bool {
-    if !right_answer(kind, t, a.count, at) {
-        return false;
-    }
-    paths::agree(b, a, t.orders == 0)
-}
-
 // Both searches on one board; the board's own order is the one that the test of a sound board gives back.
-pub fn compared(b: Board) -> Outcome {
-    let a = orders::admitted_programs(b);
+// Nothing agrees where so many programs are admitted that their orders are not tried.
+pub fn compared(orders: &Orders, b: Board) -> Result<Outcome, AllocError> {
+    let places = orders::places(orders.alloc(), &b)?;
     let mut sets = [[0u64; WORDS]; PLACES];
     let rest = store::sets::take(b, &mut sets);
-    let j = sound::judge(&sets, rest);
-    let o = j.order;
-    let at = o.at;
-    let kind = o.kind;
-    let t = orders::all_orders(a, at);
-    if a.count > 6 {
-        return Outcome {
-            some: false,
-            rising: false,
-            agrees: false,
-        };
-    }
-    Outcome {
+    let order = sound::judge(&sets, rest).order;
+    let Some(t) = orders.tried(&places, &order.at) else {
+        return Ok(Outcome::default());
+    };
+    Ok(Outcome {
         some: t.orders != 0,
         rising: t.rising,
-        agrees: all_agree(b, a, kind, t, at),
-    }
-}
-
-pub fn nothing() -> Tally {
-    Tally {
-        boards: 0,
-        with: 0,
-        not_rising: 0,
-        without: 0,
-        different: 0,
-    }
-}
-
-// x with one more if `yes`.
-fn more_if(x: u64, yes: bool) -> u64 {
-    if yes {
-        return orders::one_more(x);
-    }
-    x
-}
-
-// Whether there are completion orders, but not the one by rising number.
-fn only_not_rising(o: Outcome) -> bool {
-    if o.rising {
-        return false;
-    }
-    o.some
-}
-
-pub fn counted(t: Tally, o: Outcome) -> Tally {
-    Tally {
-        boards: orders::one_more(t.boards),
-        with: more_if(t.with, o.some),
-        not_rising: more_if(t.not_rising, only_not_rising(o)),
-        without: more_if(t.without, !o.some),
-        different: more_if(t.different, !o.agrees),
-    }
-}
-
-pub fn sum(a: Tally, b: Tally) -> Tally {
-    Tally {
-        boards: std::num::wrapping_add_u64(a.boards, b.boards),
-        with: std::num::wrapping_add_u64(a.with, b.with),
-        not_rising: std::num::wrapping_add_u64(a.not_rising, b.not_rising),
-        without: std::num::wrapping_add_u64(a.without, b.without),
-        different: std::num::wrapping_add_u64(a.different, b.different),
-    }
+        agrees: right_answer(order, t, &places) && paths::agree(b, &places, t.orders == 0),
+    })
 }

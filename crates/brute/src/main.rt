@@ -8,16 +8,17 @@ mod families;
 mod known;
 mod orders;
 mod paths;
-mod report;
 
+use orders::Orders;
 use std::io;
 
 fn main(rt: HostRuntime) -> io::Result<()> {
-    let hand = known::known_answers();
-    report::line(&rt, "boards with known answers", hand)?;
-    let small = families::small(&rt, hand)?;
-    let middle = families::middle(&rt, small)?;
-    let rings = families::rings(&rt, middle)?;
-    let total = families::large(&rt, rings)?;
-    report::line(&rt, "in all", total)
+    let orders = Orders::all(rt.alloc())?;
+    let hand = known::known_answers(&orders)?;
+    println!(rt; "boards with known answers: {hand}")?;
+    let small = families::small(&rt, &orders, hand)?;
+    let middle = families::middle(&rt, &orders, small)?;
+    let rings = families::rings(&rt, &orders, middle)?;
+    let total = families::large(&rt, &orders, rings)?;
+    println!(rt; "in all: {total}")
 }

@@ -1,18 +1,29 @@
 // The brute search: every order of a board's admitted programs, in dictionary order.
+use files::FileSet;
+use itertools::Itertools;
 use rules::{Board, Program, Standing};
+use std::alloc::{AllocError, Global};
 
-// The admitted programs of a board, lowest number first: the first `count` places of `name` and `who`.
-// A count of 7 says that there are more than six, of which no order is tried.
+// All orders of up to so many places are tried.
+const MOST: usize = 6;
+
+// For each number of places, all orders of them, in dictionary order. A place is that of an admitted program among all of these,
+// lowest number first, counted from 0.
+#[derive(Drop)]
+pub struct Orders {
+    of: Vec<Vec<Vec<usize>>>,
+}
+
+// An admitted program: its number, and the set of the places that it holds back.
 #[derive(Clone, Copy)]
-pub struct Admitted {
-    pub count: usize,
-    pub name: [u8; 6],
-    pub who: [Program; 6],
+pub struct Place {
+    pub name: u8,
+    pub held_back: u64,
 }
 
 // What came of all orders: how many are completion orders, whether the one by rising number is among them,
 // how many of them are the expected one, and whether the first of them is.
-#[derive(Clone, Copy)]
+#[derive(Clone, Copy, Default)]
 pub struct Tried {
     pub orders: u64,
     pub rising: bool,
@@ -20,303 +31,134 @@ pub struct Tried {
     pub first: bool,
 }
 
-// The places taken so far, the set of them, and what is left of the order's number.
-#[derive(Clone, Copy)]
-struct Partial {
-    place: [usize; 6],
-    taken: u64,
-    left: u64,
+// All orders of so many places.
+fn orders_of(alloc: Global, places: usize) -> Result<Vec<Vec<usize>>, AllocError> {
+    let mut orders = Vec::new(alloc);
+    for order in (0..places).permutations(alloc, places)? {
+        orders.push(order?)?;
+    }
+    Ok(orders)
 }
 
-fn is_admitted(s: Standing) -> bool {
-    match s {
-        Standing::Absent => false,
-        Standing::Running => true,
-        Standing::Waiting(_) => true,
-        Standing::Held => false,
+impl Orders {
+    pub fn all(alloc: Global) -> Result<Orders, AllocError> {
+        let mut of = Vec::new(alloc);
+        for places in 0..=MOST {
+            of.push(orders_of(alloc, places)?)?;
+        }
+        Ok(Orders { of })
+    }
+
+    // What came of all orders of the places; none where there are more than six.
+    pub fn tried(&self, places: &[Place], expected: &[u8]) -> Option<Tried> {
+        let mut tried = Tried::default();
+        for (number, order) in self.of.get(places.len())?.iter().enumerate() {
+            if is_completion_order(places, order) {
+                tried = tried.with(number == 0, is_expected(places, order, expected));
+            }
+        }
+        Some(tried)
+    }
+
+    // What the orders are kept in.
+    pub fn alloc(&self) -> Global {
+        *self.of.allocator()
     }
 }
 
-// `a` with program number `name` at its end.
-fn joined(a: Admitted, name: u8, p: Program) -> Admitted {
-    let i = a.count;
-    if i >= 6 {
-        let mut more = a;
-        more.count = 7;
-        return more;
+impl Tried {
+    // One completion order more.
+    fn with(self, is_rising: bool, is_expected: bool) -> Tried {
+        Tried {
+            orders: self.orders.saturating_add(1),
+            rising: self.rising || is_rising,
+            expected: self.expected.saturating_add(u64::from(is_expected)),
+            first: if is_expected {
+                self.orders == 0
+            } else {
+                self.first
+            },
+        }
     }
-    let mut next = a;
-    next.name[i] = name;
-    next.who[i] = p;
-    next.count = i + 1;
-    next
 }
 
-// `a` with the program at index `i`, if it is admitted.
-fn with_program(a: Admitted, b: Board, i: usize) -> Admitted {
-    if i >= 32 {
-        return a;
-    }
-    let p = b.programs[i];
-    let s = p.standing;
-    if is_admitted(s) {
-        return joined(a, (i + 1) as u8, p);
-    }
-    a
-}
-
-pub fn admitted_programs(b: Board) -> Admitted {
-    let mut a = Admitted {
-        count: 0,
-        name: [0; 6],
-        who: [Program::ABSENT; 6],
-    };
-    let mut i: usize = 0;
-    while i < 32 {
-        let more = with_program(a, b, i);
-        a = more;
-        i += 1;
-    }
-    a
+// Whether two sets have a file in common.
+fn meet(a: FileSet, b: FileSet) -> bool {
+    a.bits & b.bits != 0
 }
 
 // "I of i meets V or Q of j, or W or R of i meets J of j"
-fn holds_back_by_inquiry(i: Program, j: Program) -> bool {
-    if i.inquiring.bits & (j.writable.bits | j.readable.bits) != 0 {
-        return true;
-    }
-    (i.writing.bits | i.reading.bits) & j.inquirable.bits != 0
+fn holds_back_by_inquiry(i: &Program, j: &Program) -> bool {
+    meet(i.inquiring, j.writable)
+        || meet(i.inquiring, j.readable)
+        || meet(i.writing, j.inquirable)
+        || meet(i.reading, j.inquirable)
 }
 
 // "W of i meets V or Q of j, or R of i meets V of j"
-fn holds_back(i: Program, j: Program) -> bool {
-    if i.writing.bits & (j.writable.bits | j.readable.bits) != 0 {
-        return true;
-    }
-    if i.reading.bits & j.writable.bits != 0 {
-        return true;
-    }
-    holds_back_by_inquiry(i, j)
+fn holds_back(i: &Program, j: &Program) -> bool {
+    meet(i.writing, j.writable)
+        || meet(i.writing, j.readable)
+        || meet(i.reading, j.writable)
+        || holds_back_by_inquiry(i, j)
 }
 
-// The set that holds only place `i`.
-pub fn only(i: usize) -> u64 {
-    if i < 6 {
-        return 1u64 << i;
-    }
-    0
+// The set that holds only a place.
+pub fn only(place: usize) -> u64 {
+    if place < 64 { 1 << place } else { 0 }
 }
 
-// Only place `j`, if it is another than `i` and is held back by it.
-fn back_bit(a: Admitted, i: usize, j: usize) -> u64 {
-    if i == j {
-        return 0;
-    }
-    if i >= 6 {
-        return 0;
-    }
-    if j >= 6 {
-        return 0;
-    }
-    if holds_back(a.who[i], a.who[j]) {
-        return only(j);
-    }
-    0
-}
-
-// The places that the program at place `i` holds back.
-fn held_back_by(a: Admitted, i: usize) -> u64 {
+// The places of the others that the program at place `i` holds back.
+fn held_back_by(i: usize, admitted: &[(u8, Program)]) -> u64 {
     let mut set = 0;
-    let mut j: usize = 0;
-    while j < a.count {
-        set = set | back_bit(a, i, j);
-        j += 1;
+    for (j, (_, other)) in admitted.iter().enumerate() {
+        if i != j && admitted.get(i).is_some_and(|(_, p)| holds_back(p, other)) {
+            set |= only(j);
+        }
     }
     set
 }
 
-pub fn stored(xs: [u64; 6], i: usize, x: u64) -> [u64; 6] {
-    if i >= 6 {
-        return xs;
-    }
-    let mut ys = xs;
-    ys[i] = x;
-    ys
-}
-
-// For each place, the places that it holds back.
-pub fn all_held_back(a: Admitted) -> [u64; 6] {
-    let mut sets = [0; 6];
-    let mut i: usize = 0;
-    while i < a.count {
-        let more = stored(sets, i, held_back_by(a, i));
-        sets = more;
-        i += 1;
-    }
-    sets
-}
-
-// n!, up to 6.
-fn factorial(n: usize) -> u64 {
-    match n {
-        0 => 1,
-        1 => 1,
-        2 => 2,
-        3 => 6,
-        4 => 24,
-        5 => 120,
-        6 => 720,
-        _ => 0,
-    }
-}
-
-// The lowest place that is not taken, after `skip` others that are not.
-fn free_place(taken: u64, skip: u64) -> usize {
-    let mut passed: u64 = 0;
-    let mut i: usize = 0;
-    while i < 6 {
-        if taken & only(i) == 0 {
-            if passed == skip {
-                return i;
-            }
-            passed = one_more(passed);
+// The numbers of the admitted programs of a board, and these programs.
+fn admitted(alloc: Global, b: &Board) -> Result<Vec<(u8, Program)>, AllocError> {
+    let mut admitted = Vec::new(alloc);
+    for (name, p) in (1..=32).zip(&b.programs) {
+        if matches!(p.standing, Standing::Running | Standing::Waiting(_)) {
+            admitted.push((name, *p))?;
         }
-        i += 1;
     }
-    0
+    Ok(admitted)
 }
 
-// Chooses place `i` of the order, with `rest` places after it.
-fn chosen(p: Partial, i: usize, rest: usize) -> Partial {
-    let each = factorial(rest);
-    if each == 0 {
-        return p;
+// The places of a board's admitted programs.
+pub fn places(alloc: Global, b: &Board) -> Result<Vec<Place>, AllocError> {
+    let admitted = admitted(alloc, b)?;
+    let mut places = Vec::new(alloc);
+    for (i, (name, _)) in admitted.iter().enumerate() {
+        places.push(Place {
+            name: *name,
+            held_back: held_back_by(i, &admitted),
+        })?;
     }
-    if i >= 6 {
-        return p;
-    }
-    let next = free_place(p.taken, p.left / each);
-    let mut place = p.place;
-    place[i] = next;
-    Partial {
-        place: place,
-        taken: p.taken | only(next),
-        left: p.left % each,
-    }
+    Ok(places)
 }
 
-// Order `number` of n places, counted from 0 in dictionary order.
-fn nth_order(n: usize, number: u64) -> [usize; 6] {
-    let mut p = Partial {
-        place: [0; 6],
-        taken: 0,
-        left: number,
-    };
-    let mut i: usize = 0;
-    while i < n {
-        let more = chosen(p, i, n - i - 1);
-        p = more;
-        i += 1;
-    }
-    p.place
-}
-
-pub fn name_at(xs: [u8; 6], i: usize) -> u8 {
-    if i < 6 {
-        return xs[i];
-    }
-    0
-}
-
-pub fn place_at(xs: [usize; 6], i: usize) -> usize {
-    if i < 6 {
-        return xs[i];
-    }
-    0
-}
-
-pub fn set_at(xs: [u64; 6], i: usize) -> u64 {
-    if i < 6 {
-        return xs[i];
-    }
-    0
-}
-
-// Whether none of the first n of `place` is held back by a later one: no place holds back one before it.
-fn is_completion_order(back: [u64; 6], place: [usize; 6], n: usize) -> bool {
-    let mut before: u64 = 0;
-    let mut i: usize = 0;
-    while i < n {
-        let p = place_at(place, i);
-        if set_at(back, p) & before != 0 {
+// Whether no place of the order holds back one before it.
+fn is_completion_order(places: &[Place], order: &[usize]) -> bool {
+    let mut before = 0;
+    for i in order {
+        if places.get(*i).is_some_and(|p| p.held_back & before != 0) {
             return false;
         }
-        before = before | only(p);
-        i += 1;
+        before |= only(*i);
     }
     true
 }
 
-// Whether the programs at the first n of `place` are the first n of `at`.
-fn is_expected(a: Admitted, place: [usize; 6], at: [u8; 32]) -> bool {
-    let n = a.count;
-    let name = a.name;
-    let mut i: usize = 0;
-    while i < n {
-        if i >= 32 {
-            return false;
-        }
-        let p = place_at(place, i);
-        if name_at(name, p) != at[i] {
-            return false;
-        }
-        i += 1;
-    }
-    true
-}
-
-// One more, if there is room for it.
-pub fn one_more(x: u64) -> u64 {
-    if x == 18446744073709551615 {
-        return x;
-    }
-    x + 1
-}
-
-// `t` after one more order.
-fn with_order(t: Tried, a: Admitted, back: [u64; 6], number: u64, at: [u8; 32]) -> Tried {
-    let place = nth_order(a.count, number);
-    if !is_completion_order(back, place, a.count) {
-        return t;
-    }
-    let mut next = t;
-    next.orders = one_more(t.orders);
-    if number == 0 {
-        next.rising = true;
-    }
-    if !is_expected(a, place, at) {
-        return next;
-    }
-    next.expected = one_more(t.expected);
-    next.first = t.orders == 0;
-    next
-}
-
-// Tries every order of the admitted programs.
-pub fn all_orders(a: Admitted, at: [u8; 32]) -> Tried {
-    let back = all_held_back(a);
-    let end = factorial(a.count);
-    let mut t = Tried {
-        orders: 0,
-        rising: false,
-        expected: 0,
-        first: false,
-    };
-    let mut number: u64 = 0;
-    while number < end {
-        let more = with_order(t, a, back, number, at);
-        t = more;
-        number += 1;
-    }
-    t
+// Whether the programs of the order are the first of the expected ones.
+fn is_expected(places: &[Place], order: &[usize], expected: &[u8]) -> bool {
+    order.len() <= expected.len()
+        && order.iter().zip(expected).all(|(i, name)| places
+            .get(*i)
+            .is_some_and(|p| p.name == *name))
 }
