@@ -19,7 +19,7 @@ use Rattle.files.specs.Bits.{has_bit}
 use Rattle.files.proofs.Bits.{most, has-bit, zero_has, without-number-same, without-number-other}
 use Rattle.rules.specs.declared.Board.{Board}
 use Rattle.laws.specs.Lists.{any, all, found, rising, listed}
-use Rattle.rules.specs.Modes.{Write}
+use Rattle.rules.specs.declared.Mode.TheVariants.{Write}
 use Rattle.rules.specs.Boards.{is_program, is_admitted, everyone, at, admitted, claims, set_program, opening}
 use Rattle.rules.specs.Orders.{carried, with_given}
 use Rattle.rules.specs.Digraph.{is_in, step, reaches, is_loop_of, is_loop_with}

@@ -15,7 +15,7 @@ ghost use Rattle.digraph.specs.Loops.{list_of, named, lowest_holder, LoopFor, Lo
 use crate::Loop;
 use files::WORDS;
 use parts::standings;
-use rules::Board;
+use rules::{Board, Mode};
 use store::sets::{PLACES, Sets};
 use store::{Rest, sets};
 use tables::ProgramSet;
@@ -202,7 +202,7 @@ fn is_loop_by(b: Board, p: u8, f: u16, l: &[u8]) -> bool
     if !standings::is_admitted(store::standing_at(rest, p)) {
         return false;
     }
-    if !sets::has_claim(&sets, p, f, 0) {
+    if !sets::has_claim(&sets, p, f, Mode::Write) {
         return false;
     }
     sets::give(&mut sets, p, f);

@@ -75,10 +75,6 @@ open_at sets p m = set_in sets (open_place m (p - 1))
 abbrev pub mode_at : Sets → ℕ → ℕ → Mode
 mode_at sets p f = cond (member (claim_at sets p Write) f) Write (cond (member (claim_at sets p Read) f) Read Inquiry)
 
--- the mode with a number, as the code has it: 0 for writing, 1 for reading, and else for inquiry
-abbrev pub mode_numbered : ℕ → Mode
-mode_numbered n = cond (eqb n 0) Write (cond (eqb n 1) Read Inquiry)
-
 -- p claims f in a mode that clashes with m
 abbrev pub claims_at : Sets → ℕ → Mode → ℕ → Bool
 claims_at sets f m p = some_mode (λ n. clashing m n && member (claim_at sets p n) f)
