@@ -62,9 +62,19 @@ fn opens_claimed(sets: &Sets, p: u8) -> bool
     requires { ((1 ≤ p) × (p ≤ 32)) × IsStore sets.now }
     ensures { result ≡ each_mode (λ m. within (open_at sets.now p m) (claim_at sets.now p m)) }
 {
-    is_within(sets, sets::open_at(Mode::Write, p), sets::claim_at(Mode::Write, p))
-        && is_within(sets, sets::open_at(Mode::Read, p), sets::claim_at(Mode::Read, p))
-        && is_within(sets, sets::open_at(Mode::Inquiry, p), sets::claim_at(Mode::Inquiry, p))
+    is_within(
+        sets,
+        sets::open_at(Mode::Write, p),
+        sets::claim_at(Mode::Write, p),
+    ) && is_within(
+        sets,
+        sets::open_at(Mode::Read, p),
+        sets::claim_at(Mode::Read, p),
+    ) && is_within(
+        sets,
+        sets::open_at(Mode::Inquiry, p),
+        sets::claim_at(Mode::Inquiry, p),
+    )
 }
 
 // Two of V, Q and J share a file.

@@ -2,7 +2,6 @@
 use Rattle.std.proofs.Common.{length}
 use Rattle.laws.specs.Lists.{keep}
 use Rattle.rules.specs.Boards.{everyone}
-
 use Rattle.search.proofs.Stages.{to_ask}
 use Rattle.search.proofs.Deciding.{Here}
 use Rattle.search.proofs.gives.is_safe_from.Given as goal
