@@ -32,12 +32,6 @@ module _ (l : List ℕ) (k : ℕ) where
   unfolding names
   names_end h = rw (drop_of_length-le l h)
 
-pub names_short : (l : List ℕ) → length (names l) ≤ length l
-unfolding names
-names_short [] = omega arith
-names_short (x ∷ l) =
-    by_test (eqb x 0) (λ e. rw e (omega arith)) (λ e. let h = names_short l in rw e (omega arith))
-
 -- ---- a list in 32 places, with one more
 
 pub padded_push : {A : Type 0} (z : A) (l : List A) (x : A) → length l < 32 → set (padded z l) (length l) x ≡ padded z (l ++ (x ∷ []))
