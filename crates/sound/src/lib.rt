@@ -216,7 +216,7 @@ fn takes_all(line: [u8; 32], set: ProgramSet) -> bool
     left.bits == 0
 }
 
-// Whether the line names nobody and is 0 throughout.
+// Whether the line names nobody and is 0 throughout; the places are joined, so that none of them is a branch.
 #[tactic(auto, using(crate::proofs::Blank::blank_fold))]
 fn is_blank(line: [u8; 32]) -> bool
     ensures { result ≡ all (λ x. eqb x 0) line }
@@ -314,9 +314,10 @@ fn favour_sound(rest: Rest, waiters: ProgramSet, held: ProgramSet, admitted: Pro
     ensures { FavourSound rest waiters held admitted result }
 {
     if rest.favoured == 0 {
-        return none_favoured(rest, held);
+        none_favoured(rest, held)
+    } else {
+        some_favoured(rest, waiters, admitted)
     }
-    some_favoured(rest, waiters, admitted)
 }
 
 // The count of a program with this standing: not above 8, and 0 unless it waits.
