@@ -1,9 +1,8 @@
 -- Laws of the loop that an answer carries. Assumes nothing.
 use Prim.Native.Nat.{ℕ}
 use mathlib.Core.Path.{◌≡◌, sym, ◌∙◌, ap, subst}
-use mathlib.Core.Logic.{◌⊎◌, inl, inr, ⊎_elim}
+use mathlib.Core.Logic.{inl, inr, ⊎_elim}
 use mathlib.Core.Bool.{true, false, ◌&&◌}
-use mathlib.Core.List.{[]}
 use lib.ListN.{get_or}
 use Rattle.laws.specs.Tests.{never, and_left, and_both}
 use Rattle.rules.specs.declared.Line.{Line}
@@ -13,19 +12,14 @@ use Rattle.rules.specs.Boards.{is_program, is_admitted, is_waiting, at, claims, 
 use Rattle.rules.specs.Soundness.{sound}
 use Rattle.rules.specs.Orders.{with_given, safe}
 use Rattle.rules.specs.Replies.{blank}
-use Rattle.rules.specs.Calls.{Call, direct}
-use Rattle.rules.specs.Digraph.{is_in, step, is_loop_of, is_loop_with, loop_for, is_unsafe, may_carry}
+use Rattle.rules.specs.Calls.{Call}
+use Rattle.rules.specs.Digraph.{is_in, step, is_loop_of, is_loop_with, loop_for, is_unsafe}
 use Rattle.theory.specs.Programs.{Is, of_is}
 use Rattle.theory.specs.Calls.{claims_file}
 use Rattle.theory.specs.Loose.{waiting_in}
 use Rattle.theory.proofs.Digraph.{waiter_claims, waiter_unsafe, unsafe_open}
 use Rattle.digraph.specs.declared.Loop.{Loop}
 use Rattle.digraph.specs.Loops.{named, LoopOf, LoopOfWaiter, LoopWith, CarriedBy}
-
--- an answer other than UNSAFE carries none
-pub carries_none : (b : Board) (r : Reply) → is_unsafe r.answer ≡ false → (c : Call) → (r ≡ direct b c) ⊎ (is_unsafe r.answer ≡ false)
-    → may_carry b c r.answer [] ≡ true
-carries_none b r e c _ = rw e
 
 -- a loop with the file given, where no order comes back with it given
 pub given_by : (b : Board) (p f : ℕ) (l : Loop) → LoopOf (with_given b p f) l → is_in b p ≡ true → claims (at b p) f ≡ true

@@ -1,15 +1,14 @@
 -- Laws of the rows and of their closing. Assumes nothing.
-use Prim.Native.Nat.{ℕ, suc, ◌+◌, ◌-◌, ◌≤◌, ◌<◌}
+use Prim.Native.Nat.{ℕ, suc, ◌-◌, ◌≤◌, ◌<◌}
 use native.Mathlib.Nat.{zero-add}
 use native.Mathlib.Omega.{arith}
 use mathlib.Core.Path.{◌≡◌, refl, sym, ◌∙◌, ap, ap₂}
-use mathlib.Core.Logic.{◌≢◌}
 use mathlib.Core.Bool.{Bool, true, false, not, cond, ◌&&◌, ◌||◌, or-false}
 use mathlib.Core.List.{List}
 use lib.Dec.{eqb}
 use lib.Bits.{or_lt}
-use lib.ListN.{length, get_or, set, length-set}
-use lib.Seq.{ext_get_or, get_or-set_same, get_or-set_other}
+use lib.ListN.{length, get_or}
+use lib.Seq.{ext_get_or}
 use borrow.Author.Tests.{eqb-true, eqb-false}
 use Rattle.laws.specs.Tests.{by_test, never, and_left, and_right, no_true, same_test, and_false}
 use Rattle.files.specs.Bits.{is_number, has_bit}
@@ -111,22 +110,6 @@ steps_are b sets s = places_same _ _ 32 0 (λ i h k. by_test (has_program a (suc
 abbrev pub MappedTo : (ProgramSet → ProgramSet) → List ℕ → ℕ → List ℕ → Type 0
 MappedTo f before n after = (length after ≡ 32) × ((j : ℕ) → j < n → row_in after j ≡ f (row_in before j))
     × ((j : ℕ) → n ≤ j → get_or after j 0 ≡ get_or before j 0)
-
-pub mapped_none : (f : ProgramSet → ProgramSet) (before : List ℕ) → length before ≡ 32 → MappedTo f before 0 before
-mapped_none f before n = (n, λ j m. absurd (omega arith), λ j m. refl)
-
-pub mapped_more : (f : ProgramSet → ProgramSet) (before : List ℕ) (n : ℕ) (after : List ℕ) (r : ProgramSet) → n < 32
-    → MappedTo f before n after → r ≡ f (row_in after n) → MappedTo f before (n + 1) (set after n r.bits)
-mapped_more f before n after r h (k, u, v) e = (
-  length-set after n r.bits ∙ k,
-  λ j m. by_test (eqb j n)
-      (λ t. let z : j ≡ n = eqb-true j n t in rw z (
-      ap {B = ProgramSet} (λ x. record { bits = x }) (get_or-set_same after n r.bits 0 (omega arith)) ∙ e
-      ∙ ap f (ap {B = ProgramSet} (λ x. record { bits = x }) (v n (omega arith)))))
-      (λ t. let z : j ≢ n = eqb-false j n t in
-      ap {B = ProgramSet} (λ x. record { bits = x }) (get_or-set_other after n j r.bits 0 z) ∙ u j (omega arith)),
-  λ j m. get_or-set_other after n j r.bits 0 (omega arith) ∙ v j (omega arith),
-)
 
 -- ---- by way of one more
 

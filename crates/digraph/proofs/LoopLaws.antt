@@ -6,11 +6,11 @@ use mathlib.Core.Path.{◌≡◌, refl, sym, ◌∙◌, ap, subst}
 use mathlib.Core.Logic.{◌≢◌}
 use mathlib.Core.Bool.{Bool, true, false, not, ◌&&◌}
 use mathlib.Core.List.Memᴰ
-use mathlib.Core.List.{List, [], ◌∷◌, ◌++◌}
+use mathlib.Core.List.{List, [], ◌∷◌}
 use mathlib.Core.Option.{none, some}
 use lib.Dec.{eqb}
-use lib.ListN.{length, get_or, set, take, drop, length-set, length-drop}
-use lib.Seq.{drop-cons, drop-set-lt, get_or-set_same, take_at, take-length, length-take-le}
+use lib.ListN.{length, get_or, set, take, drop, length-set}
+use lib.Seq.{drop-cons, drop-set-lt, get_or-set_same}
 use borrow.Author.Tests.{eqb-true, eqb-false, eq-eqb, ne_eqb, lt-leb, ltb-true, ltb-false}
 use Rattle.std.specs.Prelude.{nat_lt, position, Some, None}
 use Rattle.std.specs.List.{position_or_len}
@@ -263,13 +263,6 @@ place_up_to y (x ∷ c) h = by_test (eqb x y) (λ u. rw u)
 drop_set_at : (l : List ℕ) (i x : ℕ) → i < length l → drop i (set l i x) ≡ x ∷ drop (suc i) l
 drop_set_at l i x h = let k : i < length (set l i x) = rw (length-set l i x) h in
     drop-cons (set l i x) i 0 k ∙ rw (get_or-set_same l i x 0 h, drop-set-lt (suc i) l i x (omega arith))
-
--- what a copy of the n numbers from place k on begins with
-pub copied : (at : List ℕ) (k n m : ℕ) (dst after : List ℕ) → k + n ≤ length at → m ≡ n
-    → after ≡ take (length (take m (drop k at))) (take m (drop k at)) ++ drop (length (take m (drop k at))) dst → take n after ≡ take n (drop k at)
-copied at k n m dst after h z e = let i : length (drop k at) ≡ length at - k = length-drop k at in let src = take n (drop k at) in
-    let j : length src ≡ n = length-take-le n (drop k at) (omega arith) in
-    ap (take n) (e ∙ rw z) ∙ ap (λ l. take n (l ++ drop (length src) dst)) (take-length src) ∙ take_at src (drop (length src) dst) n j
 
 -- ---- one step back
 

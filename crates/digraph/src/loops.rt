@@ -23,7 +23,7 @@ use tables::ProgramSet;
 // ---- the test
 
 // All programs.
-const ALL: ProgramSet = ProgramSet { bits: 4294967295 };
+const ALL: ProgramSet = ProgramSet { bits: u32::MAX };
 
 // The row of program p.
 fn row_of(rows: &[u32; 32], p: u8) -> ProgramSet
