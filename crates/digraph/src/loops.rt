@@ -97,7 +97,7 @@ fn loop_at(at: [u8; 32], k: usize, n: usize) -> Loop
     ensures { (named result ≡ take n (drop k at)) × (result.count ≤ 32) }
 {
     let mut first = [0u8; 32];
-    copies::copy(&at[k..k + n], &mut first);
+    first[..n].copy_from_slice(&at[k..k + n]);
     Loop {
         at: first,
         count: n,
