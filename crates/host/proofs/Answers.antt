@@ -20,23 +20,23 @@ use Rattle.rules.specs.Replies.{refusal_of, refused, word_of, refuse, reply, set
 use Rattle.rules.specs.Calls.{Call, Enter, Open, Close, Drop, Leave, Cancel, Fetch, Return, program_of, file_of, item_of, direct}
 use Rattle.theory.specs.Answers.{answer-first}
 use Rattle.reply.proofs.Laws.{refused_by}
-use Rattle.request.specs.declared.Reading.{Reading}
-use Rattle.request.specs.declared.Request.{Request}
-use Rattle.request.specs.Requests.{request_of, request_call}
+use Rattle.std.specs.Prelude.{Ok, Err, is_ok}
+use Rattle.rules.specs.declared.Asked.{Asked}
+use Rattle.request.specs.Requests.{Request, asked_in, request_of, request_call}
 use Rattle.request.specs.Law.{saying}
 use Rattle.request.proofs.Lines.{read-line}
 use Rattle.journal.specs.Journal.{journal_line, line_bytes, lines_bytes, written}
 use Rattle.journal.proofs.Laws.{line-length}
-use Rattle.linecall.specs.LineCall.{lines_for, reply_by, reply_to}
+use Rattle.linecall.specs.LineCall.{lines_for, reply_to}
 use Rattle.linecall.proofs.Laws.{own_lines, refused-lines}
 use Rattle.host.specs.Promises.{answer_line}
 use Rattle.host.proofs.Laws.{number_some}
 
 -- ---- answers and readings
 
-pub by_reading : {C : Type 0} (r : Reading) → (r ≡ Reading.Taken → C) → ((n : Refusal) → r ≡ Reading.Refused n → C) → C
-by_reading Reading.Taken f g = f refl
-by_reading (Reading.Refused n) f g = g n refl
+pub by_request : {C : Type 0} (q : Request) → ((a : Asked) → q ≡ Ok a → C) → ((n : Refusal) → q ≡ Err n → C) → C
+by_request (Ok a) f g = f a refl
+by_request (Err n) f g = g n refl
 
 -- an answer that is no refusal has no number
 pub accepted-number : (a : Answer) → refused a ≡ false → refusal_of a ≡ 0
@@ -65,7 +65,7 @@ number_word (Answer.Refuse r) h = refl
 -- ---- the first line
 
 -- the program, the file and the record of the line that asks for a call
-says-program : (c : Call) → (saying c).asked.program ≡ program_of c
+says-program : (c : Call) → (asked_in (saying c)).program ≡ program_of c
 says-program (Enter p v q j) = refl
 says-program (Open p f) = refl
 says-program (Close p f) = refl
@@ -75,7 +75,7 @@ says-program (Cancel p) = refl
 says-program (Fetch p f r) = refl
 says-program (Return p) = refl
 
-says-file : (c : Call) → (saying c).asked.file ≡ file_of c
+says-file : (c : Call) → (asked_in (saying c)).file ≡ file_of c
 says-file (Enter p v q j) = refl
 says-file (Open p f) = refl
 says-file (Close p f) = refl
@@ -85,7 +85,7 @@ says-file (Cancel p) = refl
 says-file (Fetch p f r) = refl
 says-file (Return p) = refl
 
-says-item : (c : Call) → (saying c).asked.item ≡ item_of c
+says-item : (c : Call) → (asked_in (saying c)).item ≡ item_of c
 says-item (Enter p v q j) = refl
 says-item (Open p f) = refl
 says-item (Close p f) = refl
@@ -109,7 +109,7 @@ taken-first b q c e z =
 refused-first : (q : Request) (r : Reply) → eqb (refusal_of r.answer) 0 ≡ false → lines_for q r ≡ answer_line q r.answer ∷ []
 refused-first q r z =
     refused-lines q r (eqb-false (refusal_of r.answer) 0 z)
-    ∙ ap (λ (w : Word). record { word = w; program = q.asked.program; file = q.asked.file; refusal = refusal_of r.answer; item = q.asked.item } ∷ [])
+    ∙ ap (λ (w : Word). record { word = w; program = (asked_in q).program; file = (asked_in q).file; refusal = refusal_of r.answer; item = (asked_in q).item } ∷ [])
     (number_word r.answer z)
 
 -- what a request line is answered begins with the line of its answer
@@ -118,14 +118,15 @@ pub first-line : (b : Board) (l : List ℕ) → (ls : List Line) × (lines_for (
 unfolding reply_to refuse reply
 first-line b l =
     by_test (eqb (refusal_of (reply_to b (request_of l)).answer) 0)
-    (λ z. by_reading (request_of l).reading
-    (λ t. let e : reply_to b (request_of l) ≡ direct b (request_call (request_of l)) = ap (λ (x : Reading). reply_by b x (request_call (request_of l))) t in (
+    (λ z. by_request (request_of l)
+    (λ a t. let e : reply_to b (request_of l) ≡ direct b (request_call (request_of l)) =
+    ap (reply_to b) t ∙ ap (λ (q : Request). direct b (request_call q)) (sym t) in (
       settling_lines (reply_to b (request_of l)),
       subst (λ (r : Reply). lines_for (request_of l) r ≡ answer_line (request_of l) r.answer ∷ settling_lines r)
-          (sym e) (taken-first b (request_of l) (request_call (request_of l)) (read-line l t).call
+          (sym e) (taken-first b (request_of l) (request_call (request_of l)) (read-line l (ap (λ (q : Request). is_ok q) t)).call
           (ap (λ (r : Reply). eqb (refusal_of r.answer) 0) (sym e) ∙ z)),
     ))
-    (λ r t. never (ap (λ (x : Reading). eqb (refusal_of (reply_by b x (request_call (request_of l))).answer) 0) (sym t) ∙ z) (number_some r)))
+    (λ r t. never (ap (λ (q : Request). eqb (refusal_of (reply_to b q).answer) 0) (sym t) ∙ z) (number_some r)))
     (λ z. ([], refused-first (request_of l) (reply_to b (request_of l)) z))
 
 -- ---- its bytes

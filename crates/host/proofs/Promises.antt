@@ -20,15 +20,15 @@ use Rattle.rules.specs.declared.Line.{Line}
 use Rattle.rules.specs.declared.Reply.{Reply}
 use Rattle.rules.specs.Boards.{empty_board}
 use Rattle.rules.specs.Soundness.{sound}
-use Rattle.rules.specs.Replies.{number, refusal_of, refused, reply, refuse, refuse_unsound}
+use Rattle.rules.specs.Replies.{order_of, number, refusal_of, refused, reply, refuse, refuse_unsound}
 use Rattle.rules.specs.Checks.{enter_check, open_check, leave_check}
 use Rattle.rules.specs.Worked.{worked_from, worked}
-use Rattle.rules.specs.Calls.{Call, Enter, Open, Leave, checked, accepted, apply, direct}
+use Rattle.rules.specs.Calls.{Call, Enter, Open, Leave, call_of, checked, accepted, apply, direct}
 use Rattle.theory.specs.Calls.{by_check, apply-accepted, apply-refused}
 use Rattle.theory.specs.Worked.{worked-sound, direct_is_apply, reply-order, order-carried as apply-order}
 use Rattle.theory.specs.Answers.{accepted-answered}
-use Rattle.request.specs.declared.Reading.{Reading}
-use Rattle.request.specs.Requests.{request_of, request_call}
+use Rattle.std.specs.Prelude.{Ok, Err, is_ok}
+use Rattle.request.specs.Requests.{Request, request_of, request_call}
 use Rattle.request.specs.Law.{InRange, saying}
 use Rattle.request.proofs.Verbs.{call_good}
 use Rattle.request.proofs.Lines.{line_read, read-line}
@@ -38,13 +38,13 @@ use Rattle.image.specs.Image.{image_of}
 use Rattle.image.proofs.RoundTrip.{loaded_back, loaded_again}
 use Rattle.linecall.specs.LineCall.{Outcome, journal_full, lines_for, reply_to, stopped, posted, line_call}
 use Rattle.linecall.proofs.Laws.{call_unsound, call_full, room, refused-same}
-use Rattle.host.specs.Host.{Hosted, hosted_by}
+use Rattle.host.specs.Host.{Hosted, order_now, hosted_by, host_call}
 use Rattle.host.specs.Promises.{LineDoesItsCall, LineRefused, RefusedKeepsBoard, WritesNothing, OtherBytesKept, ReadsBack}
 use Rattle.host.specs.Promises.{AcceptedIsWritten, RefusedKeepsImage, LineNeverOutOfRange, DirectOutOfRange}
 use Rattle.host.specs.Promises.{AnswerWrittenFirst, OrderCarried}
 use Rattle.host.proofs.Laws.{number_some, image_read, image_sound, host_refused, host_called, image_kept}
 use Rattle.host.proofs.Range.{of_line, line_reads, not_eight, range_checked}
-use Rattle.host.proofs.Answers.{by_reading, accepted-number, number-accepted, first-line, written-first}
+use Rattle.host.proofs.Answers.{by_request, accepted-number, number-accepted, first-line, written-first}
 
 -- ══ Lines ══
 
@@ -82,7 +82,7 @@ writes_nothing b line journal place k = by_test (sound b)
 not_eight_lem : (r : Refusal) → not_eight (Err r) ≡ true → number r ≢ 8
 not_eight_lem r h e = never (eq-eqb (number r) 8 e) (not_true (eqb (number r) 8) h)
 
-of_line_lem : (r : Refusal) → of_line (Reading.Refused r) ≡ true → number r ≢ 8
+of_line_lem : (r : Refusal) → of_line (Err r) ≡ true → number r ≢ 8
 of_line_lem r h e = let k = leb-true (number r) 7 (and_right (leb 3 (number r)) (leb (number r) 7) h) in omega (arith, k, e)
 
 direct_range : (b : Board) (c : Call) → InRange c → refusal_of (direct b c).answer ≢ 8
@@ -100,9 +100,10 @@ unfolding line_call posted reply_to refuse reply refuse_unsound
 line_never_out_of_range b line journal place e =
     by_test (sound b)
     (λ s. by_test (journal_full (length journal) place) (λ f. let z : 2 ≡ 8 = rw (s, f) at e in omega (arith, z))
-    (λ f. by_reading (request_of line).reading
-    (λ t. direct_range b (request_call (request_of line)) (read-line line t).range (rw (s, f, t) at e))
-    (λ r t. of_line_lem r (ap of_line (sym t) ∙ line_reads line) (rw (s, f, t) at e))))
+    (λ f. let d : refusal_of (reply_to b (request_of line)).answer ≡ 8 = rw (s, f) at e in by_request (request_of line)
+    (λ a t. direct_range b (request_call (request_of line)) (read-line line (ap (λ (q : Request). is_ok q) t)).range
+    (ap (λ (q : Request). refusal_of (direct b (request_call q)).answer) t ∙ ap (λ (q : Request). refusal_of (reply_to b q).answer) (sym t) ∙ d))
+    (λ r t. of_line_lem r (ap of_line (sym t) ∙ line_reads line) (ap (λ (q : Request). refusal_of (reply_to b q).answer) (sym t) ∙ d))))
     (λ s. let z : 1 ≡ 8 = rw s at e in omega (arith, z))
 
 empty_out : (c : Call) → checked empty_board c ≡ Err Refusal.OutOfRange → refusal_of (direct empty_board c).answer ≡ 8
@@ -156,13 +157,16 @@ other_bytes_kept b line journal place i k =
 
 -- ══ The order ══
 
+reply_order : (b : Board) (q : Request) → sound b ≡ true → order_of (reply_to b q) ≡ order_now (reply_to b q).board
+unfolding reply_to refuse reply
+reply_order b (Ok a) s = rw (direct_is_apply b (call_of a) s) (apply-order b (call_of a))
+reply_order b (Err r) s = reply-order b (Answer.Refuse r) []
+
 pub order-carried : OrderCarried
-unfolding line_call posted reply_to refuse reply
+unfolding line_call posted refuse reply
 order-carried b line journal place s =
     by_test (journal_full (length journal) place) (λ f. rw (s, f) (reply-order b (Answer.Refuse Refusal.JournalFull) []))
-    (λ f. rw (s, f) (by_reading (request_of line).reading
-    (λ t. rw (t, direct_is_apply b (request_call (request_of line)) s) (apply-order b (request_call (request_of line))))
-    (λ r t. rw t (reply-order b (Answer.Refuse r) []))))
+    (λ f. rw (s, f) (reply_order b (request_of line) s))
 
 -- ══ The image ══
 

@@ -16,9 +16,9 @@ use Rattle.rules.specs.Modes.{claims_meet}
 use Rattle.rules.specs.Checks.{Check, refuse_if, unless_running, unless_using, unless_stopped, is_record}
 use Rattle.rules.specs.Checks.{enter_check, open_check, close_check, fetch_check, return_check, leave_check, cancel_check}
 use Rattle.rules.specs.Calls.{Call, Enter, Open, Close, Drop, Leave, Cancel, Fetch, Return, checked}
-use Rattle.request.specs.declared.Reading.{Reading}
+use Rattle.std.specs.Prelude.{Ok, Err}
 use Rattle.request.specs.declared.Shape.{Shape}
-use Rattle.request.specs.Requests.{request_of, asked_by}
+use Rattle.request.specs.Requests.{Request, request_of, asked_by}
 use Rattle.request.specs.Law.{InRange}
 use Rattle.request.proofs.Ways.{line_ways}
 use Rattle.writer.proofs.Law.{range_test, record_test}
@@ -26,13 +26,13 @@ use Rattle.writer.proofs.Law.{range_test, record_test}
 -- ══ A line's own refusals ══
 
 -- taken, or refused with 3 to 7
-abbrev pub of_line : Reading → Bool
-of_line Reading.Taken = true
-of_line (Reading.Refused r) = leb 3 (number r) && leb (number r) 7
+abbrev pub of_line : Request → Bool
+of_line (Ok a) = true
+of_line (Err r) = leb 3 (number r) && leb (number r) 7
 
-pub line_reads : (l : List ℕ) → of_line (request_of l).reading ≡ true
+pub line_reads : (l : List ℕ) → of_line (request_of l) ≡ true
 line_reads l =
-    line_ways (λ q. of_line q.reading ≡ true)
+    line_ways (λ q. of_line q ≡ true)
     (record {
       no-verb = refl;
       length = refl;

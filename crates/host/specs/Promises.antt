@@ -1,6 +1,6 @@
 -- What demands 1 and 2 say of a line call and of a C host's call, as types. proofs/Promises.antt proves each.
 -- Assumes nothing.
-use Rattle.std.specs.Prelude.{ℕ, None, Some, ◌+◌, ◌≤◌, ◌<◌, ◌≡◌, ◌⊎◌, ◌≢◌, true, false, List, [], ◌∷◌, length, get_or, take, drop}
+use Rattle.std.specs.Prelude.{ℕ, None, Some, Err, ◌+◌, ◌≤◌, ◌<◌, ◌≡◌, ◌⊎◌, ◌≢◌, true, false, List, [], ◌∷◌, length, get_or, take, drop}
 use Rattle.files.specs.Sets.{no_files}
 use Rattle.rules.specs.declared.Board.{Board}
 use Rattle.rules.specs.declared.Refusal.{Refusal}
@@ -10,9 +10,7 @@ use Rattle.rules.specs.Boards.{empty_board}
 use Rattle.rules.specs.Soundness.{sound}
 use Rattle.rules.specs.Replies.{number, refusal_of, refused, word_of, refuse, order_of}
 use Rattle.rules.specs.Calls.{Call, Enter, Open, Leave, direct}
-use Rattle.request.specs.declared.Reading.{Reading}
-use Rattle.request.specs.declared.Request.{Request}
-use Rattle.request.specs.Requests.{request_of, line_of}
+use Rattle.request.specs.Requests.{Request, asked_in, request_of, line_of}
 use Rattle.request.specs.Law.{InRange, LabelFor}
 use Rattle.journal.specs.Journal.{journal_line, line_bytes, written}
 use Rattle.image.specs.Image.{image_of}
@@ -31,7 +29,7 @@ LineDoesItsCall = (b : Board) (c : Call) (label journal : List ℕ) (place : ℕ
 -- ".. or leave the board as it was": a line that isn't taken gets its refusal, with the order of the unchanged board, and one REFUSE line
 abbrev pub LineRefused : Type 0
 LineRefused = (b : Board) (line journal : List ℕ) (place : ℕ) (r : Refusal) → sound b ≡ true → journal_full (length journal) place ≡ false
-    → (request_of line).reading ≡ Reading.Refused r
+    → request_of line ≡ Err r
     → line_call b line journal place ≡ record {
       reply = refuse b r;
       place = place + journal_line;
@@ -65,7 +63,7 @@ DirectOutOfRange = (refusal_of (direct empty_board (Leave 0)).answer ≡ 8)
 
 -- the line of an answer: its word, the program, the file and the record of the request line, and the number of the refusal, 0 where none
 abbrev pub answer_line : Request → Answer → Line
-answer_line q a = record { word = word_of a; program = q.asked.program; file = q.asked.file; refusal = refusal_of a; item = q.asked.item }
+answer_line q a = record { word = word_of a; program = (asked_in q).program; file = (asked_in q).file; refusal = refusal_of a; item = (asked_in q).item }
 
 -- "The answer comes first", REFUSE too: the first of the lines that a call writes
 abbrev pub AnswerWrittenFirst : Type 0

@@ -1,6 +1,6 @@
 -- The writer as a C host calls it: verbs by number, claims as bytes, and the answer as one number.
 -- Assumes nothing.
-use Rattle.std.specs.Prelude.{ℕ, ◌-◌, ◌*◌, ◌≡◌, refl, Bool, true, cond, List, eqb, length, get_or, drop}
+use Rattle.std.specs.Prelude.{ℕ, ◌-◌, ◌*◌, ◌≡◌, refl, Bool, true, cond, Ok, Err, List, eqb, length, get_or, drop}
 use Rattle.files.specs.declared.FileSet.{FileSet}
 use Rattle.files.specs.Bits.{is_number}
 use Rattle.rules.specs.declared.Verb.{Verb}
@@ -10,8 +10,7 @@ use Rattle.rules.specs.Replies.{number}
 use Rattle.rules.specs.Calls.{Call, claiming, no_claims, call_with}
 use Rattle.request.specs.Verbs.{verbs}
 use Rattle.image.specs.Image.{set_section}
-use Rattle.writer.specs.declared.Writing.{Writing}
-use Rattle.writer.specs.Writer.{unwritten_number, writing_of, buffer_after}
+use Rattle.writer.specs.Writer.{Writing, unwritten_number, writing_of, buffer_after}
 use Rattle.host.specs.Host.{refusal_answer}
 
 -- 1 ENTER, 2 OPEN, 3 CLOSE, 4 DROP, 5 LEAVE, 6 CANCEL, 7 FETCH, 8 RETURN: their places in the table; any other number is no verb
@@ -49,8 +48,8 @@ call_numbered n p f r claims = call_with (verb_numbered n) p f r (claims_in clai
 
 -- the line's length, or 2^64 less the number of the refusal
 abbrev pub writing_answer : Writing → ℕ
-writing_answer (Writing.Wrote n) = n
-writing_answer (Writing.Refused r) = refusal_answer (unwritten_number r)
+writing_answer (Ok n) = n
+writing_answer (Err r) = refusal_answer (unwritten_number r)
 
 -- what a C host gets: refusal 3 for no verb, then 8 for an ENTER whose claims haven't their length, otherwise what the writer answers
 unfoldable pub write_answer : ℕ → ℕ → ℕ → ℕ → List ℕ → List ℕ → List ℕ → ℕ

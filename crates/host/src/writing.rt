@@ -5,7 +5,7 @@ ghost use Rattle.host.specs.Writing.{claims_good, claims_in, writing_answer, wri
 use crate::refusal_answer;
 use image::SET_LEN;
 use rules::{Asked, Claims};
-use writer::Writing;
+use writer::Unwritten;
 
 // ---- claims
 
@@ -46,18 +46,20 @@ fn claims_good(verb: u64, claims: &[u8]) -> bool
 // ---- the writer
 
 // What a C host gets: the line's length, or 2^64 less the number of the refusal.
-fn answer_of(w: Writing) -> u64
+#[tactic(auto, using(crate::proofs::Written::unwritten_some))]
+fn answer_of(w: Result<usize, Unwritten>) -> u64
     ensures { result ≡ writing_answer w }
 {
     match w {
-        Writing::Wrote(n) => n as u64,
-        Writing::Refused(r) => refusal_answer(r.number() as u64),
+        Ok(n) => n as u64,
+        Err(r) => refusal_answer(u64::from(r.number())),
     }
 }
 
 // Writes the line that asks for the call from the buffer's start, and answers its length. A number that is no verb's gets 3, an ENTER
 // whose claims haven't their length 8; the writer's refusals are 8, 19, 6 and 17. A refusal writes nothing, and bytes after the line keep
 // their contents.
+#[tactic(auto, unfolding(crate::specs::Writing::write_answer, crate::specs::Writing::write_buffer))]
 pub fn lock_board_write(
     verb: u64,
     program: u64,
@@ -70,24 +72,18 @@ pub fn lock_board_write(
     ensures value { result ≡ write_answer verb program file item claims.now label.now line.old }
     ensures line_after { line.new ≡ write_buffer verb program file item claims.now label.now line.old }
 {
-    if verb == 0 {
+    let Some(named) = request::verb_numbered(verb) else {
         return refusal_answer(3);
-    }
-    if (request::VERBS as u64) < verb {
-        return refusal_answer(3);
-    }
+    };
     if !claims_good(verb, claims) {
         return refusal_answer(8);
     }
-    let verb = request::verb_at((verb - 1) as usize);
-    let claims = claims_in(claims);
     let asked = Asked {
-        verb,
+        verb: named,
         program,
         file,
         item,
-        claims,
+        claims: claims_in(claims),
     };
-    let written = writer::write(asked, label, line);
-    answer_of(written)
+    answer_of(writer::write(asked, label, line))
 }
