@@ -28,8 +28,7 @@ use Rattle.columns.proofs.Laws.{columns_length}
 use Rattle.columns.proofs.Rows.{flat-length}
 use Rattle.lines.proofs.Laws.{names-on}
 use Rattle.rules.specs.declared.Reply.{Reply}
-use Rattle.request.specs.declared.Request.{Request}
-use Rattle.request.specs.Requests.{request_of}
+use Rattle.request.specs.Requests.{Request, request_of}
 use Rattle.journal.specs.Journal.{journal_line, journal_room, lines_bytes, written}
 use Rattle.journal.proofs.Laws.{lines-length}
 use Rattle.linecall.specs.LineCall.{highest_place, Outcome, journal_full, reply_to, lines_for, posted, line_call}
