@@ -12,7 +12,7 @@ use Rattle.laws.specs.Tests.{by_test, never, and_left, and_right}
 use Rattle.files.specs.declared.FileSet.{FileSet}
 use Rattle.files.specs.Sets.{is_file, member}
 use Rattle.files.proofs.Laws.{member_file}
-use Rattle.rules.specs.Boards.{no_program, is_waiting, awaited_of, claims}
+use Rattle.rules.specs.Boards.{no_program, is_waiting, awaited_of}
 use Rattle.rules.specs.Soundness.{sound}
 use Rattle.rules.specs.declared.Standing.{Standing}
 use Rattle.rules.specs.declared.Program.{Program}

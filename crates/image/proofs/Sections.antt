@@ -1,12 +1,12 @@
 -- The laws of sections: each round trip once for a kind of section, and for sections one after another. Assumes nothing.
-use Prim.Native.Nat.{ℕ, zero, suc, ◌+◌, ◌-◌, ◌*◌, ◌/◌, ◌%◌, ◌^◌, ◌≤◌, ◌<◌}
+use Prim.Native.Nat.{ℕ, zero, suc, ◌+◌, ◌*◌, ◌/◌, ◌%◌, ◌^◌, ◌≤◌, ◌<◌}
 use mathlib.Core.Path.{◌≡◌, refl, ap, sym, ◌∙◌}
 use mathlib.Core.List.{List, [], ◌∷◌, ◌++◌, map, append_assoc, append-nil}
 use mathlib.Core.Bool.{Bool, true, false}
 use lib.ListN.{length, get_or, take, drop, length-append, length-drop, drop_of_length-le}
 use lib.Seq.{take_at, take_all, take-add, take-take, drop_at, drop-drop, drop-cons, length-take-le, get_or-drop}
 use native.Mathlib.Omega.{arith}
-use native.Mathlib.Nat.{mul-zero, add-sub_cancel_left}
+use native.Mathlib.Nat.{mul-zero}
 use Rattle.laws.specs.Tests.{never, and_left, and_right, and_false}
 use Rattle.columns.specs.Rows.{flat, put_at}
 use Rattle.image.specs.Sections.{Section, ◌▸◌, seen, refined, many, Each, read_many, fit_many, row_at, zipped, agree}

@@ -1,8 +1,8 @@
 -- Laws of images whose board is its sets, lent, and the rest. Assumes nothing.
 use Prim.Native.Nat.{ℕ, ◌+◌, ◌-◌, ◌*◌, ◌≤◌, ◌<◌}
-use mathlib.Core.Path.{◌≡◌, refl, sym, ap, ◌∙◌}
+use mathlib.Core.Path.{◌≡◌, refl, sym, ◌∙◌}
 use mathlib.Core.List.{List}
-use mathlib.Core.Bool.{true, false}
+use mathlib.Core.Bool.{true}
 use native.Mathlib.Omega.{arith}
 use lib.ListN.{length, get_or, set, drop}
 use lib.Seq.{drop-drop, get_or-drop}
@@ -12,15 +12,13 @@ use Rattle.files.specs.Words.{word_count, set_of, words_for}
 use Rattle.files.proofs.Rows.{length_for}
 use Rattle.rules.specs.declared.Standing.{Standing}
 use Rattle.rules.specs.declared.Program.{Program}
-use Rattle.rules.specs.declared.Board.{Board}
-use Rattle.rules.specs.declared.Mode.TheVariants.{Write}
-use Rattle.rules.specs.Modes.{by_mode}
+use Rattle.rules.specs.Modes.{Write, by_mode}
 use Rattle.rules.specs.Boards.{no_program}
 use Rattle.store.specs.declared.Rest.{Rest}
 use Rattle.store.specs.Sets.{Sets, IsStore, claim_place, open_place, set_in, in_place, PutAt, PutsFrom, SetsOf}
-use Rattle.store.specs.Store.{seat_of, board_of, RestOf, empty_sets, empty_rest}
+use Rattle.store.specs.Store.{seat_of, board_of, RestOf}
 use Rattle.store.proofs.Laws.{three-put, rows-put}
-use Rattle.store.proofs.Boards.{board_is, empty_board_lem}
+use Rattle.store.proofs.Boards.{board_is}
 use Rattle.std.proofs.Common.{Some}
 use Rattle.image.specs.Sections.{read_many, row_at}
 use Rattle.image.specs.Image as image

@@ -285,16 +285,6 @@ fn seat_fits(k: u8, f: u8, u: u16, a: u16) -> bool
     }
 }
 
-// Whether the two rows of a program are of their layout.
-fn row_fits(s: &[u8], x: &[u8]) -> bool
-    requires { (length s.now ≡ row_section.size) × (length x.now ≡ inquiry_section.size) }
-    ensures { result ≡ rows_agree (row_section.read s.now) (inquiry_section.read x.now) }
-{
-    let u = read_item(x[USED_AT], x[USED_AT + 1]);
-    let a = read_item(x[WANTED_AT], x[WANTED_AT + 1]);
-    seat_fits(s[STANDING_AT], s[AWAITED_AT], u, a)
-}
-
 // Reads a set into place k.
 fn take_set(s: &[u8], sets: &mut Sets, k: usize)
     requires s_len { length s.now ≡ set_section.size }
@@ -378,13 +368,28 @@ fn inquiry(s: &[u8], i: usize) -> &[u8]
     &s[at..at + INQUIRY_LEN]
 }
 
+// Whether the two rows of program i + 1 are of their layout.
+fn row_fits(s: &[u8], i: usize) -> bool
+    requires { (length s.now ≡ image_length) × (i < 32) }
+    ensures { result
+        ≡ rows_agree (row_section.read (row_at row_section s.now i))
+        (inquiry_section.read (row_at inquiry_section (inquiries_in s.now) i)) }
+{
+    let row = row(s, i);
+    let inquiry = inquiry(s, i);
+    let u = read_item(inquiry[USED_AT], inquiry[USED_AT + 1]);
+    let a = read_item(inquiry[WANTED_AT], inquiry[WANTED_AT + 1]);
+    seat_fits(row[STANDING_AT], row[AWAITED_AT], u, a)
+}
+
 // Whether every program's rows are of their layout.
 fn rows_fit(s: &[u8]) -> bool
     requires { length s.now ≡ image_length }
     ensures { result ≡ image_section.fits s.now }
 {
+    // A loop: of `(0..32).all(..)` the check does not show that each row passes where the answer is true.
     for i in 0..32 {
-        if !row_fits(row(s, i), inquiry(s, i)) {
+        if !row_fits(s, i) {
             return false;
         }
     }

@@ -1,10 +1,9 @@
-use mathlib.Core.Path.{refl, ap, ◌∙◌}
-use mathlib.Core.List.{◌++◌, map}
-use lib.ListN.{length, take}
+use mathlib.Core.Path.{refl}
+use mathlib.Core.List.{map}
 use borrow.Author.Rules.{rules}
 use Rattle.store.specs.Store.{board_of}
 use Rattle.whole.proofs.Laws.{made, made_size}
-use Rattle.image.specs.Image.{image_of, line_section, numbers_section, counts_section, row_of, rows_section, inquiry_of, inquiry_section, inquiries_section, front_section}
+use Rattle.image.specs.Image.{image_of, line_section, numbers_section, counts_section, inquiry_of, inquiry_section, inquiries_section}
 use Rattle.image.proofs.Sections.{Put, put-after, put_all}
 use Rattle.image.proofs.RoundTrip.{rows-put, rows-length, inquiry_length}
 use Rattle.image.proofs.fill_image.Goals as goal

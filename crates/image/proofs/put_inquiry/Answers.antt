@@ -1,5 +1,5 @@
-use Prim.Native.Nat.{ℕ, ◌-◌}
-use mathlib.Core.Path.{refl, ◌∙◌}
+use Prim.Native.Nat.{◌-◌}
+use mathlib.Core.Path.{◌∙◌}
 use mathlib.Core.List.{append_assoc}
 use Rattle.rules.specs.declared.Mode.TheVariants.{Inquiry}
 use Rattle.store.specs.Sets.{claim_place, open_place, set_in}

@@ -4,5 +4,6 @@ use Rattle.image.proofs.row_fits.Goals as goal
 
 pub returns : goal.returns
 returns c =
-    c.seat_fits.ensures ∙ seat_tested c.args.s.now c.args.x.now c.read_item-u.result c.read_item-a.result c.requires.1
-    c.read_item-u.ensures c.read_item-a.ensures
+    rw (c.row-row.ensures.value, c.inquiry-inquiry.ensures.value) at
+    (c.seat_fits.ensures ∙ seat_tested c.row-row.result.now c.inquiry-inquiry.result.now c.read_item-u.result c.read_item-a.result
+    c.inquiry-inquiry.ensures.len c.read_item-u.ensures c.read_item-a.ensures)
