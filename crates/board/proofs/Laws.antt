@@ -6,12 +6,12 @@ use mathlib.Core.Logic.{◌≢◌}
 use mathlib.Core.Bool.{true, false}
 use mathlib.Core.List.{List, [], ◌∷◌, ◌++◌, append_assoc, append-nil}
 use lib.Dec.{eqb}
-use lib.ListN.{length, take, drop, set, get_or, replicate, length-append, length-take, length-drop, drop_of_length-le, take-append-drop}
-use lib.Seq.{take-add, take-suc, take-suc-set, take-append-add, take-append-le, take-take, take_all, take_at, take-length}
+use lib.ListN.{length, take, drop, set, get_or, replicate, length-append, length-take, length-drop, take-append-drop}
+use lib.Seq.{take-add, take-suc, take-suc-set, take-append-add, take-append-le, take_all, take_at, take-length}
 use native.Mathlib.Numerals.{add-one}
 use native.Mathlib.Omega.{arith}
 use borrow.Rule.Slice.PartMut.{put_mid}
-use borrow.Author.Tests.{eq-eqb, ne_eqb, le-ltb}
+use borrow.Author.Tests.{ne_eqb, le-ltb}
 use Rattle.std.specs.List.{position, position_or_len}
 use Rattle.std.proofs.Common.{Option, Some, None, MatchOption, min, cond, ltb, ◌==◌}
 use Rattle.std.proofs.lemmas.List.Recursion.{is_position_or_len}

@@ -1,7 +1,6 @@
 -- The journal of a last line, and the order after it.
-use Rattle.std.proofs.Common.{◌<◌, length, length-take, length-drop, arith}
+use Rattle.std.proofs.Common.{arith}
 use Rattle.store.specs.Store.{board_of}
-use Rattle.board.specs.Input.{order_columns}
 use Rattle.board.proofs.Laws.{close_is}
 use Rattle.board.proofs.close_journal.Goals as goal
 

@@ -1,5 +1,5 @@
 -- What is taken follows on what was taken before.
-use Rattle.std.proofs.Common.{rules, ◌-◌, ◌≡◌, ◌≤◌, ◌∙◌, [], List, ℕ, ap, sym, refl, length, take, drop, length-take, length-drop, arith}
+use Rattle.std.proofs.Common.{rules, ◌-◌, ◌≡◌, ◌∙◌, [], List, ℕ, ap, sym, refl, length, take, drop, length-drop, arith}
 use Rattle.std.proofs.Math.Seq.{take_all}
 use Rattle.store.specs.Store.{board_of}
 use Rattle.board.specs.Input.{held, flushed, fed}

@@ -1,5 +1,5 @@
 -- A line is served, and what is left of the part is kept.
-use Rattle.std.proofs.Common.{◌≡◌, ◌≤◌, ◌∙◌, length, take, length-take, arith}
+use Rattle.std.proofs.Common.{◌≤◌, ◌∙◌, length, take, length-take, arith}
 use Rattle.request.specs.Verbs.{cut_line}
 use Rattle.store.specs.Store.{board_of}
 use Rattle.board.proofs.Laws.{part_begins, part_over, part_goes_on, line_within_part}
