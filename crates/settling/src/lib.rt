@@ -8,7 +8,7 @@ ghost use Rattle.rules.specs.Boards.{awaited_of, is_program};
 ghost use Rattle.rules.specs.Settling.{line_of, pass, hand_on, candidate, favour, run_held, choose, settle};
 ghost use Rattle.theory.specs.Loose.{Loose, Counts};
 ghost use Rattle.parts.specs.Entries.{IsEntries, entry_of};
-ghost use Rattle.store.specs.Sets.{IsStore};
+ghost use Rattle.store.specs.Sets.{Sets, IsStore};
 ghost use Rattle.store.specs.Store.{board_of};
 ghost use Rattle.search.specs.Gives.{used_in, give_in};
 ghost use Rattle.settling.specs.Writing.{progress, written_in, after, Fits, give_to, admit_one, CountsFew, served_rest, seat_wants, record_waiter, Tests, as_option};
@@ -153,6 +153,7 @@ fn oldest_unused(sets: &Sets, rest: Rest) -> Option<u8>
     requires { Loose (board_of sets.now rest) × IsStore sets.now }
     ensures { result ≡ as_option (candidate (board_of sets.now rest)) }
 {
+    // Where nobody waits, what is open is not asked for.
     let line = rest.waiting;
     if line[0] == 0 {
         return None;
@@ -194,9 +195,9 @@ fn waits_for(seat: Seat, f: u16, n: u16) -> bool
 }
 
 // The oldest waiter for the record n of f.
-fn oldest_for(sets: &Sets, rest: Rest, f: u16, n: u16) -> Option<u8>
+fn oldest_for(rest: Rest, f: u16, n: u16) -> Option<u8>
     requires { all is_program (names rest.waiting) ≡ true }
-    ensures { result ≡ as_option (record_waiter (board_of sets.now rest) f n) }
+    ensures { (sets : Sets) → result ≡ as_option (record_waiter (board_of sets rest) f n) }
 {
     oldest(
         rest.waiting,
@@ -211,7 +212,7 @@ pub fn hand_on(sets: &Sets, lines: &mut Entries, w: Progress, f: u16, n: u16) ->
         ≡ after (written_in sets.now lines.old w) (hand_on (board_of sets.now w.rest) f n) }
     ensures entries { IsEntries lines.new }
 {
-    let Some(p) = oldest_for(sets, w.rest, f, n) else {
+    let Some(p) = oldest_for(w.rest, f, n) else {
         return w;
     };
     write_line(

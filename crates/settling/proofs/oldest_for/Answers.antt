@@ -14,6 +14,6 @@ oldest-requires c = λ p m. let r = program_range p (all-each is_program (names 
 
 pub returns : goal.returns
 unfolding board_of
-returns c = c.oldest.ensures (λ w. wants (at (board_of c.args.sets.now c.args.rest) w) c.args.f c.args.n) (λ p m t h.
+returns c = λ sets. c.oldest.ensures (λ w. wants (at (board_of sets c.args.rest) w) c.args.f c.args.n) (λ p m t h.
     let e : t ≡ seat_wants (seat_at c.args.rest p) c.args.f c.args.n = search rules in
-    waiter_wants c.args.sets.now c.args.rest p c.args.f c.args.n t (program_range p (all-each is_program (names c.args.rest.waiting) c.requires p m)) e)
+    waiter_wants sets c.args.rest p c.args.f c.args.n t (program_range p (all-each is_program (names c.args.rest.waiting) c.requires p m)) e)
