@@ -99,12 +99,6 @@ unfolding pass
 pass-over w s l k i e = after-still s ∙ sym (i.2 ∙ ap (λ (ps : List ℕ). after s (pass ps s.board)) e)
 
 module _ (w s : Written) (l : List ℕ) (k : ℕ) (h : k < length l) (ne : get_or l k 0 ≢ 0) (i : PassAt w l k s) where
-  p : ℕ
-  p = get_or l k 0
-
-  ps : List ℕ
-  ps = names (drop (suc k) l)
-
   ready-here : Ready s.board (get_or l k 0 ∷ names (drop (suc k) l))
   ready-here = subst (Ready s.board) (names-on l k h ne) i.0
 

@@ -1,11 +1,8 @@
-use Rattle.std.proofs.Common.{◌≡◌, sym, ap, ◌∙◌, refl, length, get_or, arith, rules}
+use Rattle.std.proofs.Common.{◌≡◌, sym, ap, ◌∙◌, length, get_or, arith, rules}
 use Rattle.lines.proofs.Laws.{names_stop, names_end}
 use Rattle.settling.specs.Writing.{as_option}
 use Rattle.settling.proofs.Lines.{first-here, first-later, name-in, name_later, first_none_left}
 use Rattle.settling.proofs.oldest.Goals as goal
-
-pub loop-p-init : goal.loop-p-init
-loop-p-init g c = (λ p m. m, λ t f. refl)
 
 pub returns-then-p-eq0 : goal.returns-then-p-eq0
 returns-then-p-eq0 g c = let m : length c.args.line ≡ 32 = search rules in λ t f.
