@@ -12,7 +12,8 @@ use Rattle.files.specs.Words.{word_count, set_of, words_for}
 use Rattle.files.proofs.Rows.{length_for}
 use Rattle.rules.specs.declared.Standing.{Standing}
 use Rattle.rules.specs.declared.Program.{Program}
-use Rattle.rules.specs.Modes.{Write, by_mode}
+use Rattle.rules.specs.declared.Mode.TheVariants.{Write}
+use Rattle.rules.specs.Modes.{by_mode}
 use Rattle.rules.specs.Boards.{no_program}
 use Rattle.store.specs.declared.Rest.{Rest}
 use Rattle.store.specs.Sets.{Sets, IsStore, claim_place, open_place, set_in, in_place, PutAt, PutsFrom, SetsOf}

@@ -20,8 +20,8 @@ returns c =
     let i = set_in sets (open_place Inquiry (a.p - 1)) in
     let u = used_by a.seat.standing a.seat.item in
     let w = wanted_by a.seat.standing a.seat.item in
-    let e₁ = put_first {s = set_section} {a = j} (set-length j) (set-placed sets _ _ c.inquirable_at.ensures.0 c.put_set.ensures) in
-    let e₂ = put-after set_section i e₁ (set-length i) (set-placed sets _ _ c.inquiring_at.ensures.0 c.put_set-2.ensures) in
+    let e₁ = put_first {s = set_section} {a = j} (set-length j) (set-placed sets _ _ c.claim_at.ensures.0 c.put_set.ensures) in
+    let e₂ = put-after set_section i e₁ (set-length i) (set-placed sets _ _ c.open_at.ensures.0 c.put_set-2.ensures) in
     let e₃ = put-after (number 2) u e₂ (number-length 2 u) (c.put_at.ensures ∙ rw (two_written _ _ c.to_le_bytes.ensures c.used-used.ensures)) in
     let e₄ = put-after (number 2) w e₃ (number-length 2 w) (c.put_at-2.ensures ∙ rw (two_written _ _ c.to_le_bytes-2.ensures c.wanted-wanted.ensures)) in
     e₄.front ∙ simp append_assoc
