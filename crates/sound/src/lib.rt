@@ -348,24 +348,18 @@ fn record_fits(s: Standing, taken: bool) -> bool
     }
 }
 
-// The record of p, if it has one.
-fn record_sound(rest: Rest, p: u8) -> bool
-    requires { (1 ≤ p) × (p ≤ 32) }
-    ensures { result ≡ record_at rest p }
-{
-    let seat = rest.seats[(p - 1) as usize];
-    seat.item == 0
-        || record_fits(
-            seat.standing,
-            tables::boards::is_taken(rest, p, seat.file, seat.item),
-        )
-}
-
 // All records: "records in use differ", "an awaited record is in use".
 fn records_sound(rest: Rest) -> bool
     ensures { result ≡ all (record_at rest) everyone }
 {
-    do_all(|p| record_sound(rest, p))
+    do_all(|p| {
+        let seat = rest.seats[(p - 1) as usize];
+        seat.item == 0
+            || record_fits(
+                seat.standing,
+                tables::boards::is_taken(rest, p, seat.file, seat.item),
+            )
+    })
 }
 
 // Sets; a completion order exists, so that there is no conflict; the two lines; the waiters; the favoured program; the counts; the records.
