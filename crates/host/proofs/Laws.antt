@@ -108,15 +108,6 @@ module _ (image line journal : List ℕ) (place : ℕ) where
 pub answer_done : (n place : ℕ) → n ≡ 0 → host_answer n place ≡ place
 answer_done n place e = rw e
 
-pub answer_one : (n place : ℕ) → n ≡ 1 → host_answer n place ≡ refusal_answer 1
-answer_one n place e = rw e
-
-pub answer_two : (n place : ℕ) → n ≡ 2 → host_answer n place ≡ refusal_answer 2
-answer_two n place e = rw e
-
-pub answer_more : (n place : ℕ) → (n ≡ 1 → ⊥) → (n ≡ 2 → ⊥) → host_answer n place ≡ place
-answer_more n place h k = rw (ne_eqb n 1 h, ne_eqb n 2 k)
-
 pub image_done : (n : ℕ) (image : List ℕ) (b : Board) → n ≡ 0 → host_image n image b ≡ image_of b
 image_done n image b e = rw e
 
