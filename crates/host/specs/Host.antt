@@ -21,7 +21,7 @@ abbrev pub sound_only : Option Board → Option Board
 sound_only None = refused_image
 sound_only (Some b) = cond (sound b) (Some b) refused_image
 
--- the board of an image, if it is not refused
+-- the board of an image; "Reading a refused image gives the empty board.": here none, in whose place a host has the empty board
 unfoldable pub read_image : List ℕ → Option Board
 read_image image = sound_only (loaded_of image)
 
