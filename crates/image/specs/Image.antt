@@ -1,11 +1,10 @@
 -- The image of a board, section by section.
 -- Assumes nothing.
-use Rattle.std.specs.Prelude.{ℕ, ◌≡◌, refl, List, map, Bool, true, false, not, cond, ◌&&◌, length, drop, leb, eqb}
+use Rattle.std.specs.Prelude.{ℕ, ◌≡◌, refl, Option, None, Some, List, map, Bool, true, false, not, cond, ◌&&◌, length, drop, leb, eqb}
 use Rattle.files.specs.declared.FileSet.{FileSet}
 use Rattle.rules.specs.declared.Standing.{Standing}
 use Rattle.rules.specs.declared.Program.{Program}
 use Rattle.rules.specs.declared.Board.{Board}
-use Rattle.std.specs.Prelude.{Option, None, Some}
 use Rattle.image.specs.Sections.{Section, ◌▸◌, seen, refined, Each, many, zipped, agree, byte, run, number}
 unfoldable pub use Rattle.image.specs.Sections.{bytes_n}
 
