@@ -86,6 +86,7 @@ fn right_answer(order: Order, t: Tried, places: &[Place]) -> bool {
 
 // Both searches on one board; the board's own order is the one that the test of a sound board gives back.
 // Nothing agrees where so many programs are admitted that their orders are not tried.
+#[tactic(auto, using(store::proofs::Laws::fresh_store))]
 pub fn compared(orders: &Orders, b: Board) -> Result<Outcome, AllocError> {
     let places = orders::places(orders.alloc(), &b)?;
     let mut sets = [[0u64; WORDS]; PLACES];
