@@ -215,6 +215,7 @@ fn read_group(line: &[u8], start: usize, count: usize) -> Option<Group>
         last: 0,
         files: FileSet::EMPTY,
     };
+    // Each field is read as the part of the line that begins at its column.
     for i in 0..count {
         let a = start + columns::FILE_WIDTH * i;
         g = join(g, &line[a..a + columns::FILE_WIDTH])?;
