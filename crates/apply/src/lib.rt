@@ -166,6 +166,7 @@ fn do_open(sets: &mut Sets, rest: Rest, lines: &mut Entries, p: u8, f: u16) -> C
         return replies::answered(sets, c, lines, Word::Wait, p, f, 0, Answer::Wait);
     }
     let order = search::gives::order_given(sets, rest, p, f);
+    // The kind is matched by itself: the order's array stands beside it, and goes on to the reply as it is.
     let kind = order.kind;
     let Search::Found(n) = kind else {
         let c = put_waiting(sets, rest, p, f, 0, 0);
@@ -333,7 +334,8 @@ fn do_cancel(sets: &mut Sets, rest: Rest, lines: &mut Entries, p: u8) -> Changed
 
 // ---- any call
 
-// The call that is asked for, of the program p, once its checks have passed.
+// The call that is asked for, of the program p, once its checks have passed; so its file, if it has one, is 1 to 64, and its record
+// 1 to 65,535.
 fn accept(sets: &mut Sets, rest: Rest, lines: &mut Entries, p: u8, a: Asked) -> Changed
     requires { ((1 ≤ p) × (p ≤ 32)) × Good (board_of sets.old rest)
         × (checked (board_of sets.old rest) (call_with a.verb p a.file a.item a.claims) ≡ Ok tt)
