@@ -138,6 +138,7 @@ pub fn take(b: Board, sets: &mut Sets) -> Rest
     ensures { SetsOf b sets.new × (board_of sets.new result ≡ b) }
 {
     take_sets(b, sets);
+    // The arrays have names: the prover does not cover a field that is an array straight in a literal.
     let seats = seats_of(b);
     let waiting = b.waiting;
     let entry = b.entry;

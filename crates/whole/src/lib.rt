@@ -61,6 +61,7 @@ fn programs(sets: &Sets, seats: [Seat; 32]) -> [Program; 32]
 pub fn board(sets: &Sets, rest: Rest) -> Board
     ensures { result ≡ board_of sets.now rest }
 {
+    // The arrays have names: the prover does not cover a field that is an array straight in a literal.
     let seats = rest.seats;
     let programs = programs(sets, seats);
     let waiting = rest.waiting;

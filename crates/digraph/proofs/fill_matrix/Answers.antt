@@ -1,13 +1,9 @@
 use Rattle.std.proofs.Common.{ap, ◌∙◌}
 use Rattle.rules.specs.declared.Board.{Board}
 use Rattle.rules.specs.Digraph.{step}
-use Rattle.store.proofs.Laws.{fresh_store}
 use Rattle.digraph.specs.Rows.{rows_saying}
 use Rattle.digraph.proofs.Laws.{matrix_of_lem}
 use Rattle.digraph.proofs.fill_matrix.Goals as goal
-
-pub take-rest-requires : goal.take-rest-requires
-take-rest-requires c = fresh_store
 
 pub returns : goal.returns
 returns c = let b = c.args.b in

@@ -7,13 +7,9 @@ use Rattle.rules.specs.Replies.{refused}
 use Rattle.rules.specs.Soundness.{sound}
 use Rattle.rules.specs.Calls.{direct, call_of, apply}
 use Rattle.store.specs.Store.{board_of}
-use Rattle.store.proofs.Laws.{fresh_store}
 use Rattle.search.specs.Rows.{as_order}
 use Rattle.apply.proofs.Laws.{apply-same}
 use Rattle.direct.proofs.reply_to.Goals as goal
-
-pub take-rest-requires : goal.take-rest-requires
-take-rest-requires c = fresh_store
 
 pub returns-then-not-j : goal.returns-then-not-j
 unfolding direct

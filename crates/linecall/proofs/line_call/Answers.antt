@@ -6,16 +6,12 @@ use Rattle.rules.specs.Orders.{carried}
 use Rattle.rules.specs.Replies.{refused}
 use Rattle.rules.specs.Soundness.{sound}
 use Rattle.store.specs.Store.{board_of}
-use Rattle.store.proofs.Laws.{fresh_store}
 use Rattle.search.specs.Rows.{as_order}
 use Rattle.request.specs.Requests.{request_of, request_call}
 use Rattle.linecall.specs.LineCall.{line_call}
 use Rattle.linecall.proofs.Carries.{line_carries, unsound_carries}
 use Rattle.linecall.proofs.Laws.{call_unsound, refused-same}
 use Rattle.linecall.proofs.line_call.Goals as goal
-
-pub take-rest-requires : goal.take-rest-requires
-take-rest-requires c = fresh_store
 
 -- a board that is not sound
 

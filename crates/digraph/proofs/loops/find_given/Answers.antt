@@ -2,13 +2,9 @@ use Rattle.std.proofs.Common.{ap, subst, ◌∙◌}
 use Rattle.rules.specs.declared.Board.{Board}
 use Rattle.store.specs.Sets.{Sets}
 use Rattle.store.specs.Store.{board_of}
-use Rattle.store.proofs.Laws.{fresh_store}
 use Rattle.digraph.specs.Loops.{LoopOf}
 use Rattle.digraph.proofs.LoopLaws.{given_as}
 use Rattle.digraph.proofs.loops.find_given.Goals as goal
-
-pub take-rest-requires : goal.take-rest-requires
-take-rest-requires c = fresh_store
 
 pub returns : goal.returns
 returns c = let a = c.args in let k = c.take-rest in subst (λ (x : Board). LoopOf x c.find_by.result)

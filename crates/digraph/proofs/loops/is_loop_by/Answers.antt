@@ -4,13 +4,9 @@ use Rattle.rules.specs.Boards.{is_admitted}
 use Rattle.rules.specs.Digraph.{step, is_loop_of}
 use Rattle.store.specs.Sets.{Sets, IsStore}
 use Rattle.store.specs.Store.{board_of}
-use Rattle.store.proofs.Laws.{fresh_store}
 use Rattle.store.proofs.Given.{given_store}
 use Rattle.digraph.proofs.LoopLaws.{not_in, not_claimed, loop_with, stands_as, claims_as, given_as}
 use Rattle.digraph.proofs.loops.is_loop_by.Goals as goal
-
-pub take-rest-requires : goal.take-rest-requires
-take-rest-requires c = fresh_store
 
 pub returns-then-not-is_admitted : goal.returns-then-not-is_admitted
 returns-then-not-is_admitted c = let a = c.args in let k = c.take-rest in
