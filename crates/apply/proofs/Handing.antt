@@ -1,7 +1,7 @@
 -- Laws of a record that is handed on, in a leave and in a return. Assumes nothing.
 use mathlib.Core.Path.{◌≡◌, refl, sym, ap, ◌∙◌, subst}
 use mathlib.Core.List.{[], ◌∷◌}
-use Prim.Native.Nat.{ℕ, ◌<◌}
+use Prim.Native.Nat.{ℕ}
 use native.Mathlib.Omega.{arith}
 use lib.ListN.{length-append}
 use Rattle.std.specs.Prelude.{Ok}
@@ -25,9 +25,6 @@ use Rattle.apply.specs.Replies.{wrote, replied, Handing}
 use Rattle.apply.proofs.Laws.{sound_of, after_one}
 
 -- ---- DONE, the record's line, settling's
-
-pub handing : (w : Written) (b : Board) (p f r : ℕ) → w ≡ wrote b (line Word.Done p 0 ∷ []) → Handing b f r → Loose w.board × (w.count < 32)
-handing w b p f r e x = subst (λ (y : Written). Loose y.board × (y.count < 32)) (sym e) (x.loose, omega arith)
 
 module _ (w h : Written) (b : Board) (p f r : ℕ) (e : w ≡ wrote b (line Word.Done p 0 ∷ [])) (d : h ≡ after w (hand_on w.board f r))
     (x : Handing b f r) where

@@ -38,7 +38,7 @@ use Rattle.rules.specs.Checks.{Check, unless_using, refuse_if, is_record, unless
 use Rattle.rules.specs.Calls.{admit, hold, hold_for, enter, wait, wait_item, open_file, fetch, finish, done, count_leave, count_cancel, withdrawn}
 use Rattle.rules.specs.Calls.{Call, call_of, call_with, checked, accepted, unless, apply}
 use Rattle.theory.specs.Modes.{same_mode}
-use Rattle.theory.specs.Loose.{Loose, Counts, Good}
+use Rattle.theory.specs.Loose.{Good}
 use Rattle.theory.specs.Sound.{sound_iff, sound_good, good_sound}
 use Rattle.theory.specs.Calls.{apply-accepted, apply-refused, failed_passed, open_may, fetch_may, crowd}
 use Rattle.theory.specs.Worked.{accepted_answer}
@@ -57,7 +57,7 @@ use Rattle.search.specs.declared.Order.{Order}
 use Rattle.search.specs.Rows.{as_order}
 use Rattle.search.proofs.Laws.{drop-replicate}
 use Rattle.search.proofs.Ordered.{order-none, order-found}
-use Rattle.settling.specs.Writing.{Written, after, Fits}
+use Rattle.settling.specs.Writing.{Written, after}
 use Rattle.apply.specs.Replies.{wrote, replied, entering, file_check, record_check, running_check, stopped_check, using_check, busy_check, entry_check, claim_check_at, returned_check, near_open, near_close, near_fetch, near_return, near_check, waiting_for, Carries}
 
 -- ---- a call on a good board
@@ -292,10 +292,6 @@ pub wrote_none : (b : Board) (r : Refusal) → replied (wrote b []) (Answer.Refu
 unfolding refuse reply
 wrote_none b r = refl
 
--- none was found
-pub none_carries : (b : Board) → Carries b (record { kind = Search.Stuck; at = replicate 32 0 })
-none_carries b e = never {t = false} e refl
-
 -- the one that was found with f given is that of the board with f given
 pub found_carries : (b c : Board) (r : Order) (n : ℕ) → r ≡ as_order (carried b) → r.kind ≡ Search.Found n → c ≡ b
     → Carries c (record { kind = Search.Found n; at = r.at })
@@ -337,11 +333,6 @@ unfolding reply
 after_one w s b l a e h =
     let n : 1 + length s.lines ≡ suc (length s.lines) = omega arith in
     ap (λ (x : Written). replied (after x s) a) e ∙ rw (sets-one blank l s.lines h, n) refl
-
-pub done-ready : (w : Written) (b : Board) (l : Line) → w ≡ wrote b (l ∷ []) → Ready b
-    → Loose w.board × Counts w.board × Fits w (settle w.board)
-done-ready w b l e r = let h = r.room in
-    subst (λ (x : Written). Loose x.board × Counts x.board × Fits x (settle x.board)) (sym e) (r.loose, r.counts, omega arith)
 
 pub done_is : (w s : Written) (b : Board) (p f : ℕ) → w ≡ wrote b (line Word.Done p f ∷ [])
     → s ≡ after w (settle w.board) → Ready b → replied s Answer.Done ≡ done b p f
