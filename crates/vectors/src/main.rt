@@ -86,7 +86,7 @@ fn take_sets(rt: &(impl Files + Print + AllocGlobal), names: &[u8]) -> io::Resul
 }
 
 fn main(rt: HostRuntime) -> io::Result<()> {
-    let names = load::load(&rt, b"names", "").unwrap_or(Vec::new(rt.alloc()));
+    let names = load::front(&rt, b"names", "").unwrap_or(Vec::new(rt.alloc()));
     let t = take_sets(&rt, &names)?;
     println!(rt;
         "{} sets, {} lines, {} sets equal",
