@@ -1,4 +1,5 @@
 // Lines, and an expected text that is held to what the lines give.
+ghost use Rattle.std.specs.Prelude.{◌≤◌, length};
 
 // Whether a byte ends a line.
 pub fn ends_line(byte: &u8) -> bool {
@@ -6,12 +7,16 @@ pub fn ends_line(byte: &u8) -> bool {
 }
 
 // A line without the byte that ends it; the last line may lack that.
-pub fn without_end(line: &[u8]) -> &[u8] {
+pub fn without_end(line: &[u8]) -> &[u8]
+    ensures { length result.now ≤ length line.now }
+{
     line.strip_suffix(b"\n").unwrap_or(line)
 }
 
 // The line that is asked: "The longest line has 602 bytes; a longer one is cut to 603."
-pub fn cut(line: &[u8]) -> &[u8] {
+pub fn cut(line: &[u8]) -> &[u8]
+    ensures { length result.now ≤ length line.now }
+{
     let line = without_end(line);
     line.get(..request::CUT_LINE).unwrap_or(line)
 }
