@@ -32,7 +32,7 @@ pub fn number(r: Refusal) -> u8
     }
 }
 
-// 01's number of a refusal, and 0 for any other answer.
+// 01's number of a refusal, and 0 for any other answer. 0 and no Option: the theorems on refusals speak of `refusal_of`.
 pub fn of_answer(a: Answer) -> u8
     ensures { result ≡ refusal_of a }
 {

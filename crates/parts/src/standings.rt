@@ -35,7 +35,7 @@ pub fn is_admitted(s: Standing) -> bool
     matches!(s, Standing::Running | Standing::Waiting(_))
 }
 
-// The file that is waited for, and 0 unless waiting.
+// The file that is waited for, and 0 unless waiting. 0 and no Option: the rules' definitions speak of `awaited_of`.
 pub fn awaited(s: Standing) -> u16
     ensures { result ≡ awaited_of s }
 {

@@ -16,6 +16,7 @@ pub enum Standing {
 
 // V, Q and J, the claims for writing, reading and inquiry; W, R and I, the files open in these ways.
 // item is a record's number and file its file: the record in use if the program runs, the awaited one if it waits; 0 for none.
+// 0 and no Option: `item_sound`, `wants` and the theorems above them compute with these numbers.
 #[derive(Clone, Copy)]
 pub struct Program {
     pub writable: FileSet,
@@ -33,6 +34,7 @@ pub struct Program {
 // favoured is the favoured program or 0, initial the number admitted when it was favoured, leaves the accepted leaves since,
 // with the cancels that count as leaves.
 // passed has for each waiting program the number of programs admitted since it began to wait, and 0 for all others.
+// 0 and no Option: `favour_sound`, `names` and the theorems above them compute with these numbers.
 #[derive(Clone, Copy)]
 pub struct Board {
     pub programs: [Program; 32],
@@ -133,7 +135,8 @@ pub enum Word {
     Refuse,
 }
 
-// A journal line; 0 where there is no file, no refusal or no record.
+// A journal line; 0 where there is no file, no refusal or no record, and no Option: `line_of`, `lines_for` and `line_bytes` compute with
+// these numbers.
 #[derive(Clone, Copy)]
 pub struct Line {
     pub word: Word,
@@ -144,7 +147,7 @@ pub struct Line {
 }
 
 // What a direct call gives back: the board after it, the answer, its lines (the first `count` of 32 places)
-// and the carried order (the first `placed` of 32 places).
+// and the carried order (the first `placed` of 32 places). Arrays with a count: nothing here allocates.
 #[derive(Clone, Copy)]
 pub struct Reply {
     pub board: Board,
