@@ -1,6 +1,6 @@
 #![tactic(auto)]
 
-// Functions on the parts of a board: the table of modes, a standing, a refusal, a journal line as bytes.
+// Functions on the parts of a board: the table of modes, a standing, a refusal, a journal line as numbers.
 pub mod entries;
 pub mod modes;
 pub mod refusals;

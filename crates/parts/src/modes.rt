@@ -1,4 +1,4 @@
-// The table of modes that clash. No other code knows it.
+// The table of modes that clash, of whole sets; of one file `store::sets::has_claim` and `search::gives::in_use` have it.
 ghost use Rattle.std.specs.Prelude.{◌≡◌, not, eqb};
 ghost use Rattle.rules.specs.Modes.{touching};
 ghost use Rattle.parts.specs.Modes.{clashes, rows, SameLengths};
