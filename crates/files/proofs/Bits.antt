@@ -12,7 +12,7 @@ use lib.Pow.{pow-lt, pow-add, pow_pos, shr-shr}
 use lib.Bits.{bit_and, bit_or, bit_xor, differ, and_step, or_step, xor_step, and_high, or_add_and, xor_add_and, and_le_l, and_comm, xor_self, and_lt, or_lt, xor_lt}
 use borrow.Author.Tests.{eq-eqb, ne_eqb, eqb-true, eqb-false, leb-true, le-leb, ltb-true, ltb-false}
 use Rattle.files.specs.Bits.{has_bit, with_bit, without_bit, share, covers, is_number, has_number, with_number, without_number}
-use Rattle.laws.specs.Tests.{by_test, never, or_cases, and_left, and_right, and_both, no_true, same_test}
+use Rattle.laws.specs.Tests.{by_test, never, or_cases, and_left, and_right, and_both, same_test}
 
 -- ---- bits by recursion
 
@@ -339,12 +339,6 @@ most w k e = leb-true k w (and_right (leb 1 k) (leb k w) e)
 pub is_number_lem : (w k : ℕ) → 1 ≤ k → k ≤ w → is_number w k ≡ true
 is_number_lem w k h j = and_both (leb 1 k) (leb k w) (le-leb 1 k h) (le-leb k w j)
 
-pub no_number : (w k : ℕ) → k ≡ 0 → is_number w k ≡ false
-no_number w k e = rw e
-
-pub far_number : (w k : ℕ) → w < k → is_number w k ≡ false
-far_number w k h = no_true (is_number w k) (λ e. let j = most w k e in omega arith)
-
 pub has-number : (w m k : ℕ) → has_number w m k ≡ true → is_number w k ≡ true
 has-number w m k e = and_left (is_number w k) (has_bit m (k - 1)) e
 
@@ -429,19 +423,9 @@ mask_le w m k h = rw (mask_is w k h) (omega (arith, or_pow m k, one_bit))
     one_bit : (m / 2 ^ k % 2) * 2 ^ k ≤ m
     one_bit = rw (and_pow m k) at (and_le_l m (2 ^ k))
 
--- m or the mask of bit k, and that less the mask
-pub mask_bit : (w m k : ℕ) → k < w → bit_or m (1 * 2 ^ k % 2 ^ w) ≡ with_bit m k
-mask_bit w m k h = ap (bit_or m) (mask_is w k h)
-
+-- m or the mask of bit k, less the mask
 pub mask_less : (w m k : ℕ) → k < w → bit_or m (1 * 2 ^ k % 2 ^ w) - 1 * 2 ^ k % 2 ^ w ≡ without_bit m k
 mask_less w m k h =
     rw (mask_is w k h)
     (by_test (has_bit m k) (λ e. rw e (ap (λ (x : ℕ). x - 2 ^ k) (or_in m k (eqb-true _ _ e))))
     (λ e. rw e (omega (arith, or_out m k (eqb-false _ _ e)))))
-
--- the same of the number k
-pub mask_with : (w m k : ℕ) → 1 ≤ k → k ≤ w → bit_or m (1 * 2 ^ (k - 1) % 2 ^ w) ≡ with_number w m k
-mask_with w m k h j = rw (is_number_lem w k h j) (mask_bit w m (k - 1) (omega arith))
-
-pub mask_without : (w m k : ℕ) → 1 ≤ k → k ≤ w → bit_or m (1 * 2 ^ (k - 1) % 2 ^ w) - 1 * 2 ^ (k - 1) % 2 ^ w ≡ without_number w m k
-mask_without w m k h j = rw (is_number_lem w k h j) (mask_less w m (k - 1) (omega arith))

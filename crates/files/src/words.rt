@@ -1,5 +1,5 @@
 // Sets of files as rows of words that are lent and not copied: file f is bit (f - 1) % 64 of word (f - 1) / 64.
-ghost use Rattle.std.specs.Prelude.{◌≡◌, ◌≤◌, length};
+ghost use Rattle.std.specs.Prelude.{ℕ, ◌≡◌, ◌≤◌, length};
 ghost use Rattle.std.specs.Int.Bits.{bit_and, bit_or};
 ghost use Rattle.files.specs.Bits.{less_bits};
 ghost use Rattle.files.specs.Sets.{member, meets, within, is_empty};
@@ -74,35 +74,37 @@ pub fn is_empty(s: &[u64]) -> bool
     s.iter().all(|w| *w == 0)
 }
 
-// The set s gets every file of t.
+// Each word of s becomes what `op` makes of it and of the word of t in its place.
 #[tactic(auto, using(crate::proofs::Rows::join_none, crate::proofs::Rows::join_all))]
+fn change<F: Fn(u64, u64) -> u64>(s: &mut [u64], t: &[u64], op: F)
+    requires { (length s.old ≡ length t.now) × F.IsAlwaysCallable op }
+    ensures { (g : ℕ → ℕ → ℕ) → ((v : ℕ) (w : ℕ) (r : ℕ) → F.post op v w r → r ≡ g v w) → s.new ≡ wordwise g s.old t.now }
+{
+    for (k, w) in t.iter().enumerate() {
+        s[k] = op(s[k], *w);
+    }
+}
+
+// The set s gets every file of t.
 pub fn join(s: &mut [u64], t: &[u64])
     requires { length s.old ≡ length t.now }
     ensures { s.new ≡ wordwise bit_or s.old t.now }
 {
-    for (k, w) in t.iter().enumerate() {
-        s[k] = s[k] | *w;
-    }
+    change(s, t, |v, w| v | w);
 }
 
 // The set s keeps the files that are in t too.
-#[tactic(auto, using(crate::proofs::Rows::join_none, crate::proofs::Rows::join_all))]
 pub fn cut(s: &mut [u64], t: &[u64])
     requires { length s.old ≡ length t.now }
     ensures { s.new ≡ wordwise bit_and s.old t.now }
 {
-    for (k, w) in t.iter().enumerate() {
-        s[k] = s[k] & *w;
-    }
+    change(s, t, |v, w| v & w);
 }
 
 // The set s loses every file of t.
-#[tactic(auto, using(crate::proofs::Rows::join_none, crate::proofs::Rows::join_all))]
 pub fn less(s: &mut [u64], t: &[u64])
     requires { length s.old ≡ length t.now }
     ensures { s.new ≡ wordwise less_bits s.old t.now }
 {
-    for (k, w) in t.iter().enumerate() {
-        s[k] = s[k] ^ (s[k] & *w);
-    }
+    change(s, t, |v, w| v ^ (v & w));
 }

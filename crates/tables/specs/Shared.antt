@@ -1,6 +1,6 @@
 -- The files that some of several programs have, and those that two of them have, as words.
 -- Assumes nothing.
-use Rattle.std.specs.Prelude.{ℕ, zero, suc, ◌-◌, ◌≤◌, ◌≡◌, ◌≢◌, ◌↔◌, Bool, true, List, length, replicate}
+use Rattle.std.specs.Prelude.{ℕ, zero, suc, ◌-◌, ◌≡◌, ◌≢◌, ◌↔◌, Bool, true, List, length, replicate}
 use Rattle.std.specs.Int.Bits.{bit_and, bit_or}
 use Rattle.files.specs.Bits.{has_bit, less_bits}
 use Rattle.files.specs.Words.{word_count, bits_of, wordwise}

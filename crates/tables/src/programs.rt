@@ -1,18 +1,14 @@
 // Sets of programs, by value, and a walk over one: `for p in set`, the lowest first.
 ghost use Rattle.std.specs.Prelude.{◌≡◌, ◌≢◌, ◌≤◌, length};
-ghost use Rattle.files.specs.Bits.{is_number};
 ghost use Rattle.laws.specs.Lists.{keep};
 ghost use Rattle.rules.specs.Boards.{everyone};
 ghost use Rattle.tables.specs.ProgramSets.{has_program, with_program, without_program, programs_meet, union_of, common_of, less_of, lowest_of, IsLowest, PassedBy, AllPassedBy, GivesLowest, programs_left};
 
 use crate::{Members, ProgramSet};
+use files::numbers;
 
-// Whether p is the number of a program.
-fn is_program(p: u8) -> bool
-    ensures { result ≡ is_number 32 p }
-{
-    (1..=32).contains(&p)
-}
+// How many programs a set may have.
+const PROGRAMS: u16 = 32;
 
 impl ProgramSet {
     // No program.
@@ -22,18 +18,15 @@ impl ProgramSet {
     pub fn has(self, p: u8) -> bool
         ensures { result ≡ has_program self p }
     {
-        is_program(p) && (self.bits >> (p - 1)) % 2 == 1
+        numbers::has(PROGRAMS, u64::from(self.bits), u16::from(p))
     }
 
     // The set and p; the set itself if p is no program.
     pub fn with(self, p: u8) -> ProgramSet
         ensures { result ≡ with_program self p }
     {
-        if !is_program(p) {
-            return self;
-        }
         ProgramSet {
-            bits: self.bits | (1u32 << (p - 1)),
+            bits: numbers::with(PROGRAMS, u64::from(self.bits), u16::from(p)) as u32,
         }
     }
 
@@ -41,12 +34,8 @@ impl ProgramSet {
     pub fn without(self, p: u8) -> ProgramSet
         ensures { result ≡ without_program self p }
     {
-        if !is_program(p) {
-            return self;
-        }
-        let m = 1u32 << (p - 1);
         ProgramSet {
-            bits: (self.bits | m) - m,
+            bits: numbers::without(PROGRAMS, u64::from(self.bits), u16::from(p)) as u32,
         }
     }
 
