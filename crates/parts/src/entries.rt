@@ -1,6 +1,6 @@
 // A journal line as five numbers, as it stands in the lent array of a call's lines.
-ghost use Rattle.std.specs.Prelude.{◌≡◌};
-ghost use Rattle.parts.specs.Entries.{word_number, word_numbered, entry_of, line_in};
+ghost use Rattle.std.specs.Prelude.{◌≡◌, length};
+ghost use Rattle.parts.specs.Entries.{word_number, word_numbered, entry_of, line_in, IsEntries};
 
 use rules::{Line, Word};
 
@@ -13,6 +13,22 @@ pub const LINES: usize = 32;
 pub type Entry = [u16; NUMBERS];
 
 pub type Entries = [Entry; LINES];
+
+// The places, and the numbers in each, are as many as the type says.
+pub fn sized(e: &Entries)
+    ensures { IsEntries e.now }
+{
+    for k in 0..LINES {
+        let _n = numbers_in(&e[k]);
+    }
+}
+
+// How many numbers an entry has.
+fn numbers_in(entry: &[u16]) -> usize
+    ensures { result ≡ length entry.now }
+{
+    entry.len()
+}
 
 // The number of a word.
 fn word_number(w: Word) -> u16
