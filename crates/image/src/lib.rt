@@ -111,7 +111,7 @@ pub fn put_at(out: &mut [u8], at: usize, src: &[u8])
 // Writes the set in place k from a byte on.
 fn put_set(out: &mut [u8], at: usize, sets: &Sets, k: usize)
     requires size_in_bounds { at + set_section.size ≤ length out.old }
-    requires k_lt_place_count { (k < place_count) × IsStore sets.now }
+    requires k_lt_place_count { k < place_count }
     ensures { out.new ≡ put_at at (set_section.write (set_in sets.now k)) out.old }
 {
     let s = whole::set_at(sets, k);
@@ -121,7 +121,7 @@ fn put_set(out: &mut [u8], at: usize, sets: &Sets, k: usize)
 // Writes the row of program p, with a seat, at the front of a part; the rest keeps its contents.
 fn put_row(out: &mut [u8], sets: &Sets, p: u8, seat: Seat)
     requires size_in_bounds { row_section.size ≤ length out.old }
-    requires le_p { ((1 ≤ p) × (p ≤ 32)) × IsStore sets.now }
+    requires le_p { (1 ≤ p) × (p ≤ 32) }
     ensures { out.new
         ≡ row_section.write (row_of (program_with sets.now (p - 1) seat)) ++ drop row_section.size out.old }
 {
@@ -136,7 +136,7 @@ fn put_row(out: &mut [u8], sets: &Sets, p: u8, seat: Seat)
 // Writes the second row of program p, likewise: J, I, the record in use and the awaited one.
 fn put_inquiry(out: &mut [u8], sets: &Sets, p: u8, seat: Seat)
     requires size_in_bounds { inquiry_section.size ≤ length out.old }
-    requires le_p { ((1 ≤ p) × (p ≤ 32)) × IsStore sets.now }
+    requires le_p { (1 ≤ p) × (p ≤ 32) }
     ensures { out.new
         ≡ inquiry_section.write (inquiry_of (program_with sets.now (p - 1) seat)) ++ drop inquiry_section.size out.old }
 {
@@ -152,7 +152,6 @@ fn put_inquiry(out: &mut [u8], sets: &Sets, p: u8, seat: Seat)
 fn put_programs(rows: &mut [u8], inquiries: &mut [u8], sets: &Sets, seats: [Seat; 32])
     requires rows_len { rows_section.size ≤ length rows.old }
     requires inquiries_len { inquiries_section.size ≤ length inquiries.old }
-    requires store { IsStore sets.now }
     ensures rows_after { rows.new
         ≡ rows_section.write (map row_of (programs_from sets.now (λ i. get_or seats i no_seat) 32 0))
         ++ drop rows_section.size rows.old }
@@ -170,7 +169,6 @@ fn put_programs(rows: &mut [u8], inquiries: &mut [u8], sets: &Sets, seats: [Seat
 // Writes the image of a board into a buffer of its length, section by section.
 fn fill_image(out: &mut [u8], sets: &Sets, rest: Rest)
     requires out_len { length out.old ≡ image_length }
-    requires store { IsStore sets.now }
     ensures { out.new ≡ image_of (board_of sets.now rest) }
 {
     let (front, inquiries) = out.split_at_mut(INQUIRIES_AT);
@@ -187,7 +185,6 @@ fn fill_image(out: &mut [u8], sets: &Sets, rest: Rest)
 
 // Writes the image of a board, sound or not, by its sets and the rest, and says whether it could: a buffer of another length stays as it was.
 pub fn put_image_of(out: &mut [u8], sets: &Sets, rest: Rest) -> bool
-    requires { IsStore sets.now }
     ensures value { result ≡ image_fits out.old }
     ensures out_after { out.new ≡ image_in out.old (board_of sets.now rest) }
 {
@@ -288,10 +285,9 @@ fn seat_fits(k: u8, f: u8, u: u16, a: u16) -> bool
 // Reads a set into place k.
 fn take_set(s: &[u8], sets: &mut Sets, k: usize)
     requires s_len { length s.now ≡ set_section.size }
-    requires k_lt_place_count { (k < place_count) × IsStore sets.old }
+    requires k_lt_place_count { k < place_count }
     ensures sets_after { sets.new ≡ set sets.old k (words_for word_count (set_section.read s.now)) }
     ensures s_value { set_of (words_for word_count (set_section.read s.now)) ≡ set_section.read s.now }
-    ensures store { IsStore sets.new }
 {
     let t = read_set(s);
     words::put(&mut sets[k], t);
@@ -300,10 +296,11 @@ fn take_set(s: &[u8], sets: &mut Sets, k: usize)
 // Reads three sets, by mode: the first into place k, the others 32 and 64 places further.
 fn take_three(a: &[u8], b: &[u8], c: &[u8], sets: &mut Sets, k: usize)
     requires a_len { (length a.now ≡ set_section.size) × (length b.now ≡ set_section.size) × (length c.now ≡ set_section.size) }
-    requires k_bound { (k < 128) × IsStore sets.old }
+    requires k_bound { k < 128 }
     ensures { PutsFrom k (by_mode (set_section.read a.now) (set_section.read b.now) (set_section.read c.now))
         sets.old sets.new }
 {
+    sets::sized(sets);
     take_set(a, sets, k);
     take_set(b, sets, 32 + k);
     take_set(c, sets, 64 + k);
@@ -312,7 +309,7 @@ fn take_three(a: &[u8], b: &[u8], c: &[u8], sets: &mut Sets, k: usize)
 // Reads the two rows of program p: its sets go into their places.
 fn read_sets(s: &[u8], x: &[u8], sets: &mut Sets, p: u8)
     requires s_len { (length s.now ≡ row_section.size) × (length x.now ≡ inquiry_section.size) }
-    requires le_p { ((1 ≤ p) × (p ≤ 32)) × IsStore sets.old }
+    requires le_p { (1 ≤ p) × (p ≤ 32) }
     ensures { PutAt (joined (row_section.read s.now) (inquiry_section.read x.now)) (p - 1)
         sets.old sets.new }
 {
@@ -399,7 +396,6 @@ fn rows_fit(s: &[u8]) -> bool
 // Reads the rows of an image: the sets go into their places, and the seats come back.
 fn read_rows(s: &[u8], sets: &mut Sets) -> [Seat; 32]
     requires s_len { length s.now ≡ image_length }
-    requires store { IsStore sets.old }
     ensures seats_to { SeatsTo (image_section.read s.now) 32 result }
     ensures sets_of { SetsOf (image_section.read s.now) sets.new }
 {
@@ -413,6 +409,7 @@ fn read_rows(s: &[u8], sets: &mut Sets) -> [Seat; 32]
         read_sets(row, inquiry, sets, i as u8 + 1);
         *seat = read_seat(row, inquiry);
     }
+    sets::sized(sets);
     seats
 }
 
@@ -433,6 +430,7 @@ pub fn load_in(image: &[u8], sets: &mut Sets) -> Option<Rest>
     ensures untouched { IfNone result (sets.new ≡ empty_sets) }
     ensures store { IsStore sets.new }
 {
+    sets::sized(sets);
     if image.len() != IMAGE_LEN {
         return None;
     }

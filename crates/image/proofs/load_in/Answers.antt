@@ -1,9 +1,6 @@
 use Prim.Native.Nat.{ℕ}
-use mathlib.Core.Path.{◌≡◌, sym, subst, ◌∙◌}
+use mathlib.Core.Path.{sym, ◌∙◌}
 use native.Mathlib.Omega.{arith}
-use Rattle.store.specs.Sets.{IsStore, Sets}
-use Rattle.store.specs.Store.{empty_sets}
-use Rattle.store.proofs.Laws.{fresh_store}
 use Rattle.image.specs.Sections.{◌▸◌}
 use Rattle.image.specs.Image.{rows_section, line_section}
 use Rattle.image.proofs.Laws.{byte_at, load_long, load_bad}
@@ -14,25 +11,12 @@ use Rattle.image.proofs.load_in.Goals as goal
 abbrev numbers_at : ℕ
 numbers_at = (rows_section ▸ line_section ▸ line_section).size
 
--- the sets are empty at the entry
-is_fresh : (sets : Sets) → sets ≡ empty_sets → IsStore sets
-is_fresh sets e = subst IsStore (sym e) fresh_store
-
 pub returns-then-image-ne-IMAGE_LEN-clause-result_after : goal.returns-then-image-ne-IMAGE_LEN-clause-result_after
 returns-then-image-ne-IMAGE_LEN-clause-result_after c = load_long c.args.image.now c.if-image-ne-IMAGE_LEN.true
-
-pub returns-then-image-ne-IMAGE_LEN-clause-store : goal.returns-then-image-ne-IMAGE_LEN-clause-store
-returns-then-image-ne-IMAGE_LEN-clause-store c = is_fresh c.args.sets.now c.requires
 
 pub returns-then-not-rows_fit-clause-result_after : goal.returns-then-not-rows_fit-clause-result_after
 returns-then-not-rows_fit-clause-result_after c =
     load_bad c.args.image.now (omega arith) (sym c.rows_fit.ensures ∙ c.if-not-rows_fit.true)
-
-pub returns-then-not-rows_fit-clause-store : goal.returns-then-not-rows_fit-clause-store
-returns-then-not-rows_fit-clause-store c = is_fresh c.args.sets.now c.requires
-
-pub read_rows-seats-requires-clause-store : goal.read_rows-seats-requires-clause-store
-read_rows-seats-requires-clause-store c = is_fresh c.args.sets.now c.requires
 
 pub returns-clause-result_after : goal.returns-clause-result_after
 returns-clause-result_after c =

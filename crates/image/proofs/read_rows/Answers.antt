@@ -25,7 +25,6 @@ loop-i-preserved c =
     = rw (row_in s l.i h) (rw (row, inquiry) at c.read_seat.ensures) in
     record {
       len = search rules;
-      store = put.is_store;
       sets_to = sets_more b l.i l.sets c.read_sets.new.sets h put l.invariant.sets_to;
       seats_to = rw e (seats_more b l.i l.seat-items (omega (arith, l.invariant.len)) l.invariant.seats_to);
     }

@@ -7,5 +7,5 @@ pub returns : goal.returns
 returns c =
     let a = c.args in
     sets-taken (joined (row_section.read a.s.now) (inquiry_section.read a.x.now)) a.p c.claim_at.result c.open_at.result
-    c.requires.le_p.0.0 c.requires.le_p.0.1 c.claim_at.ensures.0 c.open_at.ensures.0
+    c.requires.le_p.0 c.requires.le_p.1 c.claim_at.ensures.0 c.open_at.ensures.0
     (simp take_same at c.take_three.ensures) (simp take_same at c.take_three-2.ensures)
