@@ -44,6 +44,8 @@ pub fn call(b: Board, a: Asked) -> Answered
     Answered { reply, carries }
 }
 
+// ---- the eight calls: README names each, so they stay eight though they differ in the verb alone
+
 // A program enters with its claims.
 pub fn enter(b: Board, program: u64, claims: Claims) -> Answered
     ensures reply_value { result.reply ≡ direct b (Enter program claims.writable claims.readable claims.inquirable) }

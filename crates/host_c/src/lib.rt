@@ -1,6 +1,7 @@
 #![tactic(auto)]
 
-// The lock board for hosts in C: what include/lock_board.h declares. Each function is that of the crate `host`, with its contract.
+// The lock board for hosts in C: what include/lock_board.h declares. Each function is that of the crate `host`, with its contract:
+// the C interface needs both, since an archive is no library of other crates.
 ghost use Rattle.std.specs.Prelude.{◌≡◌};
 ghost use Rattle.host.specs.Digraph.{reach_answer, reach_rows, LoopReply, is_loop_answer};
 ghost use Rattle.host.specs.Host.{host_call, empty_answer, empty_image, order_answer, order_buffer};

@@ -11,7 +11,7 @@ use rules::Standing;
 pub mod sets;
 
 // What is kept of a program beside its sets: its standing, and its record (item) with the file: in use if the program runs, awaited if it
-// waits; 0 for none.
+// waits; 0 for none, as in the rules' Program.
 #[derive(Clone, Copy)]
 pub struct Seat {
     pub standing: Standing,
@@ -19,7 +19,9 @@ pub struct Seat {
     pub item: u16,
 }
 
-// A board but for its programs' sets; program p has seat p - 1.
+// A board but for its programs' sets; program p has seat p - 1. Everywhere the number of a program is a u8 whose range the contract names,
+// and no type of its own: `sets::give`, `tables::holds_back` or `search::gives::is_safe`, which the documents name, take every such u8, and
+// a type of its own would be unwrapped at each call of them.
 #[derive(Clone, Copy)]
 pub struct Rest {
     pub seats: [Seat; 32],
