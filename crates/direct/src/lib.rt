@@ -44,7 +44,7 @@ pub fn call(b: Board, a: Asked) -> Answered
     Answered { reply, carries }
 }
 
-// ---- the eight calls: README names each, so they stay eight though they differ in the verb alone
+// ---- the eight calls: docs/PROMISES.md names each, so they stay eight though they differ in the verb alone
 
 // A program enters with its claims.
 pub fn enter(b: Board, program: u64, claims: Claims) -> Answered
