@@ -54,7 +54,8 @@ pub struct Row {
     pub shape: Shape,
 }
 
-// The files of a group as far as they are read: whether they rise, the last one, 0 before the first, and the set.
+// The files of a group as far as they are read: whether they rise, the last one, 0 before the first, and the set. A flag beside the set,
+// since a later field that is no file's number is refused before a fall (`group_from`).
 #[derive(Clone, Copy)]
 pub struct Group {
     pub rising: bool,

@@ -23,7 +23,8 @@ pub struct Uses {
     pub files: OpenFiles,
 }
 
-// What a search comes back with: an order of so many programs, or none.
+// What a search comes back with: an order of so many programs, or none. An enum of its own with the array beside it, and no Option: a rule
+// of the project, `let Search::Found(n) = kind else` at an open (docs/DECISIONS.md).
 #[derive(Clone, Copy)]
 pub enum Search {
     Found(usize),
@@ -65,7 +66,7 @@ fn raise(set: ProgramSet, counts: &mut [u8; 32])
     }
 }
 
-// One less for each program of a set.
+// One less for each program of a set. Two loops: with the step as a closure they would be no shorter, and it would need clauses of its own.
 fn lower(set: ProgramSet, counts: &mut [u8; 32])
     requires { CanLower set counts.old }
     ensures { counts.new ≡ lowered set counts.old }
