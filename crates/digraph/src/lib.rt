@@ -13,6 +13,7 @@ use rules::Board;
 use store::Rest;
 use store::sets::{PLACES, Sets};
 use tables::ProgramSet;
+use tables::boards::place_of;
 
 pub mod answers;
 pub mod loops;
@@ -39,13 +40,9 @@ fn fill_holders(sets: &Sets, admitted: ProgramSet, rows: &mut [u32; 32])
     requires { (rows.old ≡ replicate 32 0) × IsStore sets.now }
     ensures { rows.new ≡ holder_rows sets.now admitted }
 {
-    let mut rest = admitted;
-    while rest.bits != 0 {
-        let p = rest.lowest();
+    for p in admitted {
         let others = admitted.without(p);
-        let row = tables::holders_of(sets, p, others);
-        rows[(p - 1) as usize] = row.bits;
-        rest = rest.but_lowest();
+        rows[place_of(p)] = tables::holders_of(sets, p, others).bits;
     }
 }
 

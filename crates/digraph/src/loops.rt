@@ -128,11 +128,7 @@ fn walk_back(rows: &[u32; 32], set: ProgramSet, n: usize, x: u8, at: [u8; 32], k
 fn in_own(rows: &[u32; 32]) -> ProgramSet
     ensures { result ≡ packed (λ p. cell rows.now p p) 32 }
 {
-    let mut set = ProgramSet::EMPTY;
-    for p in 1..=32 {
-        set = tables::join(set, p, row_of(rows, p).has(p));
-    }
-    set
+    ProgramSet::those(|p| row_of(rows, p).has(p))
 }
 
 // A loop of the board whose rows and whose matrix these are, and none where it has an order.

@@ -25,6 +25,7 @@ use search::{Order, Uses};
 use store::sets::Sets;
 use store::{Rest, Seat, sets};
 use tables::ProgramSet;
+use tables::boards::place_of;
 
 // Whether a board is sound, and its carried order: a board that is not sound may have one, so both stand beside each other.
 #[derive(Clone, Copy)]
@@ -192,11 +193,7 @@ fn standing_set<F: Fn(Standing) -> bool>(rest: Rest, test: F) -> ProgramSet
     requires { F.IsAlwaysCallable test }
     ensures { (t : Standing → Bool) → ((s : Standing) (r : Bool) → F.post test s r → r ≡ t s) → result ≡ packed (λ p. t (standing_at rest p)) 32 }
 {
-    let mut set = ProgramSet::EMPTY;
-    for p in 1..=32 {
-        set = tables::join(set, p, test(rest.seats[(p - 1) as usize].standing));
-    }
-    set
+    ProgramSet::those(|p| test(rest.seats[place_of(p)].standing))
 }
 
 // Whether the names of the line take all programs out of the set, each once.

@@ -59,19 +59,6 @@ unfolding packed
 packed_none t zero f = refl
 packed_none t (suc n) f = rw (f (suc n)) (packed_none t n f)
 
--- the set of those up to i
-pub packed_more : (t : ℕ → Bool) (i : ℕ) (s r : ProgramSet) → 1 ≤ i → s ≡ packed t (i - 1) → r ≡ joined s i (t i) → r ≡ packed t (i + 1 - 1)
-unfolding packed
-packed_more t zero s r h e k = absurd (omega arith)
-packed_more t (suc i) s r h e k =
-    let a : suc i + 1 - 1 ≡ suc i = omega arith in
-    let z : suc i - 1 ≡ i = omega arith in
-    rw a (k ∙ ap (λ (x : ProgramSet). joined x (suc i) (t (suc i))) (e ∙ ap (packed t) z))
-
--- and of all
-pub packed_all : (t : ℕ → Bool) (i : ℕ) (s : ProgramSet) → i ≡ 33 → s ≡ packed t (i - 1) → s ≡ packed t 32
-packed_all t i s h e = e ∙ ap (λ (x : ℕ). packed t (x - 1)) h
-
 -- ---- members of a packed set
 
 -- a bit of a packed set is that of a number that passes the test

@@ -7,13 +7,12 @@ use Prim.Native.Nat.{ℕ, suc, ◌+◌, ◌-◌, ◌^◌, ◌≤◌, ◌<◌}
 use native.Mathlib.Nat.{zero-add}
 use native.Mathlib.Omega.{arith}
 use lib.Dec.{eqb}
-use lib.Pow.{pow_pos}
 use lib.ListN.{length, get_or, set, length-set}
 use lib.Seq.{get_or-set_same, get_or-set_other, ext_get_or}
 use borrow.Author.Tests.{eqb-true, eqb-false}
 use Rattle.laws.specs.Tests.{by_test, never, and_true}
 use Rattle.files.specs.Bits.{is_number, has_number}
-use Rattle.files.proofs.Bits.{is_number_lem, least, most, has-number, has-bit, with_number-same, with_number-other, without-number-same, without-number-other}
+use Rattle.files.proofs.Bits.{is_number_lem, least, most, with_number-same, with_number-other, without-number-same, without-number-other}
 use Rattle.tables.specs.declared.ProgramSet.{ProgramSet}
 use Rattle.tables.specs.ProgramSets.{has_program, without_program, IsLowest}
 use Rattle.tables.specs.Tables.{places, joined, packed}
@@ -22,10 +21,6 @@ use Rattle.tables.proofs.Laws.{places-length, places-at, packed-has, packed_lt, 
 -- an empty rest
 pub none_left : (rest : ProgramSet) (x : ℕ) → rest.bits ≡ 0 → has_program rest x ≡ false
 none_left rest x e = ap (λ (m : ℕ). has_number 32 m x) e ∙ none_has x
-
--- a set without one of its programs is a smaller number
-pub without_lt : (s : ProgramSet) (p : ℕ) → s.bits ≢ 0 → has_program s p ≡ true → (without_program s p).bits < s.bits
-without_lt s p z e = rw (has-number 32 s.bits p e, has-bit 32 s.bits p e) (omega (arith, pow_pos (p - 1)))
 
 module _ (s : ProgramSet) where
   -- all that are to come are of the set

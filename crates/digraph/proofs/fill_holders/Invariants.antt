@@ -1,4 +1,4 @@
--- The rows of the programs taken out of the rest are written.
+-- The rows of the programs that have come are written. Assumes nothing.
 use Rattle.std.proofs.Common.{ℕ, suc}
 use Rattle.store.specs.Sets.{Sets}
 use Rattle.tables.specs.declared.ProgramSet.{ProgramSet}
@@ -11,8 +11,5 @@ use Rattle.digraph.proofs.fill_holders.Given as goal
 abbrev pub row_bits : Sets → ProgramSet → ℕ → ℕ
 row_bits sets a i = (packed (holders_of sets (suc i) (without_program a (suc i))) 32).bits
 
-abbrev pub invariant-loop-rest : goal.invariant-loop-rest
-invariant-loop-rest l = WroteTo l.admitted (row_bits l.sets l.admitted) l.fn.rows l.rest l.rows
-
-abbrev pub decreases-loop-rest : goal.decreases-loop-rest
-decreases-loop-rest l = l.rest.bits
+abbrev pub invariant-loop-p : goal.invariant-loop-p
+invariant-loop-p l = WroteTo l.admitted (row_bits l.sets l.admitted) l.initial.rows l.p-iterator.left l.rows
