@@ -25,7 +25,8 @@ use Rattle.store.specs.declared.Rest.{Rest}
 use Rattle.store.specs.declared.Seat.{Seat}
 use Rattle.store.specs.Sets.{Sets, IsStore, given_at}
 use Rattle.store.specs.Store.{board_of, seat_at}
-use Rattle.parts.specs.Entries.{Entries, IsEntries}
+use Rattle.parts.specs.Entries.{Entries}
+use Rattle.store.proofs.Given.{given_store}
 use Rattle.store.proofs.Changing.{seat_board, served-board}
 use Rattle.tables.proofs.Given.{packed-same}
 use Rattle.search.specs.declared.Uses.{Uses}
@@ -128,7 +129,6 @@ handed_is sets r p s n i = ap (λ (x : List Program). let c = board_of sets r in
 -- the waiters of line l from place k on are still to be asked, s is what was written before that, and u is what is open then
 pub record Passing (w : Written) (l : List ℕ) (k : ℕ) (sets : Sets) (lines : Entries) (s : Progress) (a : ProgramSet) (u : Uses) : Type 0 where
   pub store : IsStore sets
-  pub entries : IsEntries lines
   pub admits_are : a ≡ admitted_set (board_of sets s.rest)
   pub uses_are : u ≡ uses_in a sets
   pub passed : PassAt w l k (written_in sets lines s)
@@ -164,7 +164,6 @@ module _ {w : Written} {l : List ℕ} {k : ℕ} {sets : Sets} {lines : Entries} 
     pub passing-over : t ≡ false → Passing w l (k + 1) sets lines s a u
     passing-over z = let o = waiter-over b l k h ne (sym can ∙ z) i.passed.0 in record {
       store = i.store;
-      entries = i.entries;
       admits_are = i.admits_are;
       uses_are = i.uses_are;
       passed = (
@@ -186,10 +185,9 @@ module _ {w : Written} {l : List ℕ} {k : ℕ} {sets : Sets} {lines : Entries} 
       -- the waiter is given its file
       pub passing-given : (x : Sets) (m : Entries) (n : Progress) (v : Uses)
           → written_in x m n ≡ after (written_in sets lines s) (give_to (board_of sets s.rest) (get_or l k 0) (awaited_of q.standing))
-          → IsStore x → IsEntries m → v ≡ uses_in a x → Passing w l (k + 1) x m n a v
-      passing-given x m n v e st en ve = record {
-        store = st;
-        entries = en;
+          → x ≡ given_at sets (get_or l k 0) (awaited_of q.standing) → v ≡ uses_in a x → Passing w l (k + 1) x m n a v
+      passing-given x m n v e g ve = record {
+        store = subst IsStore (sym g) (given_store sets p (awaited_of q.standing) passing-range.0 passing-range.1 i.store);
         admits_are = i.admits_are ∙ sym (ap admitted_set (ap (λ (x : Written). x.board) d ∙ sym (given_is b p (awaited b p) i.passed.0.0.base.size is))
             ∙ admitted-given b p (awaited b p) i.passed.0.0.base.size is admitted);
         uses_are = ve;

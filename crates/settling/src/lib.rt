@@ -7,8 +7,8 @@ ghost use Rattle.laws.specs.Laws.{◌∈◌};
 ghost use Rattle.rules.specs.Boards.{awaited_of, is_program};
 ghost use Rattle.rules.specs.Settling.{line_of, pass, hand_on, candidate, favour, run_held, choose, settle};
 ghost use Rattle.theory.specs.Loose.{Loose, Counts};
-ghost use Rattle.parts.specs.Entries.{IsEntries, entry_of};
-ghost use Rattle.store.specs.Sets.{Sets, IsStore};
+ghost use Rattle.parts.specs.Entries.{entry_of};
+ghost use Rattle.store.specs.Sets.{Sets, IsStore, given_at};
 ghost use Rattle.store.specs.Store.{board_of};
 ghost use Rattle.search.specs.Gives.{used_in, give_in};
 ghost use Rattle.settling.specs.Writing.{progress, written_in, after, Fits, give_to, admit_one, CountsFew, served_rest, seat_wants, record_waiter, Tests, as_option};
@@ -60,10 +60,9 @@ fn served(rest: Rest, p: u8) -> Rest
 
 // One line more is written, after `count` lines, on the way to this rest.
 fn write_line(lines: &mut Entries, count: u8, line: Entry, rest: Rest) -> Progress
-    requires { (count < 32) × IsEntries lines.old }
+    requires { count < 32 }
     ensures value { result ≡ progress rest (count + 1) }
     ensures lines_after { lines.new ≡ set lines.old count line }
-    ensures entries { IsEntries lines.new }
 {
     lines[count as usize] = line;
     Progress {
@@ -75,7 +74,7 @@ fn write_line(lines: &mut Entries, count: u8, line: Entry, rest: Rest) -> Progre
 // Whether an open would now give p, which waits in this seat, its file; not if it waits for a record: "Settling's pass skips those who
 // wait for a record."
 fn can_serve(sets: &Sets, uses: Uses, p: u8, seat: Seat) -> bool
-    requires { ((1 ≤ p) × (p ≤ 32)) × IsStore sets.now }
+    requires { (1 ≤ p) × (p ≤ 32) }
     ensures { result ≡ eqb seat.item 0 && give_in sets.now uses p (awaited_of seat.standing) }
 {
     let f = parts::standings::awaited(seat.standing);
@@ -83,11 +82,12 @@ fn can_serve(sets: &Sets, uses: Uses, p: u8, seat: Seat) -> bool
 }
 
 // The waiter p is given the file f: a GIVEN line.
+// Called in a loop: what the type of the sets says is asked here, and not gone through again.
 fn give(sets: &mut Sets, lines: &mut Entries, w: Progress, p: u8, f: u16) -> Progress
-    requires { ((1 ≤ p) × (p ≤ 32)) × Loose (board_of sets.old w.rest) × (w.count < 32) × IsStore sets.old × IsEntries lines.old }
+    requires { ((1 ≤ p) × (p ≤ 32)) × Loose (board_of sets.old w.rest) × (w.count < 32) × IsStore sets.old }
     ensures result_after { written_in sets.new lines.new result
         ≡ after (written_in sets.old lines.old w) (give_to (board_of sets.old w.rest) p f) }
-    ensures store { IsStore sets.new × IsEntries lines.new }
+    ensures sets_after { sets.new ≡ given_at sets.old p f }
 {
     store::sets::give(sets, p, f);
     write_line(
@@ -101,12 +101,11 @@ fn give(sets: &mut Sets, lines: &mut Entries, w: Progress, p: u8, f: u16) -> Pro
 // Once through the waiting line, from the oldest: a GIVEN line for each waiter that is given its file.
 fn pass_line(sets: &mut Sets, lines: &mut Entries, w: Progress) -> Progress
     requires { Loose (board_of sets.old w.rest) × Counts (board_of sets.old w.rest)
-        × Fits (written_in sets.old lines.old w) (pass (names w.rest.waiting) (board_of sets.old w.rest))
-        × IsStore sets.old × IsEntries lines.old }
-    ensures result_after { written_in sets.new lines.new result
+        × Fits (written_in sets.old lines.old w) (pass (names w.rest.waiting) (board_of sets.old w.rest)) }
+    ensures { written_in sets.new lines.new result
         ≡ after (written_in sets.old lines.old w) (pass (names w.rest.waiting) (board_of sets.old w.rest)) }
-    ensures store { IsStore sets.new × IsEntries lines.new }
 {
+    store::sets::sized(sets);
     let admitted = tables::boards::admitted_seats(w.rest);
     let mut uses = search::gives::uses_in(admitted, sets);
     let mut s = w;
@@ -125,7 +124,7 @@ fn pass_line(sets: &mut Sets, lines: &mut Entries, w: Progress) -> Progress
 
 // Whether the program p, which waits in this seat, waits for a file, in no conflicting use, and not for a record.
 fn is_unused(sets: &Sets, uses: Uses, p: u8, seat: Seat) -> bool
-    requires { ((1 ≤ p) × (p ≤ 32)) × IsStore sets.now }
+    requires { (1 ≤ p) × (p ≤ 32) }
     ensures { result ≡ eqb seat.item 0 && not (used_in sets.now uses p (awaited_of seat.standing)) }
 {
     let f = parts::standings::awaited(seat.standing);
@@ -150,7 +149,7 @@ fn oldest<F: Fn(u8) -> bool>(line: [u8; 32], test: F) -> Option<u8>
 
 // The oldest waiter whose file is in no conflicting use: waits for a record "are never favoured for want of an order".
 fn oldest_unused(sets: &Sets, rest: Rest) -> Option<u8>
-    requires { Loose (board_of sets.now rest) × IsStore sets.now }
+    requires { Loose (board_of sets.now rest) }
     ensures { result ≡ as_option (candidate (board_of sets.now rest)) }
 {
     // Where nobody waits, what is open is not asked for.
@@ -158,6 +157,7 @@ fn oldest_unused(sets: &Sets, rest: Rest) -> Option<u8>
     if line[0] == 0 {
         return None;
     }
+    store::sets::sized(sets);
     let admitted = tables::boards::admitted_seats(rest);
     let uses = search::gives::uses_in(admitted, sets);
     oldest(
@@ -168,10 +168,9 @@ fn oldest_unused(sets: &Sets, rest: Rest) -> Option<u8>
 
 // The waiter p becomes favoured, with the number admitted and a leave count of 0: a FAVOUR line, with the record if it awaits one.
 pub fn favour_waiter(sets: &Sets, lines: &mut Entries, w: Progress, p: u8) -> Progress
-    requires { ((1 ≤ p) × (p ≤ 32)) × (w.count < 32) × IsEntries lines.old }
-    ensures result_after { written_in sets.now lines.new result
+    requires { ((1 ≤ p) × (p ≤ 32)) × (w.count < 32) }
+    ensures { written_in sets.now lines.new result
         ≡ after (written_in sets.now lines.old w) (favour (board_of sets.now w.rest) p) }
-    ensures entries { IsEntries lines.new }
 {
     let seat = store::seat_at(w.rest, p);
     let f = parts::standings::awaited(seat.standing);
@@ -207,14 +206,14 @@ fn oldest_for(rest: Rest, f: u16, n: u16) -> Option<u8>
 
 // "the oldest waiter for the record gets it (GIVEN)": the record n of f, which nobody has in use any more, is handed on.
 pub fn hand_on(sets: &Sets, lines: &mut Entries, w: Progress, f: u16, n: u16) -> Progress
-    requires { Loose (board_of sets.now w.rest) × (w.count < 32) × IsStore sets.now × IsEntries lines.old }
-    ensures result_after { written_in sets.now lines.new result
+    requires { Loose (board_of sets.now w.rest) × (w.count < 32) }
+    ensures { written_in sets.now lines.new result
         ≡ after (written_in sets.now lines.old w) (hand_on (board_of sets.now w.rest) f n) }
-    ensures entries { IsEntries lines.new }
 {
     let Some(p) = oldest_for(w.rest, f, n) else {
         return w;
     };
+    store::sets::sized(sets);
     write_line(
         lines,
         w.count,
@@ -224,11 +223,11 @@ pub fn hand_on(sets: &Sets, lines: &mut Entries, w: Progress, f: u16, n: u16) ->
 }
 
 // The held program p runs, out of the entry line, and the waiters' counts go up: an ADMIT line.
+// Called in a loop: what the type of the sets says is asked here, and not gone through again.
 fn admit_one(sets: &Sets, lines: &mut Entries, w: Progress, p: u8) -> Progress
-    requires { ((1 ≤ p) × (p ≤ 32)) × (w.count < 32) × CountsFew w.rest.passed × IsStore sets.now × IsEntries lines.old }
-    ensures result_after { written_in sets.now lines.new result
+    requires { ((1 ≤ p) × (p ≤ 32)) × (w.count < 32) × CountsFew w.rest.passed × IsStore sets.now }
+    ensures { written_in sets.now lines.new result
         ≡ after (written_in sets.now lines.old w) (admit_one (board_of sets.now w.rest) p) }
-    ensures entries { IsEntries lines.new }
 {
     let mut rest = store::seated(w.rest, p, Standing::Running);
     rest.entry = lines::remove(w.rest.entry, p);
@@ -239,12 +238,11 @@ fn admit_one(sets: &Sets, lines: &mut Entries, w: Progress, p: u8) -> Progress
 // The held programs run, one after another from the oldest, until a waiter's count is 8: that one is then favoured.
 fn admit_held(sets: &Sets, lines: &mut Entries, w: Progress) -> Progress
     requires { Loose (board_of sets.now w.rest) × Counts (board_of sets.now w.rest) × (w.rest.favoured ≡ 0)
-        × Fits (written_in sets.now lines.old w) (run_held (names w.rest.entry) (board_of sets.now w.rest))
-        × IsStore sets.now × IsEntries lines.old }
-    ensures result_after { written_in sets.now lines.new result
+        × Fits (written_in sets.now lines.old w) (run_held (names w.rest.entry) (board_of sets.now w.rest)) }
+    ensures { written_in sets.now lines.new result
         ≡ after (written_in sets.now lines.old w) (run_held (names w.rest.entry) (board_of sets.now w.rest)) }
-    ensures entries { IsEntries lines.new }
 {
+    store::sets::sized(sets);
     let mut s = w;
     for p in w.rest.entry {
         if p == 0 {
@@ -261,10 +259,9 @@ fn admit_held(sets: &Sets, lines: &mut Entries, w: Progress) -> Progress
 // If nobody is favoured, the oldest waiter whose file is not in use is; if there is none, the held programs run.
 fn choose_next(sets: &Sets, lines: &mut Entries, w: Progress) -> Progress
     requires { Loose (board_of sets.now w.rest) × Counts (board_of sets.now w.rest)
-        × Fits (written_in sets.now lines.old w) (choose (board_of sets.now w.rest)) × IsStore sets.now × IsEntries lines.old }
-    ensures result_after { written_in sets.now lines.new result
+        × Fits (written_in sets.now lines.old w) (choose (board_of sets.now w.rest)) }
+    ensures { written_in sets.now lines.new result
         ≡ after (written_in sets.now lines.old w) (choose (board_of sets.now w.rest)) }
-    ensures entries { IsEntries lines.new }
 {
     if w.rest.favoured != 0 {
         return w;
@@ -278,10 +275,9 @@ fn choose_next(sets: &Sets, lines: &mut Entries, w: Progress) -> Progress
 // Settle: through the waiting line once from the oldest, then favour or run those held.
 pub fn settled(sets: &mut Sets, lines: &mut Entries, w: Progress) -> Progress
     requires { Loose (board_of sets.old w.rest) × Counts (board_of sets.old w.rest)
-        × Fits (written_in sets.old lines.old w) (settle (board_of sets.old w.rest)) × IsStore sets.old × IsEntries lines.old }
-    ensures result_after { written_in sets.new lines.new result
+        × Fits (written_in sets.old lines.old w) (settle (board_of sets.old w.rest)) }
+    ensures { written_in sets.new lines.new result
         ≡ after (written_in sets.old lines.old w) (settle (board_of sets.old w.rest)) }
-    ensures store { IsStore sets.new × IsEntries lines.new }
 {
     if w.rest.waiting[0] == 0 && w.rest.entry[0] == 0 {
         return w;

@@ -1,6 +1,7 @@
 use mathlib.Core.Path.{◌≡◌, ap, sym, ◌∙◌}
 use mathlib.Core.List.{[]}
 use native.Mathlib.Omega.{arith}
+use Rattle.std.proofs.Common.{rules}
 use lib.ListN.{length, get_or, get_or-map}
 use lib.Seq.{get_or-take}
 use Rattle.columns.proofs.Rows.{start, step}
@@ -18,7 +19,8 @@ loop-entry-preserved c =
     let a = c.args in
     let l = c.loop-entry in
     let ls = lines_in a.lines.now in
-    let n : length ls ≡ 32 = length-lines a.lines.now ∙ c.requires.2.places_are in
+    let m : length a.lines.now ≡ 32 = search rules in
+    let n : length ls ≡ 32 = length-lines a.lines.now ∙ m in
     let read : c.line_in.result ≡ get_or ls l.entry-index (line_in []) =
     c.line_in.ensures ∙ ap line_in (get_or-take a.count a.lines.now l.entry-index [] (omega arith)) ∙ sym (get_or-map line_in a.lines.now l.entry-index []) in
     record {
@@ -31,5 +33,6 @@ pub returns-clause-journal_after : goal.returns-clause-journal_after
 returns-clause-journal_after c =
     let a = c.args in
     let ls = lines_in a.lines.now in
-    let n : length ls ≡ 32 = length-lines a.lines.now ∙ c.requires.2.places_are in
+    let m : length a.lines.now ≡ 32 = search rules in
+    let n : length ls ≡ 32 = length-lines a.lines.now ∙ m in
     ends a.journal.now c.loop-entry.journal ls a.place c.loop-entry.entry-index a.count (omega arith) (omega arith) c.loop-entry.invariant.journal_is

@@ -5,9 +5,9 @@ use Rattle.settling.specs.Writing.{written_in}
 use Rattle.settling.proofs.Laws.{found_some, found-none, candidate-range, choose-still, run-held-is, favour-is, held_fits, favour-fits}
 use Rattle.settling.proofs.choose_next.Goals as goal
 
-pub returns-then-w-ne0-clause-result_after : goal.returns-then-w-ne0-clause-result_after
+pub returns-then-w-ne0 : goal.returns-then-w-ne0
 unfolding board_of
-returns-then-w-ne0-clause-result_after c = choose-still (written_in c.args.sets.now c.args.lines.now c.args.w) c.if-w-ne0.true
+returns-then-w-ne0 c = choose-still (written_in c.args.sets.now c.args.lines.now c.args.w) c.if-w-ne0.true
 
 pub favour_waiter-requires : goal.favour_waiter-requires
 unfolding board_of
@@ -15,12 +15,11 @@ favour_waiter-requires c = let b = board_of c.args.sets.now c.args.w.rest in
     let o = found_some (candidate b) c.in-Some.p (sym c.in-Some.is ∙ c.oldest_unused.ensures) in (
       candidate-range b c.in-Some.p c.requires.0 o,
       favour-fits (written_in c.args.sets.now c.args.lines.now c.args.w) c.in-Some.p c.if-w-ne0.false o c.requires.2,
-      c.requires.4,
     )
 
-pub returns-in-Some-clause-result_after : goal.returns-in-Some-clause-result_after
+pub returns-in-Some : goal.returns-in-Some
 unfolding board_of
-returns-in-Some-clause-result_after c = c.favour_waiter.ensures.result_after
+returns-in-Some c = c.favour_waiter.ensures
     ∙ favour-is (written_in c.args.sets.now c.args.lines.now c.args.w) c.in-Some.p c.if-w-ne0.false
     (found_some _ c.in-Some.p (sym c.in-Some.is ∙ c.oldest_unused.ensures))
 
@@ -32,12 +31,10 @@ admit_held-requires c = (
   c.if-w-ne0.false,
   held_fits (written_in c.args.sets.now c.args.lines.now c.args.w) c.if-w-ne0.false
       (found-none _ (sym c.in-None.is ∙ c.oldest_unused.ensures)) c.requires.2,
-  c.requires.3,
-  c.requires.4,
 )
 
-pub returns-in-None-clause-result_after : goal.returns-in-None-clause-result_after
+pub returns-in-None : goal.returns-in-None
 unfolding board_of
-returns-in-None-clause-result_after c = c.admit_held.ensures.result_after
+returns-in-None c = c.admit_held.ensures
     ∙ run-held-is (written_in c.args.sets.now c.args.lines.now c.args.w) c.if-w-ne0.false
     (found-none _ (sym c.in-None.is ∙ c.oldest_unused.ensures))

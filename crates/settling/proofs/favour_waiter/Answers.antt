@@ -9,8 +9,8 @@ use Rattle.tables.proofs.Laws.{admitted-those}
 use Rattle.settling.proofs.Storing.{favour-done}
 use Rattle.settling.proofs.favour_waiter.Goals as goal
 
-pub returns-clause-result_after : goal.returns-clause-result_after
-returns-clause-result_after c = let a = c.args in let b = board-at a.sets.now a.w.rest a.p c.requires.0.0 c.requires.0.1 in
+pub returns : goal.returns
+returns c = let a = c.args in let b = board-at a.sets.now a.w.rest a.p c.requires.0.0 c.requires.0.1 in
     rw (c.write_line.ensures.value, c.write_line.ensures.lines_after) (favour-done a.sets.now a.lines.now a.w.rest a.w.count a.p c.line_of.result _ _ _ c.line_of.ensures
     (c.awaited-f.ensures ∙ ap (λ t. awaited_of t.standing) c.seat_at-seat.ensures ∙ sym (ap (λ q. awaited_of q.standing) b))
     (ap (λ t. t.item) c.seat_at-seat.ensures ∙ sym (ap (λ q. q.item) b))
