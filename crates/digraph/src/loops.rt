@@ -25,21 +25,11 @@ use tables::ProgramSet;
 // All programs.
 const ALL: ProgramSet = ProgramSet { bits: u32::MAX };
 
-// The row of program p.
-fn row_of(rows: &[u32; 32], p: u8) -> ProgramSet
-    requires { (1 ≤ p) × (p ≤ 32) }
-    ensures { result ≡ row_of rows.now p }
-{
-    ProgramSet {
-        bits: rows[(p - 1) as usize],
-    }
-}
-
 // Whether p is left, and `before` holds it back.
 fn follows(rows: &[u32; 32], left: ProgramSet, before: u8, p: u8) -> bool
     ensures { result ≡ has_program left p && has_program (row_of rows.now p) before }
 {
-    left.has(p) && row_of(rows, p).has(before)
+    left.has(p) && tables::row_of(rows, p).has(before)
 }
 
 // Whether the list is a loop: two or more different programs, each holding back the next and the last the first.
@@ -68,7 +58,7 @@ fn lowest_holder(rows: &[u32; 32], set: ProgramSet, x: u8) -> Option<u8>
     requires { (1 ≤ x) × (x ≤ 32) }
     ensures { MatchOption result (lowest_holder rows.now set x ≡ none) (λ y. (lowest_holder rows.now set x ≡ some y) × ((1 ≤ y) × (y ≤ 32))) }
 {
-    let by = row_of(rows, x).without(x).and(set);
+    let by = tables::row_of(rows, x).without(x).and(set);
     if by.bits == 0 {
         None
     } else {
@@ -128,7 +118,7 @@ fn walk_back(rows: &[u32; 32], set: ProgramSet, n: usize, x: u8, at: [u8; 32], k
 fn in_own(rows: &[u32; 32]) -> ProgramSet
     ensures { result ≡ packed (λ p. cell rows.now p p) 32 }
 {
-    ProgramSet::those(|p| row_of(rows, p).has(p))
+    ProgramSet::those(|p| tables::row_of(rows, p).has(p))
 }
 
 // A loop of the board whose rows and whose matrix these are, and none where it has an order.

@@ -108,7 +108,7 @@ fn holders_in(rows: &[u32; 32], p: u8, set: ProgramSet) -> ProgramSet
     requires { (1 ≤ p) × (p ≤ 32) }
     ensures { result ≡ packed (holders_in rows.now p set) 32 }
 {
-    set.filter(|q| crate::row_of(rows, q).has(p))
+    set.filter(|q| tables::row_of(rows, q).has(p))
 }
 
 // The same as `is_safe`, of an admitted program, where the rows of the admitted are filled: who holds back whom is read from them.

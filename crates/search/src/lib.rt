@@ -4,7 +4,6 @@
 ghost use Rattle.std.specs.Prelude.{◌≡◌, ◌+◌, ◌≤◌, length, replicate, IfSome};
 ghost use Rattle.rules.specs.Orders.{carried};
 ghost use Rattle.store.specs.Store.{board_of};
-ghost use Rattle.tables.specs.Tables.{row_of};
 ghost use Rattle.search.specs.Counts.{counts_of, Counted, CanRaise, CanLower, raised, lowered, lowest};
 ghost use Rattle.search.specs.Rows.{order_from, placed, outcome, as_order, order_in, is_found};
 
@@ -46,16 +45,6 @@ impl Order {
     };
 }
 
-// The row of p.
-fn row_of(rows: &[u32; 32], p: u8) -> ProgramSet
-    requires { (1 ≤ p) × (p ≤ 32) }
-    ensures { result ≡ row_of rows.now p }
-{
-    ProgramSet {
-        bits: rows[place_of(p)],
-    }
-}
-
 // One more for each program of a set.
 fn raise(set: ProgramSet, counts: &mut [u8; 32])
     requires { CanRaise set counts.old }
@@ -82,7 +71,7 @@ fn count_all(rows: &[u32; 32], left: ProgramSet, counts: &mut [u8; 32])
     ensures { counts.new ≡ counts_of rows.now left }
 {
     for p in left {
-        raise(row_of(rows, p).and(left), counts);
+        raise(tables::row_of(rows, p).and(left), counts);
     }
 }
 
@@ -119,7 +108,7 @@ fn search_rest(
         return false;
     };
     let rest = left.without(p);
-    lower(row_of(rows, p).and(rest), counts);
+    lower(tables::row_of(rows, p).and(rest), counts);
     at[k] = p;
     search_rest(rows, rest, n - 1, counts, at, k + 1)
 }

@@ -4,7 +4,7 @@
 // in `rows` the set of the admitted programs that the admitted program p holds back stands in place p - 1.
 ghost use Rattle.std.specs.Prelude.{◌≡◌, ◌≤◌};
 ghost use Rattle.store.specs.Sets.{holds_one};
-ghost use Rattle.tables.specs.Tables.{holders_of, joined, packed};
+ghost use Rattle.tables.specs.Tables.{holders_of, joined, packed, row_of};
 
 use parts::modes;
 use rules::Mode;
@@ -36,6 +36,16 @@ pub fn join(s: ProgramSet, p: u8, yes: bool) -> ProgramSet
         return s.with(p);
     }
     s
+}
+
+// The row of p, of 32 rows.
+pub fn row_of(rows: &[u32; 32], p: u8) -> ProgramSet
+    requires { (1 ≤ p) × (p ≤ 32) }
+    ensures { result ≡ row_of rows.now p }
+{
+    ProgramSet {
+        bits: rows[boards::place_of(p)],
+    }
 }
 
 // The test of an ordered pair: whether p holds back q. No other function makes it.
