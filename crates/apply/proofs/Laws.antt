@@ -44,7 +44,7 @@ use Rattle.theory.specs.Calls.{apply-accepted, apply-refused, failed_passed, ope
 use Rattle.theory.specs.Worked.{accepted_answer}
 use Rattle.theory.specs.Ready.{Ready, entry-room, waiting_room, close_ready, drop-ready, cancel-ready, leaves-room}
 use Rattle.parts.specs.Entries.{Entries, IsEntries, no_entries, lines_in, entry_of}
-use Rattle.parts.proofs.Lined.{lines-set, entries_set, fresh_entries, no_lines_padded}
+use Rattle.parts.proofs.Lined.{lines-set, fresh_entries, no_lines_padded}
 use Rattle.store.specs.declared.Seat.{Seat}
 use Rattle.store.specs.declared.Rest.{Rest}
 use Rattle.store.specs.Sets.{Sets, IsStore, open_at, claims_at, opens_at}
@@ -308,9 +308,6 @@ pub wrote_first : (b : Board) (e : Entries) (x : List ℕ) (l : Line) → x ≡ 
 unfolding padded
 wrote_first b e x l k z = ap (λ (y : List Line). record { board = b; lines = y; count = 1 })
     (ap (λ (y : List ℕ). lines_in (set e 0 y)) k ∙ lines-set e 0 l ∙ ap (λ (y : Entries). set (lines_in y) 0 l) z)
-
-pub first_entries : (e : Entries) (x : List ℕ) (l : Line) → x ≡ entry_of l → e ≡ no_entries → IsEntries (set e 0 x)
-first_entries e x l k z = subst (λ (y : List ℕ). IsEntries (set e 0 y)) (sym k) (entries_set e 0 l (none_entries e z))
 
 -- none is written
 pub none-lines : (b : Board) (e : Entries) → e ≡ no_entries → ◌≡◌ {A = Written} (record { board = b; lines = lines_in e; count = 0 }) (wrote b [])

@@ -5,7 +5,6 @@ ghost use Rattle.files.specs.Sets.{is_file};
 ghost use Rattle.rules.specs.Boards.{is_program};
 ghost use Rattle.rules.specs.Modes.{claims_meet};
 ghost use Rattle.rules.specs.Calls.{call_of, checked};
-ghost use Rattle.store.specs.Sets.{IsStore};
 ghost use Rattle.store.specs.Store.{board_of};
 ghost use Rattle.apply.specs.Replies.{record_check, running_check, using_check, busy_check, entry_check, stopped_check, claim_check_at, use_check_at, inquiry_check_at, returned_check, near_open, near_close, near_fetch, near_return, near_check};
 
@@ -76,7 +75,7 @@ fn busy_check(seat: Seat) -> Result<(), Refusal>
 
 // 14, 15.
 fn claim_check(sets: &Sets, p: u8, f: u16) -> Result<(), Refusal>
-    requires { ((1 ≤ p) × (p ≤ 32)) × IsStore sets.now }
+    requires { (1 ≤ p) × (p ≤ 32) }
     ensures { result ≡ claim_check_at sets.now p f }
 {
     if !sets::has_claim(sets, p, f, Mode::Write) {
@@ -90,7 +89,7 @@ fn claim_check(sets: &Sets, p: u8, f: u16) -> Result<(), Refusal>
 
 // 16.
 fn use_check(sets: &Sets, p: u8, f: u16) -> Result<(), Refusal>
-    requires { ((1 ≤ p) × (p ≤ 32)) × IsStore sets.now }
+    requires { (1 ≤ p) × (p ≤ 32) }
     ensures { result ≡ use_check_at sets.now p f }
 {
     if !sets::has_open(sets, p, f) {
@@ -101,7 +100,7 @@ fn use_check(sets: &Sets, p: u8, f: u16) -> Result<(), Refusal>
 
 // 20, of a fetch: a file that is not open for inquiry.
 fn inquiry_check(sets: &Sets, p: u8, f: u16) -> Result<(), Refusal>
-    requires { ((1 ≤ p) × (p ≤ 32)) × IsStore sets.now }
+    requires { (1 ≤ p) × (p ≤ 32) }
     ensures { result ≡ inquiry_check_at sets.now p f }
 {
     if !words::has(&sets[sets::open_at(Mode::Inquiry, p)], f) {
@@ -142,7 +141,7 @@ fn check_enter(s: Standing, claims: Claims) -> Result<(), Refusal>
 
 // 8, 11 to 13, 21, 14 and 15, of a program in range; for open and for drop.
 fn check_open(sets: &Sets, p: u8, seat: Seat, file: u64) -> Result<(), Refusal>
-    requires { ((1 ≤ p) × (p ≤ 32)) × IsStore sets.now }
+    requires { (1 ≤ p) × (p ≤ 32) }
     ensures { result ≡ near_open sets.now p seat file }
 {
     let f = file_of(file).ok_or(Refusal::OutOfRange)?;
@@ -152,7 +151,7 @@ fn check_open(sets: &Sets, p: u8, seat: Seat, file: u64) -> Result<(), Refusal>
 
 // 8, 11 to 13, 21 and 16, of a program in range.
 fn check_close(sets: &Sets, p: u8, seat: Seat, file: u64) -> Result<(), Refusal>
-    requires { ((1 ≤ p) × (p ≤ 32)) × IsStore sets.now }
+    requires { (1 ≤ p) × (p ≤ 32) }
     ensures { result ≡ near_close sets.now p seat file }
 {
     let f = file_of(file).ok_or(Refusal::OutOfRange)?;
@@ -162,7 +161,7 @@ fn check_close(sets: &Sets, p: u8, seat: Seat, file: u64) -> Result<(), Refusal>
 
 // 8, 19, 11 to 13, 21 and 20, of a program in range.
 fn check_fetch(sets: &Sets, p: u8, seat: Seat, file: u64, item: u64) -> Result<(), Refusal>
-    requires { ((1 ≤ p) × (p ≤ 32)) × IsStore sets.now }
+    requires { (1 ≤ p) × (p ≤ 32) }
     ensures { result ≡ near_fetch sets.now p seat file item }
 {
     let f = file_of(file).ok_or(Refusal::OutOfRange)?;
@@ -192,7 +191,7 @@ fn check_cancel(s: Standing) -> Result<(), Refusal>
 
 // The checks of a call, of a program in range that has this seat.
 fn check_call(sets: &Sets, p: u8, seat: Seat, a: Asked) -> Result<(), Refusal>
-    requires { ((1 ≤ p) × (p ≤ 32)) × IsStore sets.now }
+    requires { (1 ≤ p) × (p ≤ 32) }
     ensures { result ≡ near_check sets.now p seat a.verb a.file a.item a.claims }
 {
     match a.verb {
@@ -208,9 +207,9 @@ fn check_call(sets: &Sets, p: u8, seat: Seat, a: Asked) -> Result<(), Refusal>
 
 // The program of a call that no check refuses.
 pub fn check(sets: &Sets, rest: Rest, a: Asked) -> Result<u8, Refusal>
-    requires { IsStore sets.now }
     ensures { result ≡ result_and (checked (board_of sets.now rest) (call_of a)) (Ok a.program) }
 {
+    sets::sized(sets);
     let p = program_of(a.program).ok_or(Refusal::OutOfRange)?;
     check_call(sets, p, store::seat_at(rest, p), a)?;
     Ok(p)

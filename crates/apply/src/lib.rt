@@ -9,17 +9,17 @@ ghost use Rattle.rules.specs.Checks.{open_check, close_check, leave_check, cance
 ghost use Rattle.rules.specs.Calls.{newcomer, admit, hold, hold_for, open_file, fetch, return_item, close_file, drop_file, count_leave, leave};
 ghost use Rattle.rules.specs.Calls.{count_cancel, withdrawn, cancel, call_with, call_of, checked, accepted, apply};
 ghost use Rattle.theory.specs.Loose.{Good};
-ghost use Rattle.parts.specs.Entries.{IsEntries, no_entries};
-ghost use Rattle.store.specs.Sets.{IsStore};
+ghost use Rattle.parts.specs.Entries.{no_entries};
 ghost use Rattle.store.specs.Store.{board_of};
 ghost use Rattle.apply.specs.Replies.{unordered, ComesTo, Carries, InForm, entering, waiting_for};
 
+use parts::entries;
 use parts::entries::Entries;
 use rules::{Answer, Asked, Claims, Program, Standing, Verb, Word};
 use search::{Order, Search};
 use settling::Progress;
 use store::sets::Sets;
-use store::{Rest, Seat};
+use store::{Rest, Seat, sets};
 
 mod checks;
 pub mod replies;
@@ -64,13 +64,12 @@ fn new_program(claims: Claims, s: Standing) -> Program
 // p runs, and the count of each waiting program goes up.
 fn put_running(sets: &mut Sets, rest: Rest, p: u8, claims: Claims) -> Rest
     requires { ((1 ≤ p) × (p ≤ 32)) × Good (board_of sets.old rest)
-        × (checked (board_of sets.old rest) (entering p claims) ≡ Ok tt) × IsStore sets.old }
-    ensures result_after { board_of sets.new result
+        × (checked (board_of sets.old rest) (entering p claims) ≡ Ok tt) }
+    ensures { board_of sets.new result
         ≡ admit (board_of sets.old rest) p claims.writable claims.readable claims.inquirable }
-    ensures store { IsStore sets.new }
 {
     let runs = new_program(claims, Standing::Running);
-    let c = store::sets::put(sets, rest, p, runs);
+    let c = sets::put(sets, rest, p, runs);
     Rest {
         passed: settling::counts::tally(sets, c),
         ..c
@@ -79,16 +78,14 @@ fn put_running(sets: &mut Sets, rest: Rest, p: u8, claims: Claims) -> Rest
 
 // p is held, at the end of the entry line.
 fn put_held(sets: &mut Sets, rest: Rest, p: u8, claims: Claims) -> Rest
-    requires { ((1 ≤ p) × (p ≤ 32)) × ((rest.entry ≡ padded 0 (names rest.entry)) × (length (names rest.entry) < 32))
-        × IsStore sets.old }
-    ensures result_after { board_of sets.new result
+    requires { ((1 ≤ p) × (p ≤ 32)) × ((rest.entry ≡ padded 0 (names rest.entry)) × (length (names rest.entry) < 32)) }
+    ensures { board_of sets.new result
         ≡ hold (board_of sets.old rest) p claims.writable claims.readable claims.inquirable }
-    ensures store { IsStore sets.new }
 {
     let held = new_program(claims, Standing::Held);
     Rest {
         entry: lines::append(rest.entry, p),
-        ..store::sets::put(sets, rest, p, held)
+        ..sets::put(sets, rest, p, held)
     }
 }
 
@@ -102,11 +99,10 @@ fn hold_for(
     w: u8,
 ) -> Changed
     requires { ((1 ≤ p) × (p ≤ 32)) × Good (board_of sets.old rest)
-        × (checked (board_of sets.old rest) (entering p claims) ≡ Ok tt) × ((1 ≤ w) × (w ≤ 32)) × IsStore sets.old
-        × (lines.old ≡ no_entries) }
+        × (checked (board_of sets.old rest) (entering p claims) ≡ Ok tt) × ((1 ≤ w) × (w ≤ 32)) × (lines.old ≡ no_entries) }
     ensures comes_to { ComesTo sets.new lines.new result
         (hold_for (board_of sets.old rest) p claims.writable claims.readable claims.inquirable w) }
-    ensures in_form { InForm sets.new lines.new result }
+    ensures carries { Carries (board_of sets.new result.progress.rest) result.order }
 {
     let c = put_held(sets, rest, p, claims);
     let held = replies::one_line(sets, c, lines, Word::Held, p, 0, 0);
@@ -118,9 +114,9 @@ fn hold_for(
 // otherwise p runs.
 fn do_enter(sets: &mut Sets, rest: Rest, lines: &mut Entries, p: u8, claims: Claims) -> Changed
     requires { ((1 ≤ p) × (p ≤ 32)) × Good (board_of sets.old rest)
-        × (checked (board_of sets.old rest) (entering p claims) ≡ Ok tt) × IsStore sets.old × (lines.old ≡ no_entries) }
+        × (checked (board_of sets.old rest) (entering p claims) ≡ Ok tt) × (lines.old ≡ no_entries) }
     ensures comes_to { ComesTo sets.new lines.new result (accepted (board_of sets.old rest) (entering p claims)) }
-    ensures in_form { InForm sets.new lines.new result }
+    ensures carries { Carries (board_of sets.new result.progress.rest) result.order }
 {
     if rest.favoured != 0 {
         let c = put_held(sets, rest, p, claims);
@@ -137,10 +133,10 @@ fn do_enter(sets: &mut Sets, rest: Rest, lines: &mut Entries, p: u8, claims: Cla
 
 // p waits for f, at the end of the waiting line: for the record n of the file g, or, if both are 0, for f itself.
 fn put_waiting(sets: &Sets, rest: Rest, p: u8, f: u16, g: u16, n: u16) -> Rest
-    requires { ((1 ≤ p) × (p ≤ 32)) × ((rest.waiting ≡ padded 0 (names rest.waiting)) × (length (names rest.waiting) < 32))
-        × IsStore sets.now }
+    requires { ((1 ≤ p) × (p ≤ 32)) × ((rest.waiting ≡ padded 0 (names rest.waiting)) × (length (names rest.waiting) < 32)) }
     ensures { board_of sets.now result ≡ waiting_for (board_of sets.now rest) p f g n }
 {
+    sets::sized(sets);
     let seat = Seat {
         standing: Standing::Waiting(f),
         file: g,
@@ -155,10 +151,11 @@ fn put_waiting(sets: &Sets, rest: Rest, p: u8, f: u16, g: u16, n: u16) -> Rest
 // Open: WAIT if another program has f in conflicting use; UNSAFE if no order comes back with f given; otherwise GIVEN.
 fn do_open(sets: &mut Sets, rest: Rest, lines: &mut Entries, p: u8, f: u16) -> Changed
     requires { ((1 ≤ p) × (p ≤ 32)) × Good (board_of sets.old rest) × (open_check (board_of sets.old rest) p f ≡ Ok tt)
-        × IsStore sets.old × (lines.old ≡ no_entries) }
+        × (lines.old ≡ no_entries) }
     ensures comes_to { ComesTo sets.new lines.new result (open_file (board_of sets.old rest) p f) }
-    ensures in_form { InForm sets.new lines.new result }
+    ensures carries { Carries (board_of sets.new result.progress.rest) result.order }
 {
+    sets::sized(sets);
     let admitted = tables::boards::admitted_seats(rest);
     let uses = search::gives::uses_in(admitted, sets);
     if search::gives::in_use(sets, uses, p, f) {
@@ -172,7 +169,7 @@ fn do_open(sets: &mut Sets, rest: Rest, lines: &mut Entries, p: u8, f: u16) -> C
         let c = put_waiting(sets, rest, p, f, 0, 0);
         return replies::answered(sets, c, lines, Word::Unsafe, p, f, 0, Answer::Unsafe);
     };
-    store::sets::give(sets, p, f);
+    sets::give(sets, p, f);
     let at = order.at;
     let given = Order {
         kind: Search::Found(n),
@@ -185,10 +182,11 @@ fn do_open(sets: &mut Sets, rest: Rest, lines: &mut Entries, p: u8, f: u16) -> C
 
 // The running program p with the record n of f in use, or with none if both are 0.
 fn put_record(sets: &Sets, rest: Rest, p: u8, f: u16, n: u16) -> Rest
-    requires { ((1 ≤ p) × (p ≤ 32)) × IsStore sets.now }
+    requires { (1 ≤ p) × (p ≤ 32) }
     ensures { board_of sets.now result
         ≡ set_program (board_of sets.now rest) p (set_item (at (board_of sets.now rest) p) f n) }
 {
+    sets::sized(sets);
     let seat = Seat {
         standing: store::standing_at(rest, p),
         file: f,
@@ -200,9 +198,9 @@ fn put_record(sets: &Sets, rest: Rest, p: u8, f: u16, n: u16) -> Rest
 // Fetch: "It waits (WAIT) while another has that record, else gets it (GIVEN)."
 fn do_fetch(sets: &Sets, rest: Rest, lines: &mut Entries, p: u8, f: u16, n: u16) -> Changed
     requires { ((1 ≤ p) × (p ≤ 32)) × Good (board_of sets.now rest) × (fetch_check (board_of sets.now rest) p f n ≡ Ok tt)
-        × IsStore sets.now × (lines.old ≡ no_entries) }
+        × (lines.old ≡ no_entries) }
     ensures comes_to { ComesTo sets.now lines.new result (fetch (board_of sets.now rest) p f n) }
-    ensures entries { IsEntries lines.new × Carries (board_of sets.now result.progress.rest) result.order }
+    ensures carries { Carries (board_of sets.now result.progress.rest) result.order }
 {
     if tables::boards::is_taken(rest, p, f, n) {
         let c = put_waiting(sets, rest, p, f, f, n);
@@ -217,10 +215,11 @@ fn do_fetch(sets: &Sets, rest: Rest, lines: &mut Entries, p: u8, f: u16, n: u16)
 // Return: the record in use is in use no longer, and "the oldest waiter for the record gets it (GIVEN), then the board settles".
 fn do_return(sets: &mut Sets, rest: Rest, lines: &mut Entries, p: u8) -> Changed
     requires { ((1 ≤ p) × (p ≤ 32)) × Good (board_of sets.old rest) × (return_check (board_of sets.old rest) p ≡ Ok tt)
-        × IsStore sets.old × (lines.old ≡ no_entries) }
+        × (lines.old ≡ no_entries) }
     ensures comes_to { ComesTo sets.new lines.new result (return_item (board_of sets.old rest) p) }
-    ensures in_form { InForm sets.new lines.new result }
+    ensures carries { Carries (board_of sets.new result.progress.rest) result.order }
 {
+    sets::sized(sets);
     let seat = store::seat_at(rest, p);
     let free = put_record(sets, rest, p, 0, 0);
     replies::handed_on(sets, free, lines, p, seat.file, seat.item)
@@ -231,11 +230,12 @@ fn do_return(sets: &mut Sets, rest: Rest, lines: &mut Entries, p: u8) -> Changed
 // Close: f is open no longer.
 fn do_close(sets: &mut Sets, rest: Rest, lines: &mut Entries, p: u8, f: u16) -> Changed
     requires { ((1 ≤ p) × (p ≤ 32)) × Good (board_of sets.old rest) × (close_check (board_of sets.old rest) p f ≡ Ok tt)
-        × IsStore sets.old × (lines.old ≡ no_entries) }
+        × (lines.old ≡ no_entries) }
     ensures comes_to { ComesTo sets.new lines.new result (close_file (board_of sets.old rest) p f) }
-    ensures in_form { InForm sets.new lines.new result }
+    ensures carries { Carries (board_of sets.new result.progress.rest) result.order }
 {
-    store::sets::close(sets, p, f);
+    sets::sized(sets);
+    sets::close(sets, p, f);
     replies::done(sets, rest, lines, p, f)
 }
 
@@ -244,11 +244,12 @@ fn do_close(sets: &mut Sets, rest: Rest, lines: &mut Entries, p: u8, f: u16) -> 
 // Drop: f leaves p's claim.
 fn do_drop(sets: &mut Sets, rest: Rest, lines: &mut Entries, p: u8, f: u16) -> Changed
     requires { ((1 ≤ p) × (p ≤ 32)) × Good (board_of sets.old rest) × (open_check (board_of sets.old rest) p f ≡ Ok tt)
-        × IsStore sets.old × (lines.old ≡ no_entries) }
+        × (lines.old ≡ no_entries) }
     ensures comes_to { ComesTo sets.new lines.new result (drop_file (board_of sets.old rest) p f) }
-    ensures in_form { InForm sets.new lines.new result }
+    ensures carries { Carries (board_of sets.new result.progress.rest) result.order }
 {
-    store::sets::drop(sets, p, f);
+    sets::sized(sets);
+    sets::drop(sets, p, f);
     replies::done(sets, rest, lines, p, f)
 }
 
@@ -271,12 +272,13 @@ fn counted(sets: &Sets, rest: Rest) -> Rest
 // Leave: all its files and claims go; "a leave returns it too", the record in use.
 fn do_leave(sets: &mut Sets, rest: Rest, lines: &mut Entries, p: u8) -> Changed
     requires { ((1 ≤ p) × (p ≤ 32)) × Good (board_of sets.old rest) × (leave_check (board_of sets.old rest) p ≡ Ok tt)
-        × IsStore sets.old × (lines.old ≡ no_entries) }
+        × (lines.old ≡ no_entries) }
     ensures comes_to { ComesTo sets.new lines.new result (leave (board_of sets.old rest) p) }
-    ensures in_form { InForm sets.new lines.new result }
+    ensures carries { Carries (board_of sets.new result.progress.rest) result.order }
 {
+    sets::sized(sets);
     let seat = store::seat_at(rest, p);
-    let left = store::sets::put(sets, rest, p, Program::ABSENT);
+    let left = sets::put(sets, rest, p, Program::ABSENT);
     let c = counted(sets, left);
     replies::handed_on(sets, c, lines, p, seat.file, seat.item)
 }
@@ -301,21 +303,20 @@ fn cancel_counted(sets: &Sets, rest: Rest, p: u8) -> Rest
 
 // The program goes, out of its line, and its count is 0.
 fn withdraw(sets: &mut Sets, rest: Rest, p: u8, s: Standing) -> Rest
-    requires { ((1 ≤ p) × (p ≤ 32)) × (rest.leaves ≤ 32) × IsStore sets.old }
-    ensures result_after { board_of sets.new result ≡ withdrawn (board_of sets.old rest) p s }
-    ensures store { IsStore sets.new }
+    requires { ((1 ≤ p) × (p ≤ 32)) × (rest.leaves ≤ 32) }
+    ensures { board_of sets.new result ≡ withdrawn (board_of sets.old rest) p s }
 {
     match s {
         Standing::Absent | Standing::Running => rest,
         Standing::Waiting(_) => {
-            let mut c = store::sets::put(sets, rest, p, Program::ABSENT);
+            let mut c = sets::put(sets, rest, p, Program::ABSENT);
             c.waiting = lines::remove(rest.waiting, p);
             c.passed[(p - 1) as usize] = 0;
             cancel_counted(sets, c, p)
         }
         Standing::Held => Rest {
             entry: lines::remove(rest.entry, p),
-            ..store::sets::put(sets, rest, p, Program::ABSENT)
+            ..sets::put(sets, rest, p, Program::ABSENT)
         },
     }
 }
@@ -323,10 +324,11 @@ fn withdraw(sets: &mut Sets, rest: Rest, p: u8, s: Standing) -> Rest
 // Cancel: the program goes, with its files and claims.
 fn do_cancel(sets: &mut Sets, rest: Rest, lines: &mut Entries, p: u8) -> Changed
     requires { ((1 ≤ p) × (p ≤ 32)) × Good (board_of sets.old rest) × (cancel_check (board_of sets.old rest) p ≡ Ok tt)
-        × IsStore sets.old × (lines.old ≡ no_entries) }
+        × (lines.old ≡ no_entries) }
     ensures comes_to { ComesTo sets.new lines.new result (cancel (board_of sets.old rest) p) }
-    ensures in_form { InForm sets.new lines.new result }
+    ensures carries { Carries (board_of sets.new result.progress.rest) result.order }
 {
+    sets::sized(sets);
     let s = store::standing_at(rest, p);
     let c = withdraw(sets, rest, p, s);
     replies::done(sets, c, lines, p, 0)
@@ -338,11 +340,10 @@ fn do_cancel(sets: &mut Sets, rest: Rest, lines: &mut Entries, p: u8) -> Changed
 // 1 to 65,535.
 fn accept(sets: &mut Sets, rest: Rest, lines: &mut Entries, p: u8, a: Asked) -> Changed
     requires { ((1 ≤ p) × (p ≤ 32)) × Good (board_of sets.old rest)
-        × (checked (board_of sets.old rest) (call_with a.verb p a.file a.item a.claims) ≡ Ok tt)
-        × IsStore sets.old × (lines.old ≡ no_entries) }
+        × (checked (board_of sets.old rest) (call_with a.verb p a.file a.item a.claims) ≡ Ok tt) × (lines.old ≡ no_entries) }
     ensures comes_to { ComesTo sets.new lines.new result
         (accepted (board_of sets.old rest) (call_with a.verb p a.file a.item a.claims)) }
-    ensures in_form { InForm sets.new lines.new result }
+    ensures carries { Carries (board_of sets.new result.progress.rest) result.order }
 {
     match a.verb {
         Verb::Enter => do_enter(sets, rest, lines, p, a.claims),
@@ -358,12 +359,20 @@ fn accept(sets: &mut Sets, rest: Rest, lines: &mut Entries, p: u8, a: Asked) -> 
 
 // The call that is asked for, on a sound board; no line is written yet.
 pub fn call(sets: &mut Sets, rest: Rest, lines: &mut Entries, a: Asked) -> Changed
-    requires { (sound (board_of sets.old rest) ≡ true) × IsStore sets.old × (lines.old ≡ no_entries) }
+    requires { (sound (board_of sets.old rest) ≡ true) × (lines.old ≡ no_entries) }
     ensures comes_to { ComesTo sets.new lines.new result (apply (board_of sets.old rest) (call_of a)) }
     ensures in_form { InForm sets.new lines.new result }
 {
     match checks::check(sets, rest, a) {
-        Ok(p) => accept(sets, rest, lines, p, a),
-        Err(refusal) => replies::refused(sets, rest, lines, refusal),
+        Ok(p) => {
+            let c = accept(sets, rest, lines, p, a);
+            sets::sized(sets);
+            entries::sized(lines);
+            c
+        }
+        Err(refusal) => {
+            sets::sized(sets);
+            replies::refused(sets, rest, lines, refusal)
+        }
     }
 }

@@ -5,7 +5,7 @@ use mathlib.Core.Path.{◌≡◌, refl, ap, ◌∙◌}
 use mathlib.Core.List.{List, [], ◌∷◌, map}
 use lib.ListN.{length, set, replicate, length-map}
 use Rattle.laws.specs.Lists.{padded}
-use Rattle.laws.specs.Tables.{fresh-table, put_in}
+use Rattle.laws.specs.Tables.{fresh-table}
 use Rattle.rules.specs.declared.Word.{Word}
 use Rattle.rules.specs.declared.Line.{Line}
 use Rattle.rules.specs.Replies.{blank}
@@ -38,9 +38,6 @@ lines-set e k l = map-set line_in e k (entry_of l) ∙ ap (λ (x : Line). set (l
 
 pub length-lines : (e : Entries) → length (lines_in e) ≡ length e
 length-lines e = length-map e line_in
-
-pub entries_set : (e : Entries) (k : ℕ) (l : Line) → IsEntries e → IsEntries (set e k (entry_of l))
-entries_set e k l i = put_in 32 5 e k (entry_of l) i refl
 
 -- ---- the array of no lines
 

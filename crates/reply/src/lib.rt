@@ -4,8 +4,7 @@
 ghost use Rattle.std.specs.Prelude.{◌≡◌, ◌≤◌, true};
 ghost use Rattle.rules.specs.Orders.{carried};
 ghost use Rattle.rules.specs.Replies.{refused, refuse_unsound};
-ghost use Rattle.parts.specs.Entries.{IsEntries, lines_in};
-ghost use Rattle.store.specs.Sets.{IsStore};
+ghost use Rattle.parts.specs.Entries.{lines_in};
 ghost use Rattle.store.specs.Store.{board_of};
 ghost use Rattle.search.specs.Rows.{as_order};
 ghost use Rattle.settling.specs.Writing.{written_in};
@@ -30,7 +29,6 @@ const BLANK: Line = Line {
 
 // The lines in the array.
 fn lines_of(lines: &Entries) -> [Line; 32]
-    requires { IsEntries lines.now }
     ensures { result ≡ lines_in lines.now }
 {
     let mut ls = [BLANK; 32];
@@ -55,7 +53,7 @@ fn placed(kind: Search) -> u8
 // one that is sought.
 fn order_after(sets: &Sets, c: Changed, before: Order) -> Order
     requires { (refused c.answer ≡ true → before ≡ as_order (carried (board_of sets.now c.progress.rest)))
-        × IsStore sets.now × Carries (board_of sets.now c.progress.rest) c.order }
+        × Carries (board_of sets.now c.progress.rest) c.order }
     ensures { result ≡ as_order (carried (board_of sets.now c.progress.rest)) }
 {
     if matches!(c.answer, Answer::Refuse(_)) {
@@ -70,7 +68,7 @@ fn order_after(sets: &Sets, c: Changed, before: Order) -> Order
 // The reply to a call, with the order of its board; `before` is the order of the board before the call.
 pub fn complete(sets: &Sets, lines: &Entries, c: Changed, before: Order) -> Reply
     requires { (refused c.answer ≡ true → before ≡ as_order (carried (board_of sets.now c.progress.rest)))
-        × IsStore sets.now × IsEntries lines.now × Carries (board_of sets.now c.progress.rest) c.order }
+        × Carries (board_of sets.now c.progress.rest) c.order }
     ensures { result ≡ replied (written_in sets.now lines.now c.progress) c.answer }
 {
     let order = order_after(sets, c, before);

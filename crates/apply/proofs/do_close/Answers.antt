@@ -1,11 +1,11 @@
-use Rattle.std.proofs.Common.{◌≡◌, ℕ, ◌≤◌, sym, ap, subst, ◌∙◌}
+use Rattle.std.proofs.Common.{◌≡◌, ℕ, ◌≤◌, ap, ◌∙◌}
 use Rattle.rules.specs.declared.Board.{Board}
 use Rattle.rules.specs.Boards.{at, set_program, closing}
 use Rattle.rules.specs.Calls.{done, close_file}
 use Rattle.store.specs.declared.Rest.{Rest}
 use Rattle.store.specs.Sets.{Sets, IsStore, closed_at}
 use Rattle.store.specs.Store.{board_of}
-use Rattle.store.proofs.Changing.{closed_store, closed-board}
+use Rattle.store.proofs.Changing.{closed-board}
 use Rattle.apply.proofs.Laws.{close_settles}
 use Rattle.apply.proofs.do_close.Goals as goal
 
@@ -16,11 +16,10 @@ changed old new r p f i st e = ap (λ (x : Sets). board_of x r) e ∙ closed-boa
 
 pub done-requires : goal.done-requires
 done-requires c = let a = c.args in (
-  close_settles (board_of a.sets.now a.rest) _ a.p a.f (changed _ _ a.rest a.p a.f c.requires.0 c.requires.3 c.close.ensures) c.requires.1 c.requires.2,
-  subst IsStore (sym c.close.ensures) (closed_store a.sets.now a.rest a.p a.f c.requires.0.0 c.requires.0.1 c.requires.3),
-  c.requires.4,
+  close_settles (board_of a.sets.now a.rest) _ a.p a.f (changed _ _ a.rest a.p a.f c.requires.0 c.sized.ensures c.close.ensures) c.requires.1 c.requires.2,
+  c.requires.3,
 )
 
 pub returns-clause-comes_to : goal.returns-clause-comes_to
 unfolding close_file
-returns-clause-comes_to c = let a = c.args in c.done.ensures.comes_to ∙ ap (λ (x : Board). done x a.p a.f) (changed _ _ a.rest a.p a.f c.requires.0 c.requires.3 c.close.ensures)
+returns-clause-comes_to c = let a = c.args in c.done.ensures.comes_to ∙ ap (λ (x : Board). done x a.p a.f) (changed _ _ a.rest a.p a.f c.requires.0 c.sized.ensures c.close.ensures)

@@ -12,11 +12,11 @@ use Rattle.apply.proofs.do_enter.Goals as goal
 
 pub put_held-c-requires : goal.put_held-c-requires
 put_held-c-requires c = let a = c.args in
-    (c.requires.0, entry_free a.sets.now a.rest a.p a.claims c.requires.1 c.requires.2, c.requires.3)
+    (c.requires.0, entry_free a.sets.now a.rest a.p a.claims c.requires.1 c.requires.2)
 
 pub returns-then-rest-ne0-clause-comes_to : goal.returns-then-rest-ne0-clause-comes_to
 returns-then-rest-ne0-clause-comes_to c = let a = c.args in
-    c.answered.ensures.comes_to ∙ ap (λ (x : Board). reply x Answer.Held (line Word.Held a.p 0 ∷ [])) c.put_held-c.ensures.result_after
+    c.answered.ensures.comes_to ∙ ap (λ (x : Board). reply x Answer.Held (line Word.Held a.p 0 ∷ [])) c.put_held-c.ensures
     ∙ enter-held (board_of a.sets.now a.rest) a.p a.claims.writable a.claims.readable a.claims.inquirable
     (subst (λ (n : ℕ). n ≢ 0) (sym (favoured_is a.sets.now a.rest)) c.if-rest-ne0.true)
 
@@ -31,7 +31,6 @@ hold_for-requires c = (
   c.requires.2,
   (overdue_some (board_of c.args.sets.now c.args.rest) c.in-Some.overdue c.requires.1.loose (sym c.in-Some.is ∙ c.oldest_overdue.ensures)).1,
   c.requires.3,
-  c.requires.4,
 )
 
 pub returns-in-Some-clause-comes_to : goal.returns-in-Some-clause-comes_to
@@ -43,6 +42,6 @@ returns-in-Some-clause-comes_to c = let a = c.args in let b = board_of a.sets.no
 
 pub returns-clause-comes_to : goal.returns-clause-comes_to
 returns-clause-comes_to c = let a = c.args in let b = board_of a.sets.now a.rest in
-    c.answered-2.ensures.comes_to ∙ ap (λ (x : Board). reply x Answer.Admit (line Word.Admit a.p 0 ∷ [])) c.put_running-c.ensures.result_after
+    c.answered-2.ensures.comes_to ∙ ap (λ (x : Board). reply x Answer.Admit (line Word.Admit a.p 0 ∷ [])) c.put_running-c.ensures
     ∙ enter-runs b a.p a.claims.writable a.claims.readable a.claims.inquirable (favoured_is a.sets.now a.rest ∙ c.if-rest-ne0.false)
     (found-none (overdue b) (sym c.in_default.is ∙ c.oldest_overdue.ensures))

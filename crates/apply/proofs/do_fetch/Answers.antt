@@ -11,7 +11,7 @@ use Rattle.apply.proofs.do_fetch.Goals as goal
 
 pub put_waiting-c-requires : goal.put_waiting-c-requires
 put_waiting-c-requires c = let a = c.args in
-    (c.requires.0, fetching-free a.sets.now a.rest a.p a.f a.n c.requires.1 c.requires.2, c.requires.3)
+    (c.requires.0, fetching-free a.sets.now a.rest a.p a.f a.n c.requires.1 c.requires.2)
 
 pub returns-then-is_taken-clause-comes_to : goal.returns-then-is_taken-clause-comes_to
 returns-then-is_taken-clause-comes_to c = let a = c.args in

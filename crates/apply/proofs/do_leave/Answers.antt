@@ -17,10 +17,9 @@ pub handed_on-requires : goal.handed_on-requires
 handed_on-requires c = let a = c.args in (
   leave_hands (board_of a.sets.now a.rest) _ a.p _ _
       (c.counted-c.ensures ∙ ap count_leave c.put-left.ensures.result_after)
-      (seat-file a.sets.now a.rest a.p c.requires.0 c.requires.3 c.seat_at-seat.ensures)
-      (seat-item a.sets.now a.rest a.p c.requires.0 c.requires.3 c.seat_at-seat.ensures) c.requires.1 c.requires.2,
-  c.put-left.ensures.value.1,
-  c.requires.4,
+      (seat-file a.sets.now a.rest a.p c.requires.0 c.sized.ensures c.seat_at-seat.ensures)
+      (seat-item a.sets.now a.rest a.p c.requires.0 c.sized.ensures c.seat_at-seat.ensures) c.requires.1 c.requires.2,
+  c.requires.3,
 )
 
 pub returns-clause-comes_to : goal.returns-clause-comes_to
@@ -30,5 +29,5 @@ returns-clause-comes_to c = let a = c.args in let b = board_of a.sets.now a.rest
     ∙ ap (λ (x : Board). finish (hand_on x c.seat_at-seat.result.file c.seat_at-seat.result.item) a.p 0)
     (c.counted-c.ensures ∙ ap count_leave c.put-left.ensures.result_after)
     ∙ ap₂ (λ (x y : ℕ). finish (hand_on (count_leave (set_program b a.p no_program)) x y) a.p 0)
-    (seat-file a.sets.now a.rest a.p c.requires.0 c.requires.3 c.seat_at-seat.ensures)
-    (seat-item a.sets.now a.rest a.p c.requires.0 c.requires.3 c.seat_at-seat.ensures)
+    (seat-file a.sets.now a.rest a.p c.requires.0 c.sized.ensures c.seat_at-seat.ensures)
+    (seat-item a.sets.now a.rest a.p c.requires.0 c.sized.ensures c.seat_at-seat.ensures)

@@ -1,4 +1,4 @@
-use Rattle.std.proofs.Common.{◌≡◌, ℕ, ◌≤◌, Bool, [], ◌∷◌, sym, ap, subst, ◌∙◌}
+use Rattle.std.proofs.Common.{◌≡◌, ℕ, ◌≤◌, Bool, [], ◌∷◌, sym, ap, ◌∙◌}
 use Rattle.std.specs.Prelude.{Ok}
 use Rattle.rules.specs.declared.Board.{Board}
 use Rattle.rules.specs.declared.Answer.{Answer}
@@ -14,7 +14,6 @@ use Rattle.store.specs.declared.Rest.{Rest}
 use Rattle.store.specs.Sets.{Sets, IsStore, given_at}
 use Rattle.store.specs.Store.{board_of}
 use Rattle.store.proofs.Boards.{board-sets}
-use Rattle.store.proofs.Given.{given_store}
 use Rattle.store.proofs.Changing.{given-board}
 use Rattle.tables.specs.declared.ProgramSet.{ProgramSet}
 use Rattle.tables.specs.Boards.{admitted_seats}
@@ -44,20 +43,19 @@ module _ (sets : Sets) (r : Rest) (p f : ℕ) (i : (1 ≤ p) × (p ≤ 32)) (st 
 
 pub put_waiting-c-requires : goal.put_waiting-c-requires
 put_waiting-c-requires c = let a = c.args in
-    (c.requires.0, waiting_free a.sets.now a.rest a.p a.f c.requires.1 c.requires.2, c.requires.3)
+    (c.requires.0, waiting_free a.sets.now a.rest a.p a.f c.requires.1 c.requires.2)
 
 pub returns-then-in_use-clause-comes_to : goal.returns-then-in_use-clause-comes_to
 returns-then-in_use-clause-comes_to c = let a = c.args in let b = board_of a.sets.now a.rest in
     c.answered.ensures.comes_to ∙ ap (λ (x : Board). reply x Answer.Wait (line Word.Wait a.p a.f ∷ []))
     (c.put_waiting-c.ensures ∙ open_wait b a.p a.f c.requires.1 c.requires.2)
-    ∙ open_waits b a.p a.f (sym (used a.sets.now a.rest a.p a.f c.requires.0 c.requires.3 _ _ _ c.requires.1 c.requires.2
+    ∙ open_waits b a.p a.f (sym (used a.sets.now a.rest a.p a.f c.requires.0 c.sized.ensures _ _ _ c.requires.1 c.requires.2
     c.admitted_seats-admitted.ensures c.uses_in-uses.ensures c.in_use.ensures) ∙ c.if-in_use.true)
 
 pub put_waiting-c-requires-in_default : goal.put_waiting-c-requires-in_default
 put_waiting-c-requires-in_default c = let a = c.args in (
   c.requires.0,
   waiting_free a.sets.now a.rest a.p a.f c.requires.1 c.requires.2,
-  subst IsStore (sym c.order_given-order.ensures.sets_unchanged) c.requires.3,
 )
 
 pub returns-in_default-clause-comes_to : goal.returns-in_default-clause-comes_to
@@ -66,32 +64,23 @@ returns-in_default-clause-comes_to c = let a = c.args in let b = board_of a.sets
     (c.put_waiting-c-in_default.ensures
     ∙ ap (λ (x : Sets). waiting_for (board_of x a.rest) a.p a.f 0 0) c.order_given-order.ensures.sets_unchanged
     ∙ open_wait b a.p a.f c.requires.1 c.requires.2)
-    ∙ open_unsafe b a.p a.f (sym (used a.sets.now a.rest a.p a.f c.requires.0 c.requires.3 _ _ _ c.requires.1 c.requires.2
+    ∙ open_unsafe b a.p a.f (sym (used a.sets.now a.rest a.p a.f c.requires.0 c.sized.ensures _ _ _ c.requires.1 c.requires.2
     c.admitted_seats-admitted.ensures c.uses_in-uses.ensures c.in_use.ensures) ∙ c.if-in_use.false)
     (not_safe b a.p a.f c.order_given-order.result c.order_given-order.ensures.value c.in_default.is)
 
 -- the order that was found is that of the board with the file given
 pub given-requires : goal.given-requires
 given-requires c = let a = c.args in (
-  c.requires.4,
+  c.requires.3,
   found_carries (with_given (board_of a.sets.now a.rest) a.p a.f) _ c.order_given-order.result c.in-Found.n
       c.order_given-order.ensures.value c.in-Found.is
-      (given a.sets.now a.rest a.p a.f c.requires.0 c.requires.3 _ _ c.order_given-order.ensures.sets_unchanged c.give.ensures),
+      (given a.sets.now a.rest a.p a.f c.requires.0 c.sized.ensures _ _ c.order_given-order.ensures.sets_unchanged c.give.ensures),
 )
 
 pub returns-clause-comes_to : goal.returns-clause-comes_to
 returns-clause-comes_to c = let a = c.args in let b = board_of a.sets.now a.rest in
     c.given.ensures.comes_to ∙ ap (λ (x : Board). reply x Answer.Given (line Word.Given a.p a.f ∷ []))
-    (given a.sets.now a.rest a.p a.f c.requires.0 c.requires.3 _ _ c.order_given-order.ensures.sets_unchanged c.give.ensures)
-    ∙ open_given b a.p a.f (sym (used a.sets.now a.rest a.p a.f c.requires.0 c.requires.3 _ _ _ c.requires.1 c.requires.2
+    (given a.sets.now a.rest a.p a.f c.requires.0 c.sized.ensures _ _ c.order_given-order.ensures.sets_unchanged c.give.ensures)
+    ∙ open_given b a.p a.f (sym (used a.sets.now a.rest a.p a.f c.requires.0 c.sized.ensures _ _ _ c.requires.1 c.requires.2
     c.admitted_seats-admitted.ensures c.uses_in-uses.ensures c.in_use.ensures) ∙ c.if-in_use.false)
     (is-safe b a.p a.f c.order_given-order.result c.in-Found.n c.order_given-order.ensures.value c.in-Found.is)
-
-pub returns-clause-in_form : goal.returns-clause-in_form
-returns-clause-in_form c = let a = c.args in (
-  subst IsStore
-      (sym (gives a.sets.now a.rest a.p a.f c.requires.0 c.requires.3 _ _ c.order_given-order.ensures.sets_unchanged c.give.ensures))
-      (given_store a.sets.now a.p a.f c.requires.0.0 c.requires.0.1 c.requires.3),
-  c.given.ensures.entries.0,
-  c.given.ensures.entries.1,
-)

@@ -5,9 +5,9 @@ use Rattle.store.specs.Store.{board_of}
 use Rattle.store.proofs.Boards.{with_entry_lem}
 use Rattle.apply.proofs.put_held.Goals as goal
 
-pub returns-clause-result_after : goal.returns-clause-result_after
+pub returns : goal.returns
 unfolding board_of hold
-returns-clause-result_after c = let a = c.args in
+returns c = let a = c.args in
     with_entry_lem _ c.put.result _
     (c.put.ensures.result_after ∙ ap (set_program (board_of a.sets.now a.rest) a.p) c.new_program-held.ensures)
     _ _ c.append.ensures

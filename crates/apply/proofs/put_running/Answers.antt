@@ -11,8 +11,8 @@ pub tally-requires : goal.tally-requires
 unfolding board_of
 tally-requires c = subst (λ (r : Rest). CountsFew r.passed) (sym c.put-c.ensures.value.0) c.requires.1.counts.counted.most
 
-pub returns-clause-result_after : goal.returns-clause-result_after
+pub returns : goal.returns
 unfolding admit
-returns-clause-result_after c = let a = c.args in
+returns c = let a = c.args in
     let e = c.put-c.ensures.result_after ∙ ap (set_program (board_of a.sets.now a.rest) a.p) c.new_program-runs.ensures in
     with_passed_lem _ c.put-c.result _ e _ _ (c.tally.ensures ∙ ap tallied e)

@@ -11,6 +11,6 @@ unfolding board_of
 returns c = let a = c.args in let n : length a.rest.seats ≡ 32 = search rules in
     with_waiting_lem a.sets.now c.put_seat.result _
     (ap (λ (r : Rest). board_of a.sets.now r) c.put_seat.ensures
-    ∙ reseat_board a.sets.now a.rest a.p c.requires.0.0 c.requires.0.1 c.requires.2
+    ∙ reseat_board a.sets.now a.rest a.p c.requires.0.0 c.requires.0.1 c.sized.ensures
     (record { standing = Standing.Waiting a.f; file = a.g; item = a.n }) n)
     _ _ c.append.ensures

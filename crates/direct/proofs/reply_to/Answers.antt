@@ -16,15 +16,13 @@ unfolding direct
 returns-then-not-j c = rw (sym (c.judge-j.ensures.0 ∙ ap sound c.take-rest.ensures.1) ∙ not-true c.judge-j.result.sound c.if-not-j.true) c.refused_unsound.ensures
 
 pub call-changed-requires : goal.call-changed-requires
-call-changed-requires c = (sym c.judge-j.ensures.0 ∙ not-false c.judge-j.result.sound c.if-not-j.false, c.take-rest.ensures.0.0, refl)
+call-changed-requires c = (sym c.judge-j.ensures.0 ∙ not-false c.judge-j.result.sound c.if-not-j.false, refl)
 
 pub complete-requires : goal.complete-requires
 complete-requires c = let b = board_of c.take-rest.new.sets c.take-rest.result in let e = c.call-changed.ensures in (
   λ h. let n = sym (ap (λ (x : Reply). refused x.answer) e.comes_to) ∙ h in
       c.judge-j.ensures.1 ∙ sym (ap (λ (x : Board). as_order (carried x)) (ap (λ (x : Reply). x.board) e.comes_to
       ∙ apply-same b (call_of c.args.a) n)),
-  e.in_form.0,
-  e.in_form.1,
   e.in_form.2,
 )
 

@@ -13,11 +13,11 @@ returns-in_err-p c = let a = c.args in
 pub returns-in_err-check_call : goal.returns-in_err-check_call
 returns-in_err-check_call c = let a = c.args in
     let n = MatchOption-at_some {o = c.program_of.result} _ _ c.in_ok-p.p (grind arith) c.program_of.ensures in
-    let e = checked-number a.sets.now a.rest a.a c.in_ok-p.p c.seat_at.result c.check_call.result c.requires n c.seat_at.ensures c.check_call.ensures in
+    let e = checked-number a.sets.now a.rest a.a c.in_ok-p.p c.seat_at.result c.check_call.result c.sized.ensures n c.seat_at.ensures c.check_call.ensures in
     grind (arith, common_steps)
 
 pub returns : goal.returns
 returns c = let a = c.args in
     let n = MatchOption-at_some {o = c.program_of.result} _ _ c.in_ok-p.p (grind arith) c.program_of.ensures in
-    let e = checked-number a.sets.now a.rest a.a c.in_ok-p.p c.seat_at.result c.check_call.result c.requires n c.seat_at.ensures c.check_call.ensures in
+    let e = checked-number a.sets.now a.rest a.a c.in_ok-p.p c.seat_at.result c.check_call.result c.sized.ensures n c.seat_at.ensures c.check_call.ensures in
     grind (arith, common_steps)

@@ -4,5 +4,5 @@ use Rattle.apply.proofs.replies.done.Goals as goal
 
 pub returns-clause-comes_to : goal.returns-clause-comes_to
 returns-clause-comes_to c = let a = c.args in
-    rw c.unordered.ensures
-    (done_is _ _ (board_of a.sets.now a.rest) a.p a.f c.one_line-w.ensures.result_after c.settled.ensures.result_after c.requires.0)
+    rw c.unordered-c.ensures
+    (done_is _ _ (board_of a.sets.now a.rest) a.p a.f c.one_line-w.ensures.result_after c.settled.ensures c.requires.0)
