@@ -4,14 +4,13 @@
 // In place p - 1 of the rows stands the set of the admitted programs that hold p back; closed, of those that reach p.
 ghost use Rattle.std.specs.Prelude.{◌≡◌, ◌≤◌, length, replicate};
 ghost use Rattle.rules.specs.Digraph.{step};
-ghost use Rattle.store.specs.Sets.{IsStore};
 ghost use Rattle.store.specs.Store.{board_of};
 ghost use Rattle.digraph.specs.Rows.{by_row, rows_saying, holder_rows, PassedBy, ClosedOver, matrix_of};
 
 use files::WORDS;
 use rules::Board;
-use store::Rest;
 use store::sets::{PLACES, Sets};
+use store::{Rest, sets};
 use tables::ProgramSet;
 use tables::boards::place_of;
 
@@ -37,7 +36,7 @@ impl Loop {
 
 // For each program of the set the others of it that hold it back.
 fn fill_holders(sets: &Sets, admitted: ProgramSet, rows: &mut [u32; 32])
-    requires { (rows.old ≡ replicate 32 0) × IsStore sets.now }
+    requires { rows.old ≡ replicate 32 0 }
     ensures { rows.new ≡ holder_rows sets.now admitted }
 {
     for p in admitted {
@@ -48,9 +47,10 @@ fn fill_holders(sets: &Sets, admitted: ProgramSet, rows: &mut [u32; 32])
 
 // For each admitted program the others of them that hold it back.
 fn fill_steps(sets: &Sets, rest: Rest, rows: &mut [u32; 32])
-    requires { (rows.old ≡ replicate 32 0) × IsStore sets.now }
+    requires { rows.old ≡ replicate 32 0 }
     ensures { rows.new ≡ rows_saying (step (board_of sets.now rest)) }
 {
+    sets::sized(sets);
     fill_holders(sets, tables::boards::admitted_seats(rest), rows);
 }
 
@@ -95,7 +95,7 @@ pub fn fill_matrix(b: Board, rows: &mut [u32; 32])
     ensures { rows.new ≡ matrix_of b }
 {
     let mut sets = [[0u64; WORDS]; PLACES];
-    let rest = store::sets::take(b, &mut sets);
+    let rest = sets::take(b, &mut sets);
     fill_steps(&sets, rest, rows);
     close_rows(rows);
 }

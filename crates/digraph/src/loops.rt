@@ -4,7 +4,6 @@ ghost use Rattle.std.proofs.Math.Option.{none, some};
 ghost use Rattle.rules.specs.Orders.{with_given};
 ghost use Rattle.rules.specs.Soundness.{sound};
 ghost use Rattle.rules.specs.Digraph.{step, is_loop_of, is_loop_with};
-ghost use Rattle.store.specs.Sets.{IsStore};
 ghost use Rattle.store.specs.Store.{board_of};
 ghost use Rattle.tables.specs.ProgramSets.{has_program};
 ghost use Rattle.tables.specs.Tables.{packed, row_of};
@@ -136,7 +135,6 @@ fn find_in(rows: &[u32; 32], matrix: &[u32; 32]) -> Loop
 
 // A loop of the board by its sets and the rest, sound or not; none exactly where it has an order.
 fn find_by(sets: &Sets, rest: Rest) -> Loop
-    requires { IsStore sets.now }
     ensures { LoopOf (board_of sets.now rest) result }
 {
     let mut rows = [0u32; 32];
@@ -151,13 +149,12 @@ pub fn find(b: Board) -> Loop
     ensures { LoopOf b result }
 {
     let mut sets = [[0u64; WORDS]; PLACES];
-    let rest = store::sets::take(b, &mut sets);
+    let rest = sets::take(b, &mut sets);
     find_by(&sets, rest)
 }
 
 // Whether the list is a loop of the board by its sets and the rest, sound or not.
 fn is_loop(sets: &Sets, rest: Rest, l: &[u8]) -> bool
-    requires { IsStore sets.now }
     ensures { result ≡ is_loop_of (step (board_of sets.now rest)) l.now }
 {
     let mut rows = [0u32; 32];
@@ -173,7 +170,7 @@ pub fn find_given(b: Board, p: u8, f: u16) -> Loop
     ensures { LoopOf (with_given b p f) result }
 {
     let mut sets = [[0u64; WORDS]; PLACES];
-    let rest = store::sets::take(b, &mut sets);
+    let rest = sets::take(b, &mut sets);
     sets::give(&mut sets, p, f);
     find_by(&sets, rest)
 }
@@ -184,7 +181,7 @@ fn is_loop_by(b: Board, p: u8, f: u16, l: &[u8]) -> bool
     ensures { result ≡ is_loop_with b p f l.now }
 {
     let mut sets = [[0u64; WORDS]; PLACES];
-    let rest = store::sets::take(b, &mut sets);
+    let rest = sets::take(b, &mut sets);
     if !standings::is_admitted(store::standing_at(rest, p)) {
         return false;
     }

@@ -9,7 +9,7 @@ ghost use Rattle.rules.specs.Boards.{everyone};
 ghost use Rattle.rules.specs.Modes.{each_mode};
 ghost use Rattle.rules.specs.Orders.{carried};
 ghost use Rattle.rules.specs.Soundness.{sets_sound, item_sound, program_sound, line_sound, sound};
-ghost use Rattle.store.specs.Sets.{place_count, IsStore, set_in, claim_at, open_at};
+ghost use Rattle.store.specs.Sets.{place_count, set_in, claim_at, open_at};
 ghost use Rattle.store.specs.Store.{standing_at, program_with, board_of};
 ghost use Rattle.tables.specs.ProgramSets.{has_program};
 ghost use Rattle.tables.specs.Tables.{packed, rows_of};
@@ -36,23 +36,23 @@ pub struct Judged {
 
 // Whether the set in the first place is within the one in the second.
 fn is_within(sets: &Sets, k: usize, n: usize) -> bool
-    requires { (k < place_count) × (n < place_count) × IsStore sets.now }
+    requires { (k < place_count) × (n < place_count) }
     ensures { result ≡ within (set_in sets.now k) (set_in sets.now n) }
 {
-    words::within(&sets[k], &sets[n])
+    words::within(sets::row(sets, k), sets::row(sets, n))
 }
 
 // Whether the sets in two places share a file.
 fn do_meet(sets: &Sets, k: usize, n: usize) -> bool
-    requires { (k < place_count) × (n < place_count) × IsStore sets.now }
+    requires { (k < place_count) × (n < place_count) }
     ensures { result ≡ meets (set_in sets.now k) (set_in sets.now n) }
 {
-    words::meets(&sets[k], &sets[n])
+    words::meets(sets::row(sets, k), sets::row(sets, n))
 }
 
 // Whether the sets in three places are empty.
 fn are_empty(sets: &Sets, k: usize, m: usize, n: usize) -> bool
-    requires { (k < place_count) × (m < place_count) × (n < place_count) × IsStore sets.now }
+    requires { (k < place_count) × (m < place_count) × (n < place_count) }
     ensures { result ≡ empty_in sets.now k m n }
 {
     words::is_empty(&sets[k]) && words::is_empty(&sets[m]) && words::is_empty(&sets[n])
@@ -60,7 +60,7 @@ fn are_empty(sets: &Sets, k: usize, m: usize, n: usize) -> bool
 
 // W is within V, R within Q, I within J.
 fn opens_claimed(sets: &Sets, p: u8) -> bool
-    requires { ((1 ≤ p) × (p ≤ 32)) × IsStore sets.now }
+    requires { (1 ≤ p) × (p ≤ 32) }
     ensures { result ≡ each_mode (λ m. within (open_at sets.now p m) (claim_at sets.now p m)) }
 {
     is_within(
@@ -80,7 +80,7 @@ fn opens_claimed(sets: &Sets, p: u8) -> bool
 
 // Two of V, Q and J share a file.
 fn claims_meet(sets: &Sets, p: u8) -> bool
-    requires { ((1 ≤ p) × (p ≤ 32)) × IsStore sets.now }
+    requires { (1 ≤ p) × (p ≤ 32) }
     ensures { result ≡ claims_meet_in sets.now p }
 {
     let v = sets::claim_at(Mode::Write, p);
@@ -92,7 +92,7 @@ fn claims_meet(sets: &Sets, p: u8) -> bool
 // W is within V, R within Q, I within J; no two of V, Q and J share a file.
 #[tactic(auto, unfolding(rules::specs::Soundness::sets_sound))]
 fn sets_sound(sets: &Sets, p: u8) -> bool
-    requires { ((1 ≤ p) × (p ≤ 32)) × IsStore sets.now }
+    requires { (1 ≤ p) × (p ≤ 32) }
     ensures { result ≡ sets_sound (bare_at sets.now p) }
 {
     opens_claimed(sets, p) && !claims_meet(sets, p)
@@ -100,7 +100,7 @@ fn sets_sound(sets: &Sets, p: u8) -> bool
 
 // Nothing is claimed.
 fn claims_nothing(sets: &Sets, p: u8) -> bool
-    requires { ((1 ≤ p) × (p ≤ 32)) × IsStore sets.now }
+    requires { (1 ≤ p) × (p ≤ 32) }
     ensures { result ≡ each_mode (λ m. is_empty (claim_at sets.now p m)) }
 {
     let v = sets::claim_at(Mode::Write, p);
@@ -111,7 +111,7 @@ fn claims_nothing(sets: &Sets, p: u8) -> bool
 
 // Nothing is open.
 fn opens_nothing(sets: &Sets, p: u8) -> bool
-    requires { ((1 ≤ p) × (p ≤ 32)) × IsStore sets.now }
+    requires { (1 ≤ p) × (p ≤ 32) }
     ensures { result ≡ each_mode (λ m. is_empty (open_at sets.now p m)) }
 {
     let w = sets::open_at(Mode::Write, p);
@@ -123,7 +123,7 @@ fn opens_nothing(sets: &Sets, p: u8) -> bool
 // What is said of a program with this standing by itself: absent ones have empty sets, held ones nothing open.
 #[tactic(auto, using(crate::proofs::Blank::sound_absent, crate::proofs::Blank::sound_admitted, crate::proofs::Blank::sound_held), unfolding(rules::specs::Soundness::standing_sound))]
 fn program_sound(sets: &Sets, p: u8, s: Standing) -> bool
-    requires { ((1 ≤ p) × (p ≤ 32)) × IsStore sets.now }
+    requires { (1 ≤ p) × (p ≤ 32) }
     ensures { result ≡ is_sound_with sets.now p s }
 {
     match s {
@@ -147,7 +147,7 @@ fn may_have(s: Standing, f: u16) -> bool
 // What is said of the record of p's seat: its file is in I, and p runs or waits for it; without a record there is no file of one.
 #[tactic(auto, using(crate::proofs::Seats::may_have_lem), unfolding(rules::specs::Soundness::item_sound))]
 fn item_sound(sets: &Sets, p: u8, seat: Seat) -> bool
-    requires { ((1 ≤ p) × (p ≤ 32)) × IsStore sets.now }
+    requires { (1 ≤ p) × (p ≤ 32) }
     ensures { result ≡ item_sound (program_with sets.now (p - 1) seat) }
 {
     let f = seat.file;
@@ -160,7 +160,7 @@ fn item_sound(sets: &Sets, p: u8, seat: Seat) -> bool
 // What is said of p with this seat by itself.
 #[tactic(auto, using(crate::proofs::Seats::program_with_lem))]
 fn seat_sound(sets: &Sets, p: u8, seat: Seat) -> bool
-    requires { ((1 ≤ p) × (p ≤ 32)) × IsStore sets.now }
+    requires { (1 ≤ p) × (p ≤ 32) }
     ensures { result ≡ program_sound (program_with sets.now (p - 1) seat) }
 {
     program_sound(sets, p, seat.standing) && item_sound(sets, p, seat)
@@ -182,7 +182,6 @@ fn do_all<F: Fn(u8) -> bool>(test: F) -> bool
 // Each program by itself.
 #[tactic(auto, using(crate::proofs::Seats::sound_with))]
 fn programs_sound(sets: &Sets, rest: Rest) -> bool
-    requires { IsStore sets.now }
     ensures { result ≡ all (is_sound_at (board_of sets.now rest)) everyone }
 {
     do_all(|p| seat_sound(sets, p, rest.seats[(p - 1) as usize]))
@@ -242,7 +241,7 @@ fn line_sound(line: [u8; 32], set: ProgramSet) -> bool
 // The waiter's file is claimed, not open by it, and can't be given now; "covers file waits only": not if it waits for a record n.
 #[tactic(auto, unfolding(rules::specs::Soundness::waiter_sound))]
 fn waiter_sound(sets: &Sets, rows: &[u32; 32], uses: Uses, p: u8, f: u16, n: u16) -> bool
-    requires { ((1 ≤ p) × (p ≤ 32)) × IsStore sets.now × (has_program uses.admitted p ≡ true) × (rows.now ≡ rows_of sets.now uses.admitted) }
+    requires { ((1 ≤ p) × (p ≤ 32)) × (has_program uses.admitted p ≡ true) × (rows.now ≡ rows_of sets.now uses.admitted) }
     ensures { WaiterFor sets.now uses p f n result }
 {
     if n != 0 {
@@ -369,9 +368,10 @@ fn is_sound_by(
     waiters: ProgramSet,
     held: ProgramSet,
 ) -> bool
-    requires { IsStore sets.now × Packed (board_of sets.now rest) admitted ordered waiters held × (rows.now ≡ rows_of sets.now admitted) }
+    requires { Packed (board_of sets.now rest) admitted ordered waiters held × (rows.now ≡ rows_of sets.now admitted) }
     ensures { result ≡ sound (board_of sets.now rest) }
 {
+    sets::sized(sets);
     ordered
         && programs_sound(sets, rest)
         && line_sound(rest.waiting, waiters)
@@ -384,9 +384,9 @@ fn is_sound_by(
 
 // Whether the board is sound, and its carried order.
 pub fn judge(sets: &Sets, rest: Rest) -> Judged
-    requires { IsStore sets.now }
     ensures { (result.sound ≡ sound (board_of sets.now rest)) × (result.order ≡ as_order (carried (board_of sets.now rest))) }
 {
+    sets::sized(sets);
     let mut rows = [0u32; 32];
     let admitted = tables::boards::admitted_seats(rest);
     tables::rows::fill_rows(sets, admitted, &mut rows);
@@ -400,7 +400,6 @@ pub fn judge(sets: &Sets, rest: Rest) -> Judged
 
 // Whether the board is sound.
 pub fn is_sound(sets: &Sets, rest: Rest) -> bool
-    requires { IsStore sets.now }
     ensures { result ≡ sound (board_of sets.now rest) }
 {
     judge(sets, rest).sound

@@ -24,4 +24,4 @@ unfolding holder_rows
 returns c = let a = c.args in let l = c.loop-p in
     wrote-done a.admitted (row_bits a.sets.now a.admitted) a.rows.now l.p-iterator.left l.rows c.in-None.ensures.steps l.invariant
     ∙ places_same _ _ 32 0 (λ i h m. ap (cond (has_program a.admitted (suc i)) (row_bits a.sets.now a.admitted i))
-    (ap (λ (x : List ℕ). get_or x i 0) c.requires.0 ∙ get_or-replicate 32 i 0 0 (omega arith)))
+    (ap (λ (x : List ℕ). get_or x i 0) c.requires ∙ get_or-replicate 32 i 0 0 (omega arith)))

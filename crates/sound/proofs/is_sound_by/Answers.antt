@@ -12,10 +12,10 @@ line_waiters-requires c = let a = c.args in let b = board_of a.sets.now a.rest i
   | then-line_sound w ↦ elim c.if-programs_sound.branch [
     | then-programs_sound v ↦ elim c.if-ordered.branch [
       | then-ordered u ↦ (
-        known_by a.sets.now a.rest a.admitted a.ordered a.waiters a.held c.requires.1 c.requires.0 u.if-ordered.true
+        known_by a.sets.now a.rest a.admitted a.ordered a.waiters a.held c.requires.0 c.sized.ensures u.if-ordered.true
             (sym u.programs_sound.ensures ∙ sym u.value-is ∙ v.if-programs_sound.true),
-        named_waiting b a.rest.waiting a.waiters c.requires.1.waiters_are (sym v.line_sound.ensures ∙ sym v.value-is ∙ w.if-line_sound.true),
-        c.requires.2,
+        named_waiting b a.rest.waiting a.waiters c.requires.0.waiters_are (sym v.line_sound.ensures ∙ sym v.value-is ∙ w.if-line_sound.true),
+        c.requires.1,
       )
       | else-ordered u ↦ never v.if-programs_sound.true (u.value-is ∙ u.if-ordered.false)
     ]
@@ -27,7 +27,7 @@ line_waiters-requires c = let a = c.args in let b = board_of a.sets.now a.rest i
 pub returns-then-counts_sound : goal.returns-then-counts_sound
 returns-then-counts_sound c =
     let s = c.args.sets.now in let r = c.args.rest in let o = c.args.ordered in let w = c.args.waiters in let h = c.args.held in
-    let p = c.requires.1 in
+    let p = c.requires.0 in
     let v1 : c.if-ordered.value ≡ after_programs s r o w h = search rules in
     let v2 : c.if-programs_sound.value ≡ after_waiting s r o w h = search rules in
     let v3 : c.if-line_sound.value ≡ after_entry s r o w h = search rules in
@@ -42,7 +42,7 @@ returns-then-counts_sound c =
 pub returns-else-counts_sound : goal.returns-else-counts_sound
 returns-else-counts_sound c =
     let s = c.args.sets.now in let r = c.args.rest in let o = c.args.ordered in let w = c.args.waiters in let h = c.args.held in
-    let p = c.requires.1 in
+    let p = c.requires.0 in
     let v1 : c.if-ordered.value ≡ after_programs s r o w h = search rules in
     let v2 : c.if-programs_sound.value ≡ after_waiting s r o w h = search rules in
     let v3 : c.if-line_sound.value ≡ after_entry s r o w h = search rules in

@@ -14,8 +14,7 @@ use Rattle.sound.proofs.judge.Goals as goal
 pub is_sound_by-sound-requires : goal.is_sound_by-sound-requires
 is_sound_by-sound-requires c = let a = c.args in let b = board_of a.sets.now a.rest in
     let admitted = c.admitted_seats-admitted.ensures ∙ seats_admitted a.sets.now a.rest in
-    let order = c.order_in-order.ensures ∙ order_of_lem b _ _ _ (board-sets a.sets.now a.rest c.requires) c.fill_rows.ensures admitted in (
-      c.requires,
+    let order = c.order_in-order.ensures ∙ order_of_lem b _ _ _ (board-sets a.sets.now a.rest c.sized.ensures) c.fill_rows.ensures admitted in (
       record {
         admitted_are = admitted;
         is-ordered = c.is_found-ordered.ensures ∙ ap (λ (z : Order). is_found z.kind) order ∙ has-found (carried b);
@@ -28,6 +27,6 @@ is_sound_by-sound-requires c = let a = c.args in let b = board_of a.sets.now a.r
 pub returns : goal.returns
 returns c = let a = c.args in (
   c.is_sound_by-sound.ensures,
-  c.order_in-order.ensures ∙ order_of_lem (board_of a.sets.now a.rest) _ _ _ (board-sets a.sets.now a.rest c.requires) c.fill_rows.ensures
+  c.order_in-order.ensures ∙ order_of_lem (board_of a.sets.now a.rest) _ _ _ (board-sets a.sets.now a.rest c.sized.ensures) c.fill_rows.ensures
       (c.admitted_seats-admitted.ensures ∙ seats_admitted a.sets.now a.rest),
 )

@@ -15,7 +15,7 @@ pub waiter_sound-requires : goal.waiter_sound-requires
 waiter_sound-requires c = let a = c.args in let long : length a.line ≡ 32 = search rules in let b = board_of a.sets.now a.rest in
     let n = waiter_named b a.line c.loop-p.p-index (omega arith) c.if-p-eq0.false c.loop-p.invariant.0 in
     let k = c.requires.0 in
-    (n.0, k.in_sets.0, in_admitted b _ a.sets.now _ k.in_use n.0.0 n.0.1 n.1, c.requires.2)
+    (n.0, in_admitted b _ a.sets.now _ k.in_use n.0.0 n.0.1 n.1, c.requires.2)
 
 pub returns-then-not-waiter_sound : goal.returns-then-not-waiter_sound
 returns-then-not-waiter_sound c = let a = c.args in let l = c.loop-p in let long : length a.line ≡ 32 = search rules in

@@ -1,10 +1,9 @@
-use Rattle.std.proofs.Common.{sym, ap, subst, ◌∙◌}
+use Rattle.std.proofs.Common.{sym, ap, ◌∙◌}
 use Rattle.rules.specs.declared.Board.{Board}
 use Rattle.rules.specs.Boards.{is_admitted}
 use Rattle.rules.specs.Digraph.{step, is_loop_of}
-use Rattle.store.specs.Sets.{Sets, IsStore}
+use Rattle.store.specs.Sets.{Sets}
 use Rattle.store.specs.Store.{board_of}
-use Rattle.store.proofs.Given.{given_store}
 use Rattle.digraph.proofs.LoopLaws.{not_in, not_claimed, loop_with, stands_as, claims_as, given_as}
 use Rattle.digraph.proofs.loops.is_loop_by.Goals as goal
 
@@ -17,9 +16,6 @@ pub returns-then-not-has_claim : goal.returns-then-not-has_claim
 returns-then-not-has_claim c = let a = c.args in let k = c.take-rest in
     sym (not_claimed a.b a.p a.f a.l.now (sym (c.has_claim.ensures
     ∙ claims_as a.b k.new.sets k.result k.ensures.0 k.ensures.1 a.p c.requires.0 c.requires.1 a.f) ∙ c.if-not-has_claim.true))
-
-pub is_loop-requires : goal.is_loop-requires
-is_loop-requires c = let k = c.take-rest in subst IsStore (sym c.give.ensures) (given_store k.new.sets c.args.p c.args.f c.requires.0 c.requires.1 k.ensures.0.0)
 
 pub returns : goal.returns
 returns c = let a = c.args in let k = c.take-rest in
