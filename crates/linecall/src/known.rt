@@ -3,8 +3,7 @@
 ghost use Rattle.std.specs.Prelude.{◌≡◌, true, ◌+◌, ◌*◌, ◌≤◌, length};
 ghost use Rattle.rules.specs.Soundness.{sound};
 ghost use Rattle.journal.specs.Journal.{journal_line, journal_room, written};
-ghost use Rattle.parts.specs.Entries.{IsEntries, no_entries};
-ghost use Rattle.store.specs.Sets.{IsStore};
+ghost use Rattle.parts.specs.Entries.{no_entries};
 ghost use Rattle.store.specs.Store.{board_of};
 ghost use Rattle.settling.specs.Writing.{written_in};
 ghost use Rattle.apply.specs.Replies.{replied, ComesTo, InForm};
@@ -13,8 +12,8 @@ ghost use Rattle.linecall.specs.LineCall.{journal_full, FitsLine, refuse_line, l
 use apply::Changed;
 use parts::entries::Entries;
 use rules::{Asked, Line, Refusal, Word};
-use store::Rest;
 use store::sets::Sets;
+use store::{Rest, sets};
 
 // What the call comes to, and the new place in the journal.
 #[derive(Clone, Copy)]
@@ -65,7 +64,7 @@ fn write_lines(
     q: Result<Asked, Refusal>,
     c: Changed,
 ) -> usize
-    requires { (place + journal_room ≤ length journal.old) × (c.progress.count ≤ 32) × FitsLine q × IsEntries lines.now }
+    requires { (place + journal_room ≤ length journal.old) × (c.progress.count ≤ 32) × FitsLine q }
     ensures value { result ≡ place
         + journal_line * length (lines_for q (replied (written_in sets.now lines.now c.progress) c.answer)) }
     ensures journal_after { journal.new
@@ -82,13 +81,16 @@ fn write_lines(
 
 // What a line comes to: its direct call, or a refusal.
 fn reply_to(sets: &mut Sets, rest: Rest, lines: &mut Entries, q: Result<Asked, Refusal>) -> Changed
-    requires { (sound (board_of sets.old rest) ≡ true) × IsStore sets.old × (lines.old ≡ no_entries) }
+    requires { (sound (board_of sets.old rest) ≡ true) × (lines.old ≡ no_entries) }
     ensures comes_to { ComesTo sets.new lines.new result (reply_to (board_of sets.old rest) q) }
     ensures in_form { InForm sets.new lines.new result }
 {
     match q {
         Ok(asked) => apply::call(sets, rest, lines, asked),
-        Err(refusal) => apply::replies::refused(sets, rest, lines, refusal),
+        Err(refusal) => {
+            sets::sized(sets);
+            apply::replies::refused(sets, rest, lines, refusal)
+        }
     }
 }
 
@@ -101,7 +103,7 @@ pub fn line(
     journal: &mut [u8],
     place: u64,
 ) -> Served
-    requires { (sound (board_of sets.old rest) ≡ true) × IsStore sets.old × (lines.old ≡ no_entries) }
+    requires { (sound (board_of sets.old rest) ≡ true) × (lines.old ≡ no_entries) }
     ensures comes_to { ComesTo sets.new lines.new result.changed
         (line_call (board_of sets.old rest) line.now journal.old place).reply }
     ensures place_value { result.place ≡ (line_call (board_of sets.old rest) line.now journal.old place).place }
@@ -109,6 +111,7 @@ pub fn line(
     ensures in_form { InForm sets.new lines.new result.changed }
 {
     if is_full(journal.len(), place) {
+        sets::sized(sets);
         let changed = apply::replies::refused(sets, rest, lines, Refusal::JournalFull);
         return Served { changed, place };
     }

@@ -48,8 +48,6 @@ complete-reply-requires c =
       λ h. let n = sym (ap (λ (x : Reply). refused x.answer) k.comes_to) ∙ h in
           c.judge-j.ensures.1 ∙ sym (ap (λ (x : Board). as_order (carried x)) (ap (λ (x : Reply). x.board) k.comes_to
           ∙ refused-same b a.line.now a.journal.now a.place n)),
-      k.in_form.0,
-      k.in_form.1,
       k.in_form.2,
     )
 

@@ -29,7 +29,7 @@ returns-then-is_full-clause-journal_after c =
     rw (call_full (board_of a.sets.now a.rest) a.line.now a.journal.now a.place c.requires.0 (sym c.is_full.ensures ∙ c.if-is_full.true))
 
 pub returns-then-is_full-clause-in_form : goal.returns-then-is_full-clause-in_form
-returns-then-is_full-clause-in_form c = (c.requires.1, subst IsEntries (sym c.requires.2) fresh_entries, c.refused-changed.ensures.carries)
+returns-then-is_full-clause-in_form c = (c.sized.ensures, subst IsEntries (sym c.requires.1) fresh_entries, c.refused-changed.ensures.carries)
 
 -- there is room
 
@@ -43,7 +43,6 @@ write_lines-at-requires c =
       (room (length a.journal.now) a.place f).1,
       rw e (reply_fits b c.read-q.result (board-size a.sets.now a.rest) c.requires.0),
       subst FitsLine (sym c.read-q.ensures) (numbers_fit a.line.now),
-      c.reply_to-changed.ensures.in_form.1,
     )
 
 pub returns-clause-comes_to : goal.returns-clause-comes_to

@@ -18,4 +18,4 @@ unfolding reply_to
 returns-in-Err-clause-comes_to c = rw c.in-Err.is c.refused.ensures.comes_to
 
 pub returns-in-Err-clause-in_form : goal.returns-in-Err-clause-in_form
-returns-in-Err-clause-in_form c = (c.requires.1, subst IsEntries (sym c.requires.2) fresh_entries, c.refused.ensures.carries)
+returns-in-Err-clause-in_form c = (c.sized.ensures, subst IsEntries (sym c.requires.1) fresh_entries, c.refused.ensures.carries)

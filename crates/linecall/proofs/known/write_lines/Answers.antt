@@ -1,4 +1,4 @@
-use Rattle.std.proofs.Common.{◌≡◌, length, arith, sym, ap, ◌∙◌}
+use Rattle.std.proofs.Common.{◌≡◌, length, arith, rules, sym, ap, ◌∙◌}
 use Rattle.parts.specs.Entries.{lines_in}
 use Rattle.parts.proofs.Lined.{length-lines}
 use Rattle.settling.specs.Writing.{written_in}
@@ -10,7 +10,8 @@ use Rattle.linecall.proofs.known.write_lines.Goals as goal
 pub returns-then-n-eq0-clause-value : goal.returns-then-n-eq0-clause-value
 returns-then-n-eq0-clause-value c =
     let a = c.args in
-    let places : length (lines_in a.lines.now) ≡ 32 = length-lines a.lines.now ∙ c.requires.3.places_are in
+    let m : length a.lines.now ≡ 32 = search rules in
+    let places : length (lines_in a.lines.now) ≡ 32 = length-lines a.lines.now ∙ m in
     let e = sym c.of_answer-n.ensures ∙ c.if-n-eq0.true in
     rw (own_count a.q (replied (written_in a.sets.now a.lines.now a.c.progress) a.c.answer) e (omega (arith, places, c.requires.1))) c.put_lines.ensures.value
 
