@@ -2,7 +2,6 @@
 
 // The calls of a C host.
 ghost use Rattle.std.specs.Prelude.{◌≡◌, ◌≤◌, take};
-ghost use Rattle.store.specs.Sets.{IsStore};
 ghost use Rattle.store.specs.Store.{empty_sets};
 ghost use Rattle.host.specs.Host.{read_image, taken_in, refusal_answer, host_answer, host_call, empty_answer, empty_image};
 ghost use Rattle.host.specs.Host.{placed_answer, placed_in, order_answer, order_buffer};
@@ -21,8 +20,7 @@ pub mod writing;
 #[tactic(auto, using(crate::proofs::Laws::image_layout, crate::proofs::Laws::image_unsound, crate::proofs::Laws::image_sound))]
 fn take_image(image: &[u8], sets: &mut Sets) -> Option<Rest>
     requires { sets.old ≡ empty_sets }
-    ensures result_after { taken_in sets.new result ≡ read_image image.now }
-    ensures store { IsStore sets.new }
+    ensures { taken_in sets.new result ≡ read_image image.now }
 {
     let rest = image::load_in(image, sets)?;
     if !sound::is_sound(sets, rest) {

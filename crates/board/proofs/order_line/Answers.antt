@@ -12,5 +12,5 @@ returns-clause-out_after c =
     let o = c.carried_in-order in
     let k = c.put_programs-n in
     order_is o.result.at c.args.out.now w.new.dst k.new.out k.result w.ensures.1 k.ensures.out_after
-    (omega (arith, k.ensures.upper_bound, k.auto.out, w.auto.dst, c.requires.0))
+    (omega (arith, k.ensures.upper_bound, k.auto.out, w.auto.dst, c.requires))
     ∙ ap (λ (x : Order). order_line x.at) o.ensures

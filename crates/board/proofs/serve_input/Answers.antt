@@ -3,7 +3,6 @@ use Rattle.std.proofs.Common.{rules, ◌≡◌, true, [], ap, ◌∙◌, arith}
 use Rattle.rules.specs.Boards.{empty_board}
 use Rattle.rules.specs.Soundness.{sound}
 use Rattle.rules.specs.Worked.{worked, worked_from}
-use Rattle.store.proofs.Laws.{fresh_store}
 use Rattle.theory.specs.Sound.{sound_iff, good_sound}
 use Rattle.theory.specs.Worked.{worked_good}
 use Rattle.board.proofs.serve_input.Goals as goal
@@ -21,5 +20,4 @@ loop-init g c =
       room_kept = search rules;
       room_journal = search rules;
       is_sound = ap sound s.0 ∙ empty_sound;
-      is_store = fresh_store;
     }

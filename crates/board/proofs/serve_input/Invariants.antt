@@ -1,7 +1,6 @@
 -- Between two reads the journal is written and the board is sound.
 use Rattle.std.proofs.Common.{length, ◌≡◌, true, ◌≤◌}
 use Rattle.rules.specs.Soundness.{sound}
-use Rattle.store.specs.Sets.{IsStore}
 use Rattle.store.specs.Store.{board_of}
 use Rattle.request.specs.Verbs.{cut_line}
 use Rattle.board.specs.Input.{buffer_length}
@@ -14,5 +13,4 @@ invariant-loop g l = record {
   room_kept : length l.kept ≡ cut_line;
   room_journal : length l.journal ≡ buffer_length;
   is_sound : sound (board_of l.sets l.s.rest) ≡ true;
-  is_store : IsStore l.sets;
 }

@@ -20,5 +20,5 @@ returns c =
       rest_after = e;
       place_value = l.place_value;
       journal_after = l.journal_after;
-      rest_after_2 = (ap sound e ∙ t, refl, omega (arith, h, l.place_value), l.in_form.0);
+      rest_after_2 = (ap sound e ∙ t, refl, omega (arith, h, l.place_value));
     }

@@ -1,7 +1,6 @@
 -- What is left does to the state so far what all does to the first, and all of the journal is written.
 use Rattle.std.proofs.Common.{length, ◌≡◌, true, [], ◌≤◌, take}
 use Rattle.rules.specs.Soundness.{sound}
-use Rattle.store.specs.Sets.{IsStore}
 use Rattle.store.specs.Store.{board_of}
 use Rattle.request.specs.Verbs.{cut_line}
 use Rattle.board.specs.Input.{buffer_length, held, flushed, fed}
@@ -16,7 +15,6 @@ invariant-loop-rest g l = record {
   taken : flushed (fed (held (board_of l.sets l.s.rest) (take l.s.kept l.kept) []) l.rest)
       ≡ flushed (fed (held (board_of l.initial.sets l.initial.s.rest) (take l.initial.s.kept l.initial.kept) []) l.chunk);
   is_sound : sound (board_of l.sets l.s.rest) ≡ true;
-  is_store : IsStore l.sets;
 }
 
 abbrev pub decreases-loop-rest : goal.decreases-loop-rest

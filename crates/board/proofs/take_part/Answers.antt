@@ -18,7 +18,6 @@ loop-n-init c =
       room_journal = p.1;
       taken = part_begins (board_of a.sets.now a.start.rest) (take a.start.kept a.kept.now) a.journal.now a.part.now a.start.place p.0;
       is_sound = r.0;
-      is_store = p.3;
     }
 
 pub returns-then-s-gt-LAST_PLACE-clause-journal_after : goal.returns-then-s-gt-LAST_PLACE-clause-journal_after
@@ -46,7 +45,6 @@ loop-n-preserved c =
           l.invariant.taken _ k.new.kept _ c.in-Some.n k.result.kept _ c.in-Some.ensures k.ensures.rest_after.1 (omega arith)
           k.ensures.journal_after;
       is_sound = k.ensures.rest_after.0;
-      is_store = k.ensures.rest_after.3;
     }
 
 pub returns-clause-journal_after : goal.returns-clause-journal_after

@@ -1,7 +1,6 @@
 -- The lines so far did what their bytes do, the board is sound, and the journal has room for a call.
 use Rattle.std.proofs.Common.{length, ◌-◌, ◌≡◌, true, [], ◌≤◌, take}
 use Rattle.rules.specs.Soundness.{sound}
-use Rattle.store.specs.Sets.{IsStore}
 use Rattle.store.specs.Store.{board_of}
 use Rattle.request.specs.Verbs.{cut_line}
 use Rattle.board.specs.Input.{buffer_length, last_place, held, fed}
@@ -17,7 +16,6 @@ invariant-loop-n l = record {
   taken : held (board_of l.sets l.s.rest) (take l.s.kept l.kept) (take l.s.place l.journal)
       ≡ fed (held (board_of l.initial.sets l.initial.s.rest) (take l.initial.s.kept l.initial.kept) []) (take l.at l.part);
   is_sound : sound (board_of l.sets l.s.rest) ≡ true;
-  is_store : IsStore l.sets;
 }
 
 abbrev pub decreases-loop-n : goal.decreases-loop-n

@@ -11,19 +11,19 @@ use Rattle.host.proofs.lock_board_line.Goals as goal
 pub returns-in_default : goal.returns-in_default
 returns-in_default c =
     let a = c.args in
-    let e = Laws.host_refused a.image.now a.line.now a.journal.now a.place c.in_default.ensures.result_after in
+    let e = Laws.host_refused a.image.now a.line.now a.journal.now a.place c.in_default.ensures in
     record { value = rw e c.answer_for.ensures; image_after = rw e; journal_after = rw e }
 
 pub line-served-requires : goal.line-served-requires
 line-served-requires c =
-    let r = Laws.image_read c.args.image.now (board_of c.take_image.new.sets c.in-Some.rest) c.in-Some.ensures.result_after in
-    (r.1, c.in-Some.ensures.store, refl)
+    let r = Laws.image_read c.args.image.now (board_of c.take_image.new.sets c.in-Some.rest) c.in-Some.ensures in
+    (r.1, refl)
 
 pub returns-then-n-eq0 : goal.returns-then-n-eq0
 returns-then-n-eq0 c =
     let a = c.args in
     let b = board_of c.take_image.new.sets c.in-Some.rest in
-    let read = Laws.image_read a.image.now b c.in-Some.ensures.result_after in
+    let read = Laws.image_read a.image.now b c.in-Some.ensures in
     let l = c.line-served in
     let h = Laws.host_by a.image.now a.line.now a.journal.now a.place c.of_answer-n.result l.result.place
     (replied (written_in l.new.sets l.new.lines l.result.changed.progress) l.result.changed.answer) l.new.journal b read.0
@@ -41,7 +41,7 @@ pub returns : goal.returns
 returns c =
     let a = c.args in
     let b = board_of c.take_image.new.sets c.in-Some.rest in
-    let read = Laws.image_read a.image.now b c.in-Some.ensures.result_after in
+    let read = Laws.image_read a.image.now b c.in-Some.ensures in
     let l = c.line-served in
     let h = Laws.host_by a.image.now a.line.now a.journal.now a.place c.of_answer-n.result l.result.place
     (replied (written_in l.new.sets l.new.lines l.result.changed.progress) l.result.changed.answer) l.new.journal b read.0
