@@ -399,11 +399,7 @@ fn read_rows(s: &[u8], sets: &mut Sets) -> [Seat; 32]
     ensures seats_to { SeatsTo (image_section.read s.now) 32 result }
     ensures sets_of { SetsOf (image_section.read s.now) sets.new }
 {
-    let mut seats = [Seat {
-        standing: Standing::Absent,
-        file: 0,
-        item: 0,
-    }; 32];
+    let mut seats = [Seat::NONE; 32];
     for (i, seat) in seats.iter_mut().enumerate() {
         let (row, inquiry) = (row(s, i), inquiry(s, i));
         read_sets(row, inquiry, sets, i as u8 + 1);

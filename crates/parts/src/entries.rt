@@ -10,7 +10,7 @@ pub const NUMBERS: usize = 5;
 // The lines of a call: at most 32.
 pub const LINES: usize = 32;
 
-// Numbers and no Line: `entry_of`, `line_in` and the mistakes against them (must-fail/code.edit) are about this form.
+// Numbers and no Line: the mistakes against `entry_of`, `line_in` and the numbers of words (must-fail/code.edit) hold this form.
 pub type Entry = [u16; NUMBERS];
 
 pub type Entries = [Entry; LINES];

@@ -1,4 +1,5 @@
-// The table of modes that clash, of whole sets; of one file `store::sets::has_claim` and `search::gives::in_use` have it.
+// The table of modes that clash, of whole sets; of one file `store::sets::has_claim` and `search::gives::in_use` have it,
+// which look into no more sets than they need.
 ghost use Rattle.std.specs.Prelude.{◌≡◌, not, eqb};
 ghost use Rattle.rules.specs.Modes.{touching};
 ghost use Rattle.parts.specs.Modes.{clashes, rows, SameLengths};

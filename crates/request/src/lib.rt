@@ -55,7 +55,7 @@ pub struct Row {
 }
 
 // The files of a group as far as they are read: whether they rise, the last one, 0 before the first, and the set. A flag beside the set,
-// since a later field that is no file's number is refused before a fall (`group_from`).
+// since a later field that is no file's number is refused before a fall (`group_from`); 0 and no Option, since every file is above it.
 #[derive(Clone, Copy)]
 pub struct Group {
     pub rising: bool,

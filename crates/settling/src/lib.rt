@@ -22,7 +22,7 @@ use store::{Rest, Seat};
 
 pub mod counts;
 
-// The rest of a board whose sets are lent, and how many lines are written so far.
+// The rest of a board whose sets are lent, and how many lines are written so far: the lines stand in an array that is lent (no heap).
 #[derive(Clone, Copy)]
 pub struct Progress {
     pub rest: Rest,

@@ -235,7 +235,7 @@ fn write_alone(a: Asked, line: &mut [u8]) -> Result<usize, Unwritten>
     Ok(put_head(line, a.verb, a.program))
 }
 
-// Whether n is one of the numbers 1 to high.
+// Whether n, any number of a caller's, is one of the numbers 1 to high; `files::numbers::is_number` has a narrower type.
 fn is_number(n: u64, high: u64) -> bool
     ensures { result ≡ is_number high n }
 {
