@@ -38,7 +38,7 @@ use Rattle.image.specs.Image.{image_of}
 use Rattle.image.proofs.RoundTrip.{loaded_back, loaded_again}
 use Rattle.linecall.specs.LineCall.{Outcome, journal_full, lines_for, reply_to, stopped, posted, line_call}
 use Rattle.linecall.proofs.Laws.{call_unsound, call_full, room, refused-same}
-use Rattle.host.specs.Host.{Hosted, order_now, hosted_by, host_call}
+use Rattle.host.specs.Host.{Hosted, order_now, hosted_by}
 use Rattle.host.specs.Promises.{LineDoesItsCall, LineRefused, RefusedKeepsBoard, WritesNothing, OtherBytesKept, ReadsBack}
 use Rattle.host.specs.Promises.{AcceptedIsWritten, RefusedKeepsImage, LineNeverOutOfRange, DirectOutOfRange}
 use Rattle.host.specs.Promises.{AnswerWrittenFirst, OrderCarried}
