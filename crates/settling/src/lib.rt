@@ -272,7 +272,20 @@ fn choose_next(sets: &Sets, lines: &mut Entries, w: Progress) -> Progress
     }
 }
 
-// Settle: through the waiting line once from the oldest, then favour or run those held.
+// Settle, where somebody waits or is held: through the waiting line once from the oldest, then favour or run those held.
+// Not written out in `settled`, which stays small: where nothing is done it hands the progress on, and no move within memory is needed.
+#[inline(never)]
+fn settle_lines(sets: &mut Sets, lines: &mut Entries, w: Progress) -> Progress
+    requires { Loose (board_of sets.old w.rest) × Counts (board_of sets.old w.rest)
+        × Fits (written_in sets.old lines.old w) (settle (board_of sets.old w.rest)) }
+    ensures { written_in sets.new lines.new result
+        ≡ after (written_in sets.old lines.old w) (settle (board_of sets.old w.rest)) }
+{
+    let s = pass_line(sets, lines, w);
+    choose_next(sets, lines, s)
+}
+
+// Settle; where nobody waits and nobody is held, nothing is done.
 pub fn settled(sets: &mut Sets, lines: &mut Entries, w: Progress) -> Progress
     requires { Loose (board_of sets.old w.rest) × Counts (board_of sets.old w.rest)
         × Fits (written_in sets.old lines.old w) (settle (board_of sets.old w.rest)) }
@@ -282,6 +295,5 @@ pub fn settled(sets: &mut Sets, lines: &mut Entries, w: Progress) -> Progress
     if w.rest.waiting[0] == 0 && w.rest.entry[0] == 0 {
         return w;
     }
-    let s = pass_line(sets, lines, w);
-    choose_next(sets, lines, s)
+    settle_lines(sets, lines, w)
 }

@@ -104,6 +104,8 @@ impl ProgramSet {
     }
 
     // The programs that pass a test, which each is put to once.
+    // Not written out where it is called: there the test would be taken apart for each of the 32, and the board that it looks at with it.
+    #[inline(never)]
     pub fn those<F: Fn(u8) -> bool>(test: F) -> ProgramSet
         requires { (p : _) → 1 ≤ p → p ≤ 32 → F.pre test p }
         ensures { AllPassedBy (F.post test) result }

@@ -1,8 +1,8 @@
-use Rattle.std.proofs.Common.{◌≡◌, ◌∙◌, length, arith, rules}
+use Rattle.std.proofs.Common.{◌≡◌, length, arith, rules}
 use Rattle.lines.proofs.Laws.{names_stop}
 use Rattle.store.specs.Store.{board_of}
 use Rattle.settling.specs.Writing.{written_in}
-use Rattle.settling.proofs.Laws.{settle-nobody, settle-loose, settle-counts, settle-fits-pass, settle-fits-choose, settle_is}
+use Rattle.settling.proofs.Laws.{settle-nobody}
 use Rattle.settling.proofs.settled.Goals as goal
 
 pub returns-then-w-eq0-2 : goal.returns-then-w-eq0-2
@@ -11,22 +11,3 @@ returns-then-w-eq0-2 c = let w = c.args.w in
     let m : length w.rest.waiting ≡ 32 = search rules in let n : length w.rest.entry ≡ 32 = search rules in
     settle-nobody (written_in c.args.sets.now c.args.lines.now w) c.requires.0 (names_stop w.rest.waiting 0 (omega arith) c.if-w-eq0.true)
     (names_stop w.rest.entry 0 (omega arith) c.if-w-eq0-2.true)
-
-pub pass_line-s-requires : goal.pass_line-s-requires
-unfolding board_of
-pass_line-s-requires c =
-    (c.requires.0, c.requires.1, settle-fits-pass (written_in c.args.sets.now c.args.lines.now c.args.w) c.requires.2)
-
-pub choose_next-requires : goal.choose_next-requires
-unfolding board_of
-choose_next-requires c = let a = c.args in let p = c.pass_line-s in
-    let w = written_in a.sets.now a.lines.now a.w in let s = written_in p.new.sets p.new.lines p.result in (
-      settle-loose w s p.ensures c.requires.0 c.requires.1,
-      settle-counts w s p.ensures c.requires.0 c.requires.1,
-      settle-fits-choose w s p.ensures c.requires.2,
-    )
-
-pub returns : goal.returns
-unfolding board_of
-returns c = let a = c.args in let p = c.pass_line-s in c.choose_next.ensures
-    ∙ settle_is (written_in a.sets.now a.lines.now a.w) (written_in p.new.sets p.new.lines p.result) p.ensures
