@@ -66,10 +66,10 @@ pub good_of : (sets : Sets) (r : Rest) → sound (board_of sets r) ≡ true → 
 good_of sets r e = sound_good (board_of sets r) (board-size sets r) ((sound_iff (board_of sets r)).0 e)
 
 module _ (b : Board) (c : Call) where
-  apply-passed : checked b c ≡ Ok tt → accepted b c ≡ apply b c
+  pub apply-passed : checked b c ≡ Ok tt → accepted b c ≡ apply b c
   apply-passed e = sym (apply-accepted b c e)
 
-  apply_failed : (r : Refusal) → checked b c ≡ Err r → refuse b r ≡ apply b c
+  pub apply_failed : (r : Refusal) → checked b c ≡ Err r → refuse b r ≡ apply b c
   apply_failed r e = sym (apply-refused b c r e)
 
 unless-same : (b : Board) (k : Check) (r : Reply) → refused r.answer ≡ false → refused (unless b k r).answer ≡ true → (unless b k r).board ≡ b
@@ -202,7 +202,7 @@ module _ (sets : Sets) (q : Rest) (p : ℕ) (h : 1 ≤ p) (k : p ≤ 32) (st : I
   returned = rw ranged (running-then (at b p).standing (returned_check (at b p).item))
 
   -- the checks of a call, by its sets and its seat, are those of the rules
-  checked_near : (v : Verb) (f n : ℕ) (c : Claims) → near_check sets p (seat_at q p) v f n c ≡ checked b (call_with v p f n c)
+  pub checked_near : (v : Verb) (f n : ℕ) (c : Claims) → near_check sets p (seat_at q p) v f n c ≡ checked b (call_with v p f n c)
   checked_near Verb.Enter f n c = ap (λ (s : Seat). entry_check s.standing c) seated ∙ entered c
   checked_near Verb.Open f n c = opened f
   checked_near Verb.Close f n c = closed f

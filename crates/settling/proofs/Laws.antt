@@ -128,9 +128,8 @@ module _ (w s : Written) (l : List ℕ) (k : ℕ) (h : k < length l) (ne : get_o
       ))
 
 -- the waiting line of a loose board
-pub ready_all : (sets : Sets) (r : Rest) → Loose (board_of sets r) → Ready (board_of sets r) (names r.waiting)
-unfolding board_of
-ready_all sets r k = (k, k.waits.once, k.waits.of)
+pub ready_all : (b : Board) → Loose b → Ready b (names b.waiting)
+ready_all b k = (k, k.waits.once, k.waits.of)
 
 -- a waiter, by the sets and the rest of the board
 module _ (sets : Sets) (r : Rest) (ps : List ℕ) (p : ℕ) (k : Ready (board_of sets r) ps) (m : p ∈ ps) where

@@ -16,11 +16,12 @@ returns-then-line-eq0 c = let m : length c.args.rest.waiting ≡ 32 = search rul
     sym (ap as_option (first_none_left _ _ (names_stop c.args.rest.waiting 0 (omega arith) c.if-line-eq0.true)))
 
 pub oldest-requires : goal.oldest-requires
-oldest-requires c = λ p m. let r = waiter-range c.args.sets.now c.args.rest _ p (ready_all c.args.sets.now c.args.rest c.requires) m in search rules
+unfolding board_of
+oldest-requires c = λ p m. let r = waiter-range c.args.sets.now c.args.rest _ p (ready_all (board_of c.args.sets.now c.args.rest) c.requires) m in search rules
 
 pub returns : goal.returns
 unfolding candidate board_of
 returns c = c.oldest.ensures (unused (board_of c.args.sets.now c.args.rest)) (λ p m t h.
     let e : t ≡ eqb (seat_at c.args.rest p).item 0 && not (used_in c.args.sets.now c.uses_in-uses.result p (awaited_of (seat_at c.args.rest p).standing)) = search rules in
-    waiter-unused c.args.sets.now c.args.rest _ p (ready_all c.args.sets.now c.args.rest c.requires) m c.uses_in-uses.result t c.sized.ensures
+    waiter-unused c.args.sets.now c.args.rest _ p (ready_all (board_of c.args.sets.now c.args.rest) c.requires) m c.uses_in-uses.result t c.sized.ensures
     (c.uses_in-uses.ensures ∙ ap (λ y. uses_in y c.args.sets.now) (c.admitted_seats-admitted.ensures ∙ seats_admitted c.args.sets.now c.args.rest)) e)
