@@ -25,6 +25,7 @@ loop-rest-preserved g c =
           ∙ rest_goes_on (held (board_of l.sets l.s.rest) (take l.s.kept l.kept) []) _ _ l.rest.now n k.ensures.journal_after refl
           ∙ i.taken;
       is_sound = r.0;
+      stays_failed = λ h. c.flush-written.ensures (i.stays_failed h);
     }
 
 pub returns-clause-kept_after : goal.returns-clause-kept_after

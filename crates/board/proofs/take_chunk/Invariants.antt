@@ -1,5 +1,5 @@
 -- What is left does to the state so far what all does to the first, and all of the journal is written.
-use Rattle.std.proofs.Common.{length, ◌≡◌, true, [], ◌≤◌, take}
+use Rattle.std.proofs.Common.{length, ◌≡◌, true, false, is_ok, [], ◌≤◌, take}
 use Rattle.rules.specs.Soundness.{sound}
 use Rattle.store.specs.Store.{board_of}
 use Rattle.request.specs.Verbs.{cut_line}
@@ -15,6 +15,7 @@ invariant-loop-rest g l = record {
   taken : flushed (fed (held (board_of l.sets l.s.rest) (take l.s.kept l.kept) []) l.rest)
       ≡ flushed (fed (held (board_of l.initial.sets l.initial.s.rest) (take l.initial.s.kept l.initial.kept) []) l.chunk);
   is_sound : sound (board_of l.sets l.s.rest) ≡ true;
+  stays_failed : is_ok l.initial.written ≡ false → is_ok l.written ≡ false;
 }
 
 abbrev pub decreases-loop-rest : goal.decreases-loop-rest
