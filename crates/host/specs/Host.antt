@@ -11,7 +11,7 @@ use Rattle.rules.specs.Replies.{refusal_of}
 use Rattle.store.specs.Sets.{Sets}
 use Rattle.store.specs.declared.Rest.{Rest}
 use Rattle.image.specs.Stored.{loaded_in}
-use Rattle.image.specs.Image.{loaded_of, image_of, refused_image, image_fits, image_in}
+use Rattle.image.specs.Image.{loaded_of, image_of, refused_image, board_or_empty, image_fits, image_in}
 use Rattle.linecall.specs.LineCall.{Outcome, line_call}
 
 -- ---- reading an image
@@ -21,9 +21,13 @@ abbrev pub sound_only : Option Board → Option Board
 sound_only None = refused_image
 sound_only (Some b) = cond (sound b) (Some b) refused_image
 
--- the board of an image; "Reading a refused image gives the empty board.": here none, in whose place a host has the empty board
+-- the board of an image; none of a refused one
 unfoldable pub read_image : List ℕ → Option Board
 read_image image = sound_only (loaded_of image)
+
+-- the board that a host goes on with; "Reading a refused image gives the empty board."
+unfoldable pub read_board : List ℕ → Board
+read_board image = board_or_empty (read_image image)
 
 -- the same of an image that is taken into sets and a rest: they have its board, or it is refused
 abbrev pub taken_in : Sets → Option Rest → Option Board

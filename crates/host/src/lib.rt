@@ -3,7 +3,7 @@
 // The calls of a C host.
 ghost use Rattle.std.specs.Prelude.{◌≡◌, ◌≤◌, take};
 ghost use Rattle.store.specs.Store.{empty_sets};
-ghost use Rattle.host.specs.Host.{read_image, taken_in, refusal_answer, host_answer, host_call, empty_answer, empty_image};
+ghost use Rattle.host.specs.Host.{read_image, read_board, taken_in, refusal_answer, host_answer, host_call, empty_answer, empty_image};
 ghost use Rattle.host.specs.Host.{placed_answer, placed_in, order_answer, order_buffer};
 
 use files::WORDS;
@@ -36,6 +36,14 @@ pub fn read_image(image: &[u8]) -> Option<Board>
     let mut sets = [[0u64; WORDS]; PLACES];
     let rest = take_image(image, &mut sets)?;
     Some(whole::board(&sets, rest))
+}
+
+// The board of an image; "Reading a refused image gives the empty board."
+#[tactic(auto, unfolding(crate::specs::Host::read_board))]
+pub fn read_board(image: &[u8]) -> Board
+    ensures { result ≡ read_board image.now }
+{
+    image::board_or_empty(read_image(image))
 }
 
 // Refusal n as a C host gets it: 2^64 less its number.

@@ -5,6 +5,7 @@ use Rattle.files.specs.declared.FileSet.{FileSet}
 use Rattle.rules.specs.declared.Standing.{Standing}
 use Rattle.rules.specs.declared.Program.{Program}
 use Rattle.rules.specs.declared.Board.{Board}
+use Rattle.rules.specs.Boards.{empty_board}
 use Rattle.image.specs.Sections.{Section, ◌▸◌, seen, refined, Each, many, zipped, agree, byte, run, number}
 unfoldable pub use Rattle.image.specs.Sections.{bytes_n}
 
@@ -231,6 +232,11 @@ refused_image = None
 unfoldable pub loaded_of : List ℕ → Option Board
 loaded_of l =
     cond (eqb (length l) image_length) (cond (image_section.fits l) (Some (board_of l)) refused_image) refused_image
+
+-- the board that was read; "Reading a refused image gives the empty board."
+abbrev pub board_or_empty : Option Board → Board
+board_or_empty None = empty_board
+board_or_empty (Some b) = b
 
 -- ---- writing into a buffer
 

@@ -10,7 +10,7 @@ ghost use Rattle.store.specs.Store.{no_seat, seat_of, program_with, programs_fro
 ghost use Rattle.image.specs.Image.{kind_of, file_byte, used_by, wanted_by, standing_of, file_of, item_of, both_or_none, seat_fits};
 ghost use Rattle.image.specs.Image.{set_section, row_of, row_section, rows_section, inquiry_of, inquiry_section, inquiries_section, joined, rows_agree};
 ghost use Rattle.image.specs.Sections.{row_at};
-ghost use Rattle.image.specs.Image.{inquiries_in, image_section, image_length, image_of, loaded_of, image_fits, image_in};
+ghost use Rattle.image.specs.Image.{inquiries_in, image_section, image_length, image_of, loaded_of, board_or_empty, image_fits, image_in};
 ghost use Rattle.image.specs.Stored.{loaded_in};
 ghost use Rattle.columns.specs.Rows.{put_at};
 
@@ -453,4 +453,11 @@ pub fn load(image: &[u8]) -> Option<Board>
     let mut sets = [[0u64; WORDS]; PLACES];
     let rest = load_in(image, &mut sets)?;
     Some(whole::board(&sets, rest))
+}
+
+// The board that was read; "Reading a refused image gives the empty board."
+pub fn board_or_empty(loaded: Option<Board>) -> Board
+    ensures { result ≡ board_or_empty loaded }
+{
+    loaded.unwrap_or(Board::EMPTY)
 }
