@@ -48,6 +48,15 @@ fn line_bytes(l: Line) -> [u8; 7] {
     ]
 }
 
+// The bytes of all lines, which are written at once: what is written is not gathered before it goes out.
+fn lines_bytes(lines: [Line; 32]) -> [u8; 224] {
+    let mut bytes = [0u8; 224];
+    for (i, line) in lines.iter().enumerate() {
+        bytes[7 * i..7 * i + 7].copy_from_slice(&line_bytes(*line));
+    }
+    bytes
+}
+
 // The image of a board.
 pub fn write_image(rt: &impl Print, b: Board) -> io::Result<()> {
     let mut bytes = [0u8; image::IMAGE_LEN];
@@ -77,9 +86,7 @@ pub fn call(rt: &impl Print, r: Reply, l: Loop) -> io::Result<()> {
         r.count,
         r.placed,
     ])?;
-    for line in &r.lines {
-        rt.write_all(&line_bytes(*line))?;
-    }
+    rt.write_all(&lines_bytes(r.lines))?;
     rt.write_all(&r.order)?;
     rt.write_all(&[short(l.count)])?;
     rt.write_all(&places(l))?;

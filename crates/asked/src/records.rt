@@ -1,4 +1,6 @@
 // What a record asks, and how it is done.
+ghost use Rattle.std.specs.Prelude.{◌≤◌, length, IfOk};
+
 use crate::lent::Lent;
 use crate::{answers, lent};
 use direct::Answered;
@@ -6,6 +8,9 @@ use files::FileSet;
 use rules::{Board, Claims};
 use std::io;
 use std::io::Read;
+
+// The most bytes of a text that follows a record.
+const LONGEST_TEXT: usize = 4096;
 
 // A record: its kind and its six numbers.
 #[derive(Clone, Copy)]
@@ -68,36 +73,63 @@ fn call(b: Board, r: Record) -> Answered {
     }
 }
 
-// Reads so many bytes, or those up to the end of the input.
-fn read_bytes(rt: &(impl Input + AllocGlobal), asked: u64) -> io::Result<Vec<u8>> {
-    let mut bytes = Vec::new(rt.alloc());
-    rt.reader().take(asked).read_to_end(&mut bytes)?;
-    Ok(bytes)
+// Reads until all of a buffer is filled or the input ends, and says how many bytes there were. Into a buffer that is lent: no heap.
+fn read_full(rt: &impl Input, bytes: &mut [u8]) -> io::Result<usize>
+    ensures { IfOk result (λ n. n ≤ length bytes.new) }
+{
+    let mut input = rt.reader();
+    let mut done: usize = 0;
+    // No `for`: each turn reads as many bytes as are there.
+    while done < bytes.len() {
+        let n = input.read(&mut bytes[done..])?;
+        if n == 0 {
+            break;
+        }
+        done += n;
+    }
+    Ok(done)
 }
 
-// Reads the text that follows a record: as many bytes as are asked for, at most 4,096.
-fn read_text(rt: &(impl Input + AllocGlobal), asked: u64) -> io::Result<Vec<u8>> {
-    read_bytes(rt, asked.min(4096))
+// Reads the text that follows a record: as many bytes as are asked for and have room, and says how many there were.
+fn read_text(rt: &impl Input, text: &mut [u8], asked: u64) -> io::Result<usize> {
+    let n = at_most(asked, text.len());
+    read_full(rt, &mut text[..n])
+}
+
+// The first n bytes of a text.
+fn front(text: &[u8], n: usize) -> &[u8] {
+    &text[..n.min(text.len())]
+}
+
+// A number, but at most so much.
+fn at_most(asked: u64, most: usize) -> usize
+    ensures { result ≤ most }
+{
+    usize::try_from(asked).unwrap_or(usize::MAX).min(most)
 }
 
 // The next record, if it is whole.
-pub fn next(rt: &(impl Input + AllocGlobal)) -> io::Result<Option<Record>> {
-    Ok(parse(&read_bytes(rt, 49)?))
+pub fn next(rt: &impl Input) -> io::Result<Option<Record>> {
+    let mut bytes = [0u8; 49];
+    let n = read_full(rt, &mut bytes)?;
+    Ok(parse(front(&bytes, n)))
 }
 
 // The board of the image that follows.
-fn load(rt: &(impl Input + Print + AllocGlobal), asked: u64) -> io::Result<Board> {
-    let text = read_text(rt, asked)?;
-    let loaded = image::load(&text);
-    let board = loaded.unwrap_or(Board::EMPTY);
+fn load(rt: &(impl Input + Print), asked: u64) -> io::Result<Board> {
+    let mut text = [0u8; LONGEST_TEXT];
+    let n = read_text(rt, &mut text, asked)?;
+    let loaded = image::load(front(&text, n));
+    let board = image::board_or_empty(loaded);
     answers::load(rt, loaded.is_some(), board)?;
     Ok(board)
 }
 
 // The label of the line that follows.
-fn label(rt: &(impl Input + Print + AllocGlobal), asked: u64) -> io::Result<()> {
-    let text = read_text(rt, asked)?;
-    answers::label(rt, request::label(&text))
+fn label(rt: &(impl Input + Print), asked: u64) -> io::Result<()> {
+    let mut text = [0u8; LONGEST_TEXT];
+    let n = read_text(rt, &mut text, asked)?;
+    answers::label(rt, request::label(front(&text, n)))
 }
 
 // The matrix of the board.
@@ -108,25 +140,25 @@ fn matrix(rt: &impl Print, b: Board) -> io::Result<()> {
 }
 
 // Whether the list that follows is a loop with the file given to the program.
-fn check(rt: &(impl Input + Print + AllocGlobal), b: Board, r: Record) -> io::Result<()> {
-    let text = read_text(rt, r.item)?;
-    let is_loop = digraph::loops::is_loop_with(b, r.program, r.file, &text);
+fn check(rt: &(impl Input + Print), b: Board, r: Record) -> io::Result<()> {
+    let mut text = [0u8; LONGEST_TEXT];
+    let n = read_text(rt, &mut text, r.item)?;
+    let is_loop = digraph::loops::is_loop_with(b, r.program, r.file, front(&text, n));
     answers::truth(rt, is_loop)
 }
 
 // The line call in place, with as much of a journal as is asked for.
 fn post(b: Board, line: &[u8], journal: &mut [u8], asked: u64, place: u64) -> Lent {
-    let n = usize::try_from(asked)
-        .unwrap_or(usize::MAX)
-        .min(journal.len());
+    let n = at_most(asked, journal.len());
     lent::line_call(b, line, &mut journal[..n], place)
 }
 
 // The line call in place, with the line that follows and a journal whose bytes are all 170.
-fn in_place(rt: &(impl Input + Print + AllocGlobal), b: Board, r: Record) -> io::Result<Board> {
-    let text = read_text(rt, r.program)?;
+fn in_place(rt: &(impl Input + Print), b: Board, r: Record) -> io::Result<Board> {
+    let mut text = [0u8; LONGEST_TEXT];
+    let n = read_text(rt, &mut text, r.program)?;
     let mut journal = [170u8; 1024];
-    let lent = post(b, &text, &mut journal, r.file, r.item);
+    let lent = post(b, front(&text, n), &mut journal, r.file, r.item);
     let board = lent.board;
     answers::post(rt, lent.posted, &journal)?;
     answers::write_image(rt, board)?;
@@ -134,7 +166,7 @@ fn in_place(rt: &(impl Input + Print + AllocGlobal), b: Board, r: Record) -> io:
 }
 
 // Does what a record asks, and gives the board after it.
-pub fn take(rt: &(impl Input + Print + AllocGlobal), b: Board, r: Record) -> io::Result<Board> {
+pub fn take(rt: &(impl Input + Print), b: Board, r: Record) -> io::Result<Board> {
     match r.kind {
         b'i' => return load(rt, r.program),
         b'p' => return in_place(rt, b, r),

@@ -1,10 +1,8 @@
 // Boards made from numbers: each program's standing and what it has of each file are the digits of the board's number.
 use super::compare;
 use super::compare::Tally;
-use super::orders::Orders;
 use files::FileSet;
 use rules::{Board, Program, Standing};
-use std::alloc::AllocError;
 
 // The sets that a file may be in.
 const V: u64 = 1;
@@ -187,7 +185,7 @@ fn board_of(f: &Family, digits: &mut Digits) -> Board {
 }
 
 // Every board of the family whose number is a multiple of `step`.
-pub fn every(orders: &Orders, f: &Family, step: u64) -> Result<Tally, AllocError> {
+pub fn every(f: &Family, step: u64) -> Tally {
     let mut tally = Tally::default();
     for turn in 0..1000000u64 {
         let mut digits = Digits {
@@ -197,9 +195,9 @@ pub fn every(orders: &Orders, f: &Family, step: u64) -> Result<Tally, AllocError
         if digits.left != 0 {
             break;
         }
-        tally = tally.counted(compare::compared(orders, board)?);
+        tally = tally.counted(compare::compared(board));
     }
-    Ok(tally)
+    tally
 }
 
 // The next number of a fixed row: a linear congruential generator.
@@ -213,7 +211,7 @@ fn wide(high: u64, low: u64) -> u64 {
 }
 
 // `count` boards of the family, by numbers of that row.
-pub fn drawn(orders: &Orders, f: &Family, count: u64) -> Result<Tally, AllocError> {
+pub fn drawn(f: &Family, count: u64) -> Tally {
     let mut tally = Tally::default();
     let mut draw: u64 = 1;
     for _ in 0..count {
@@ -223,7 +221,7 @@ pub fn drawn(orders: &Orders, f: &Family, count: u64) -> Result<Tally, AllocErro
             left: wide(high, draw),
         };
         let board = board_of(f, &mut digits);
-        tally = tally.counted(compare::compared(orders, board)?);
+        tally = tally.counted(compare::compared(board));
     }
-    Ok(tally)
+    tally
 }

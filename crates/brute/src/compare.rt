@@ -1,10 +1,9 @@
 // Compares the search, the matrix and the loop with the brute search on one board, and counts what came of it.
-use super::orders::{Orders, Place, Tried};
+use super::orders::{Admitted, Place, Tried};
 use super::{orders, paths};
 use files::WORDS;
 use rules::Board;
 use search::{Order, Search};
-use std::alloc::AllocError;
 use std::fmt;
 use store::sets::PLACES;
 
@@ -87,17 +86,18 @@ fn right_answer(order: Order, t: Tried, places: &[Place]) -> bool {
 // Both searches on one board; the board's own order is the one that the test of a sound board gives back.
 // Nothing agrees where so many programs are admitted that their orders are not tried.
 #[tactic(auto, using(store::proofs::Laws::fresh_store))]
-pub fn compared(orders: &Orders, b: Board) -> Result<Outcome, AllocError> {
-    let places = orders::places(orders.alloc(), &b)?;
+pub fn compared(b: Board) -> Outcome {
+    let admitted = Admitted::of(&b);
+    let places = admitted.places();
     let mut sets = [[0u64; WORDS]; PLACES];
     let rest = store::sets::take(b, &mut sets);
     let order = sound::judge(&sets, rest).order;
-    let Some(t) = orders.tried(&places, &order.at) else {
-        return Ok(Outcome::default());
+    let Some(t) = orders::all_tried(places, &order.at) else {
+        return Outcome::default();
     };
-    Ok(Outcome {
+    Outcome {
         some: t.orders != 0,
         rising: t.rising,
-        agrees: right_answer(order, t, &places) && paths::agree(b, &places, t.orders == 0),
-    })
+        agrees: right_answer(order, t, places) && paths::agree(b, places, t.orders == 0),
+    }
 }

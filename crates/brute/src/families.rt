@@ -8,7 +8,6 @@
 use super::boards;
 use super::boards::{Family, Files, Ways};
 use super::compare::Tally;
-use super::orders::Orders;
 use std::io;
 
 // The boards of a family that are tried: those of each so many numbers, or so many that are drawn.
@@ -27,12 +26,12 @@ struct Row<'a> {
 }
 
 // Tries the boards of each row and writes its line. Gives the total with these.
-fn reported(rt: &impl Print, orders: &Orders, rows: &[Row], total: Tally) -> io::Result<Tally> {
+fn reported(rt: &impl Print, rows: &[Row], total: Tally) -> io::Result<Tally> {
     let mut sum = total;
     for row in rows {
         let tally = match row.which {
-            Which::Each(step) => boards::every(orders, &row.family, step)?,
-            Which::Drawn(count) => boards::drawn(orders, &row.family, count)?,
+            Which::Each(step) => boards::every(&row.family, step),
+            Which::Drawn(count) => boards::drawn(&row.family, count),
         };
         println!(rt; "{}: {tally}", row.name)?;
         sum = sum.and(tally);
@@ -71,7 +70,7 @@ fn ring<'a>(programs: &'a [u8], files: &'a [u8], ways: u64) -> Family<'a> {
 }
 
 // Up to two programs.
-pub fn small(rt: &impl Print, orders: &Orders, total: Tally) -> io::Result<Tally> {
+pub fn small(rt: &impl Print, total: Tally) -> io::Result<Tally> {
     let rows = [
         Row {
             name: "program 32 in any standing, files 1 and 64",
@@ -99,11 +98,11 @@ pub fn small(rt: &impl Print, orders: &Orders, total: Tally) -> io::Result<Tally
             which: Which::Each(1),
         },
     ];
-    reported(rt, orders, &rows, total)
+    reported(rt, &rows, total)
 }
 
 // Three programs.
-pub fn middle(rt: &impl Print, orders: &Orders, total: Tally) -> io::Result<Tally> {
+pub fn middle(rt: &impl Print, total: Tally) -> io::Result<Tally> {
     let rows = [
         Row {
             name: "programs 1 to 3 running, files 1 and 2, each 11th",
@@ -116,11 +115,11 @@ pub fn middle(rt: &impl Print, orders: &Orders, total: Tally) -> io::Result<Tall
             which: Which::Each(61),
         },
     ];
-    reported(rt, orders, &rows, total)
+    reported(rt, &rows, total)
 }
 
 // Rings: each program shares a file with the next one, and the last with the first.
-pub fn rings(rt: &impl Print, orders: &Orders, total: Tally) -> io::Result<Tally> {
+pub fn rings(rt: &impl Print, total: Tally) -> io::Result<Tally> {
     let rows = [
         Row {
             name: "a ring of programs 1, 2 and 32 running, each 11th",
@@ -138,7 +137,7 @@ pub fn rings(rt: &impl Print, orders: &Orders, total: Tally) -> io::Result<Tally
             which: Which::Each(127),
         },
     ];
-    reported(rt, orders, &rows, total)
+    reported(rt, &rows, total)
 }
 
 // Six programs, each with a file or, in five of twelve ways, without it.
@@ -152,7 +151,7 @@ fn six<'a>() -> Family<'a> {
 }
 
 // Four to six programs, a part of the boards.
-pub fn large(rt: &impl Print, orders: &Orders, total: Tally) -> io::Result<Tally> {
+pub fn large(rt: &impl Print, total: Tally) -> io::Result<Tally> {
     let rows = [
         Row {
             name: "programs 3, 8, 9 and 32 running or waiting, files 1 and 64, each 15013th",
@@ -175,5 +174,5 @@ pub fn large(rt: &impl Print, orders: &Orders, total: Tally) -> io::Result<Tally
             which: Which::Drawn(2000),
         },
     ];
-    reported(rt, orders, &rows, total)
+    reported(rt, &rows, total)
 }

@@ -9,16 +9,14 @@ mod known;
 mod orders;
 mod paths;
 
-use orders::Orders;
 use std::io;
 
 fn main(rt: HostRuntime) -> io::Result<()> {
-    let orders = Orders::all(rt.alloc())?;
-    let hand = known::known_answers(&orders)?;
+    let hand = known::known_answers();
     println!(rt; "boards with known answers: {hand}")?;
-    let small = families::small(&rt, &orders, hand)?;
-    let middle = families::middle(&rt, &orders, small)?;
-    let rings = families::rings(&rt, &orders, middle)?;
-    let total = families::large(&rt, &orders, rings)?;
+    let small = families::small(&rt, hand)?;
+    let middle = families::middle(&rt, small)?;
+    let rings = families::rings(&rt, middle)?;
+    let total = families::large(&rt, rings)?;
     println!(rt; "in all: {total}")
 }

@@ -1,24 +1,26 @@
 // The brute search: every order of a board's admitted programs, in dictionary order.
 use files::FileSet;
-use itertools::Itertools;
 use rules::{Board, Program, Standing};
-use std::alloc::{AllocError, Global};
 
-// All orders of up to so many places are tried.
-const MOST: usize = 6;
-
-// For each number of places, all orders of them, in dictionary order. A place is that of an admitted program among all of these,
+// The first order of six places; all orders of up to so many are tried. A place is that of an admitted program among all of these,
 // lowest number first, counted from 0.
-#[derive(Drop)]
-pub struct Orders {
-    of: Vec<Vec<Vec<usize>>>,
-}
+const RISING: [usize; 6] = [0, 1, 2, 3, 4, 5];
+
+// How many orders six places have.
+const ORDERS: u64 = 720;
 
 // An admitted program: its number, and the set of the places that it holds back.
 #[derive(Clone, Copy)]
 pub struct Place {
     pub name: u8,
     pub held_back: u64,
+}
+
+// The places of a board's admitted programs: the first `count` of `at` (no heap).
+#[derive(Clone, Copy)]
+pub struct Admitted {
+    at: [Place; 32],
+    count: usize,
 }
 
 // What came of all orders: how many are completion orders, whether the one by rising number is among them,
@@ -31,38 +33,45 @@ pub struct Tried {
     pub first: bool,
 }
 
-// All orders of so many places.
-fn orders_of(alloc: Global, places: usize) -> Result<Vec<Vec<usize>>, AllocError> {
-    let mut orders = Vec::new(alloc);
-    for order in (0..places).permutations(alloc, places)? {
-        orders.push(order?)?;
-    }
-    Ok(orders)
-}
+impl Admitted {
+    // No place.
+    const NONE: Admitted = Admitted {
+        at: [Place {
+            name: 0,
+            held_back: 0,
+        }; 32],
+        count: 0,
+    };
 
-impl Orders {
-    pub fn all(alloc: Global) -> Result<Orders, AllocError> {
-        let mut of = Vec::new(alloc);
-        for places in 0..=MOST {
-            of.push(orders_of(alloc, places)?)?;
-        }
-        Ok(Orders { of })
-    }
-
-    // What came of all orders of the places; none where there are more than six.
-    pub fn tried(&self, places: &[Place], expected: &[u8]) -> Option<Tried> {
-        let mut tried = Tried::default();
-        for (number, order) in self.of.get(places.len())?.iter().enumerate() {
-            if is_completion_order(places, order) {
-                tried = tried.with(number == 0, is_expected(places, order, expected));
+    // Those of a board.
+    pub fn of(b: &Board) -> Admitted {
+        let mut named = Admitted::NONE;
+        for (name, p) in (1..=32).zip(&b.programs) {
+            if matches!(p.standing, Standing::Running | Standing::Waiting(_)) {
+                named.add(Place { name, held_back: 0 });
             }
         }
-        Some(tried)
+        let mut admitted = Admitted::NONE;
+        for place in named.places() {
+            admitted.add(Place {
+                name: place.name,
+                held_back: held_back_by(place.name, named.places(), b),
+            });
+        }
+        admitted
     }
 
-    // What the orders are kept in.
-    pub fn alloc(&self) -> Global {
-        *self.of.allocator()
+    // One place more, if there is room for it.
+    fn add(&mut self, place: Place) {
+        if let Some(free) = self.at.get_mut(self.count) {
+            *free = place;
+            self.count += 1;
+        }
+    }
+
+    // All of them.
+    pub fn places(&self) -> &[Place] {
+        self.at.get(..self.count).unwrap_or(&[])
     }
 }
 
@@ -108,39 +117,28 @@ pub fn only(place: usize) -> u64 {
     if place < 64 { 1 << place } else { 0 }
 }
 
-// The places of the others that the program at place `i` holds back.
-fn held_back_by(i: usize, admitted: &[(u8, Program)]) -> u64 {
+// Program `name` of a board.
+fn program(b: &Board, name: u8) -> Option<&Program> {
+    b.programs.get(usize::from(name).wrapping_sub(1))
+}
+
+// Whether program i of a board is another than j, and holds it back.
+fn holds_other(b: &Board, i: u8, j: u8) -> bool {
+    match (program(b, i), program(b, j)) {
+        (Some(p), Some(q)) => i != j && holds_back(p, q),
+        _ => false,
+    }
+}
+
+// The places of the others that program `name` of a board holds back.
+fn held_back_by(name: u8, places: &[Place], b: &Board) -> u64 {
     let mut set = 0;
-    for (j, (_, other)) in admitted.iter().enumerate() {
-        if i != j && admitted.get(i).is_some_and(|(_, p)| holds_back(p, other)) {
-            set |= only(j);
+    for (place, other) in places.iter().enumerate() {
+        if holds_other(b, name, other.name) {
+            set |= only(place);
         }
     }
     set
-}
-
-// The numbers of the admitted programs of a board, and these programs.
-fn admitted(alloc: Global, b: &Board) -> Result<Vec<(u8, Program)>, AllocError> {
-    let mut admitted = Vec::new(alloc);
-    for (name, p) in (1..=32).zip(&b.programs) {
-        if matches!(p.standing, Standing::Running | Standing::Waiting(_)) {
-            admitted.push((name, *p))?;
-        }
-    }
-    Ok(admitted)
-}
-
-// The places of a board's admitted programs.
-pub fn places(alloc: Global, b: &Board) -> Result<Vec<Place>, AllocError> {
-    let admitted = admitted(alloc, b)?;
-    let mut places = Vec::new(alloc);
-    for (i, (name, _)) in admitted.iter().enumerate() {
-        places.push(Place {
-            name: *name,
-            held_back: held_back_by(i, &admitted),
-        })?;
-    }
-    Ok(places)
 }
 
 // Whether no place of the order holds back one before it.
@@ -161,4 +159,35 @@ fn is_expected(places: &[Place], order: &[usize], expected: &[u8]) -> bool {
         && order.iter().zip(expected).all(|(i, name)| places
             .get(*i)
             .is_some_and(|p| p.name == *name))
+}
+
+// Makes an order the next one, if it is not the last.
+fn advance(order: &mut [usize]) -> bool {
+    for i in (1..order.len()).rev() {
+        let low = order[i - 1];
+        if low < order[i] {
+            order[i..].reverse();
+            if let Some(k) = order[i..].iter().position(|place| low < *place) {
+                order.swap(i - 1, i + k);
+            }
+            return true;
+        }
+    }
+    false
+}
+
+// What came of all orders of the places; none where there are more than six.
+pub fn all_tried(places: &[Place], expected: &[u8]) -> Option<Tried> {
+    let mut all = RISING;
+    let order = all.get_mut(..places.len())?;
+    let mut tried = Tried::default();
+    for number in 0..ORDERS {
+        if is_completion_order(places, order) {
+            tried = tried.with(number == 0, is_expected(places, order, expected));
+        }
+        if !advance(order) {
+            break;
+        }
+    }
+    Some(tried)
 }

@@ -53,35 +53,38 @@ fn write_set(rt: &impl Print, program: Replayed, hosted: Option<u64>) -> io::Res
 
 // Replays a set in both ways.
 fn replay(
-    rt: &(impl Print + AllocGlobal),
+    rt: &impl Print,
     t: Totals,
     input: &[u8],
     output: &[u8],
     sums: &[u8],
 ) -> io::Result<Totals> {
-    let program = program::replay(rt.alloc(), input, output)?;
-    let hosted = hosted::replay(rt.alloc(), input, sums)?;
+    let program = program::replay(input, output)?;
+    let hosted = hosted::replay(input, sums)?;
     write_set(rt, program, hosted)?;
     let equal = program.bad.is_none() && program.order && hosted.is_none();
     Ok(counted(t, program.lines, equal))
 }
 
 // Reads the files of a set and replays it.
-fn take_set(rt: &(impl Files + Print + AllocGlobal), t: Totals, name: &[u8]) -> io::Result<Totals> {
+fn take_set(rt: &(impl Files + Print), t: Totals, name: &[u8]) -> io::Result<Totals> {
+    let mut input = [0u8; load::MOST_BYTES];
+    let mut output = [0u8; load::MOST_BYTES];
+    let mut sums = [0u8; load::MOST_BYTES];
     rt.write_all(name)?;
     let (Some(input), Some(output), Some(sums)) = (
-        load::load(rt, name, ".in"),
-        load::load(rt, name, ".out"),
-        load::load(rt, name, ".host"),
+        load::load(rt, name, ".in", &mut input),
+        load::load(rt, name, ".out", &mut output),
+        load::load(rt, name, ".host", &mut sums),
     ) else {
         rt.println(": a file cannot be read")?;
         return Ok(counted(t, 0, false));
     };
-    replay(rt, t, &input, &output, &sums)
+    replay(rt, t, input, output, sums)
 }
 
 // Every set that the names list.
-fn take_sets(rt: &(impl Files + Print + AllocGlobal), names: &[u8]) -> io::Result<Totals> {
+fn take_sets(rt: &(impl Files + Print), names: &[u8]) -> io::Result<Totals> {
     let mut t = Totals::default();
     for line in names.split_inclusive(text::ends_line) {
         t = take_set(rt, t, text::without_end(line))?;
@@ -90,8 +93,9 @@ fn take_sets(rt: &(impl Files + Print + AllocGlobal), names: &[u8]) -> io::Resul
 }
 
 fn main(rt: HostRuntime) -> io::Result<()> {
-    let names = load::front(&rt, b"names", "").unwrap_or(Vec::new(rt.alloc()));
-    let t = take_sets(&rt, &names)?;
+    let mut names = [0u8; load::MOST_BYTES];
+    let names = load::front(&rt, b"names", "", &mut names).unwrap_or(b"");
+    let t = take_sets(&rt, names)?;
     println!(rt;
         "{} sets, {} lines, {} sets equal",
         t.sets, t.lines, t.equal

@@ -1,9 +1,13 @@
 // Replays a set as the program `board` runs it: through the line call, from the empty board.
 use crate::text;
 use crate::text::Compared;
+use arrayvec::ArrayString;
 use rules::Board;
-use std::alloc::{AllocError, Global};
+use std::fmt;
 use std::fmt::Write;
+
+// The bytes of an ORDER line with 32 programs.
+const MOST_ORDER: usize = 103;
 
 // What a replay found: the number of lines, the first that differs, and whether the ORDER line is right.
 #[derive(Clone, Copy)]
@@ -14,17 +18,18 @@ pub struct Replayed {
 }
 
 // The ORDER line of an order: three columns for each program before the first 0.
-fn order_line(alloc: Global, order: [u8; 32]) -> Result<String, AllocError> {
-    let mut line = String::from_str(alloc, "ORDER ")?;
+fn order_line(order: [u8; 32]) -> Result<ArrayString<MOST_ORDER>, fmt::Error> {
+    let mut line = ArrayString::new();
+    line.write_str("ORDER ")?;
     for program in order.iter().take_while(|p| **p != 0) {
         write!(line, "{program:>3}")?;
     }
-    line.push('\n')?;
+    line.write_char('\n')?;
     Ok(line)
 }
 
 // Replays an input and holds it to the expected output: the journal lines of each line, and last the ORDER line.
-pub fn replay(alloc: Global, input: &[u8], expected: &[u8]) -> Result<Replayed, AllocError> {
+pub fn replay(input: &[u8], expected: &[u8]) -> Result<Replayed, fmt::Error> {
     let mut board = Board::EMPTY;
     let mut order = [0u8; 32];
     let mut compared = Compared::with(expected);
@@ -39,6 +44,6 @@ pub fn replay(alloc: Global, input: &[u8], expected: &[u8]) -> Result<Replayed, 
     Ok(Replayed {
         lines: compared.lines,
         bad: compared.bad,
-        order: compared.rest == order_line(alloc, order)?.as_bytes(),
+        order: compared.rest == order_line(order)?.as_bytes(),
     })
 }
